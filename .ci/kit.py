@@ -1,8 +1,8 @@
 """Tries each script of the operator's kit: python3 .ci/kit.py PATH/TO/spinesd texts, and then daemons
 
-What a script must say stands here and in kit_recording.py, kit_house.py, kit_lives.py, kit_next.py, kit_daemons.py, kit_client.py, kit_busy.py
-and kit_second.py, by hand. Keys, a status and a page are also made of daemons that run, of each format. What needs chromium, mandoc, shellcheck or
-systemd-analyze is tried where that is installed, and left out with a word where not. Each difference is told, and the status is then 1.
+What a script must say stands here and in kit_recording.py, kit_house.py, kit_lives.py, kit_next.py, kit_daemons.py, kit_client.py, kit_busy.py,
+kit_second.py and kit_versions.py, by hand. Keys, a status and a page are also made of daemons that run, of each format. What needs chromium, mandoc,
+shellcheck or systemd-analyze is tried where that is installed, and left out with a word where not. Each difference is told, and the status is then 1.
 """
 
 import concurrent.futures
@@ -30,6 +30,7 @@ import kit_lives  # noqa: E402
 import kit_next  # noqa: E402
 import kit_recording  # noqa: E402
 import kit_second  # noqa: E402
+import kit_versions  # noqa: E402
 from kit_daemons import ports_for  # noqa: E402
 
 LINE = b"graph 1\nnodes 3\nedge 1 2 10\nedge 2 3 10\nend\n"
@@ -346,8 +347,8 @@ def refusals(kit, overlay, words, seeds):
 # what needs no daemons that run for seconds, and what does, which take some minutes together
 PARTS = {
     "texts": (explains, endings_of_conformance, statuses, several_messages, many_folders, cut_recordings, follows, broken_off, views, keys, kit_next.look,
-              kit_house.look),
-    "daemons": (keys, kit_lives.look, kit_daemons.daemons, kit_client.look, kit_busy.look, kit_second.look),
+              kit_versions.texts, kit_house.look),
+    "daemons": (keys, kit_lives.look, kit_daemons.daemons, kit_client.look, kit_busy.look, kit_second.look, kit_versions.daemons),
 }
 
 

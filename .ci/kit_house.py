@@ -22,8 +22,8 @@ COMPLETED = [
 INSTALLED = sorted([
     "bin/spinesd", *("bin/" + name for name in SCRIPTS), *("lib/spinesd/kit/" + name for name in SCRIPTS), "lib/spinesd/kit/endings.md",
     "lib/spinesd/kit/page.html", *(f"lib/spinesd/kit/lib/{name}.py" for name in (
-        "answers", "clients", "configurations", "dialogues", "endings", "films", "frames", "holders", "journals", "lives", "metrics", "overlays", "paths", "pruning",
-        "readings", "recordings", "renewals", "scripts", "sessions", "stores", "tables", "tellings", "watching")),
+        "answers", "clients", "configurations", "dialogues", "endings", "films", "frames", "holders", "journals", "ledgers", "lives", "metrics", "overlays", "paths",
+        "pruning", "readings", "recordings", "renewals", "scripts", "sessions", "stores", "tables", "tellings", "versions", "watching")),
     *(f"share/man/man{page[-1]}/{page}" for page in PAGES),
     "share/bash-completion/completions/spinesd", "share/spinesd/spinesd.default", "share/spinesd/spinesd.rules.yml", "lib/systemd/system/spinesd@.service",
 ])

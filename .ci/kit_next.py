@@ -58,7 +58,7 @@ def renewed(kit, overlay, before, words):
     kit.equal("renew: one document for all", len({value_of(after[f"{node}/spinesd.conf"], "topology") for node in (1, 2, 3)}), 1)
     kit.equal("renew: the key file before is kept", after.get("2/spinesd.keys.1"), before["2/spinesd.keys"])
     kit.equal("renew: the others' key files", [after[f"{node}/spinesd.keys"] for node in (1, 3)], [before[f"{node}/spinesd.keys"] for node in (1, 3)])
-    kit.holds("renew: the ledger has the seed", read(words[1]).count(b"\n") == 5, read(words[1]))
+    kit.equal("renew: the ledger has the seeds, and what was signed", [read(words[1]).count(word) for word in (b"\n", b" signed 0 ", b" signed 1 ")], [7, 1, 1])
 
 
 def added(kit, overlay, words):

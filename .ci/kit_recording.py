@@ -90,9 +90,9 @@ RECORDING_OF_SEVERAL = "recording 1 4 32 64\n" + "".join(
 
 # what is told of the first one, by hand
 NEIGHBOUR_1 = {
-    "node": 1, "port": 7001, "frames_sent": 3, "lost": 3, "bad_signatures": 1, "untold": 0, "last_fresh_ms": 5_000, "boot": 9,
+    "node": 1, "port": 7001, "frames_sent": 3, "lost": 3, "bad_signatures": 1, "untold": 0, "last_fresh_ms": 5_000, "boot": 9, "topology_version": 0,
     "held_up": {"gap": 0, "epoch": 0},
-    "answers": {"fresh": 2, "learned": 1, "stale": 1, "badtag": 1, "notforme": 0, "malformed": 0, "topology": 0, "section": 0},
+    "answers": {"fresh": 2, "learned": 1, "stale": 1, "badtag": 1, "notforme": 0, "malformed": 0, "topology": 0, "section": 0, "withdrawn": 0},
 }
 FLOWS = [
     {"source": 1, "destination": 2, "sent": None, "delivered": 1, "taken": 1, "acknowledged": 0, "ended": 0, "standing_ms": 2_000,

@@ -93,7 +93,6 @@ def keys(kit, overlay, first, words):
         ("121 links under format 1", graph_of("graph 1", 16, [(1, 2)] * 121), ["--format", "1"], "have 121 links, and one of format 1 has 120 at most: make it with --format 2"),
         ("33 nodes", graph_of("graph 2", 33, RING), [], "have 33 nodes, and one of format 2 has 2 to 32\n"),
         ("257 links", graph_of("graph 2", NODES, [*RING, (1, 17)]), [], "have 257 links, and one of format 2 has 256 at most\n"),
-        ("a withdrawn link", graph_of("graph 2", 2, [(1, 2)]).replace(b" 20", b" 0"), ["--format", "2"], "a link of weight 0 is withdrawn"),
     ]
     for name, text, more, reason in rows:
         given = read(text) if isinstance(text, str) else text
@@ -116,10 +115,10 @@ def next_documents(kit, overlay, words):
     files = files_of(small)
     kit.equal("format 2: it stays", [value_of(files["draft.toml"], key) for key in ("format", "version", "admin_index")], ["2", "2", "1"])
     before = files_of(small)
-    rows = [("3 33", "a link joins two nodes of 1 to 32"), ("1 3", "a link of weight 0 is withdrawn")]
-    for ends, reason in rows:
-        status, _, why = kit.run("spinesd-keys", "add", small, *ends.split(), "0", *words)
-        kit.holds(f"format 2: add {ends}", status == 1 and reason in why and files_of(small) == before, why)
+    status, _, why = kit.run("spinesd-keys", "add", small, "3", "33", "10", *words)
+    kit.holds("format 2: add node 33", status == 1 and "a link joins two nodes of 1 to 32" in why and files_of(small) == before, why)
+    kit.equal("format 2: add a link that is withdrawn", kit.run("spinesd-keys", "add", small, "1", "3", "0", *words)[::2], (0, ""))
+    judged(kit, "format 2: a link that is withdrawn", small, (1, 2, 3, 32))
 
 
 def daemons(kit, overlay, first):

@@ -58,7 +58,7 @@ ROWS = [
     (frame(8, urgent=b"\2" + prio(1, 1, ALL) + prio(1, 9, SECOND)), "fresh prio:epoch prio:new\n+ stored 32 1 16 1 5\n"),
     (frame(9, reliable=slot(0, 1, messages=b"\3" + 3 * rel(1))), "section count\n"),
     (frame(10, paths=slot(0, 1, messages=b"\1" + KREL), probe=b"\1" + bytes(56), epoch=start(16, 9)), "fresh epoch:old\n"),
-    (frame(11, sections=b"\x80" + struct.pack(">H", len(DOCUMENT)) + DOCUMENT + bytes(13)), "fresh\n"),
+    (frame(11, sections=b"\x80" + struct.pack(">H", len(DOCUMENT)) + DOCUMENT + bytes(13)), "fresh document:old\n"),
     (frame(12, sections=b"\x80" + struct.pack(">H", len(DOCUMENT)) + DOCUMENT + bytes(12) + b"\1"), "section count\n"),
     (frame(13, reliable=slot(7, 8, boots=UNMET)), "fresh\n"),
     (frame(14, epoch=start(17, 5)), "fresh epoch:badend\n"),

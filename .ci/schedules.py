@@ -12,7 +12,7 @@ import subprocess
 import sys
 
 FOLDER = pathlib.Path(__file__).parents[1] / "conformance" / "schedules"
-FOLDERS = FOLDER, FOLDER.with_name("schedules_format_2"), FOLDER.with_name("restarts")
+FOLDERS = FOLDER, *(FOLDER.with_name(name) for name in ("schedules_format_2", "restarts", "versions"))
 # a schedule, a line of it, what stands there in another one, and what is told of the first one's journal under the other
 OTHERS = [
     ("acknowledgement", b"rel 1 3 6869\n", b"take 3 1\n", b"broken 10\n"),  # the message of event 10 was never sent

@@ -98,7 +98,7 @@ def told_of(program, place, path):
     front = life if len(life.text) <= room else life._replace(text=life.text[:life.text.rindex(b"\n", 0, room) + 1])
     return Told(witness.configuration.node, life._replace(text=b""), len(life.text), witness.turns, witness.sent, witness.arrived, witness.took, witness.signed,
                 witness.wrong, sum(witness.ended_flows.values()), sum(n.held_up["epoch"] for n in witness.neighbours.values()),
-                lives.verified(program, text, front))
+                lives.verified(program, [text], front))
 
 
 def all_told(program, places):

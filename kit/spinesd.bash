@@ -37,7 +37,7 @@ _spinesd_client() {
 _spinesd_kit() {
     local now=${COMP_WORDS[COMP_CWORD]} options
     case $1 in
-        *-keys) options="seed make renew add --format --height --version --port --buffer --store --seeds --ledger --dry-run --program --help" ;;
+        *-keys) options="seed make renew add publish --node --format --height --version --port --buffer --store --seeds --ledger --dry-run --program --help" ;;
         *-status) options="--json --prometheus --whole --every --out --help" ;;
         *-explain) options="--command --help" ;;
         *-view) options="--title --idle --lives --most --program --help" ;;

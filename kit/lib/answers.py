@@ -1,4 +1,4 @@
-"""Words of answers and of `spinesd-status` that tell of lives: what each means, and what to do."""
+"""Words of answers and of `spinesd-status` that tell of lives and versions: what each means, and what to do."""
 
 import re
 
@@ -9,10 +9,15 @@ WORDS = {
               "priority messages expire soon."),
     "gap": ("A message comes too early: those of its flow before it never came here.",
             "Nothing under format 2, where it ends within seconds. Under format 1 a daemon on the way was started again: restart all nodes together."),
-    "ended": ("A flow ended, since another life of one of its ends began: it counts from 1 again.",
+    "ended": ("A flow ended: another life of one of its ends began, and it counts from 1 again; or one of its ends was removed, and it begins no more.",
               "Nothing of the daemon. What was accepted before and wasn't delivered is lost, and so is what no client had taken: send it again."),
-    "badend": ("The node that is named is no other node of the overlay, or under format 2 none of which a start was heard yet. As `epoch:badend` a node's own "
-               "start came back to it, which happens all the time.",
+    "withdrawn": ("The link was withdrawn from the topology: nothing but documents goes over it, and what waited for it left its store.",
+                  "Nothing where the administrator withdrew it. A neighbour that doesn't know it yet gets the document by itself."),
+    "version": ("The daemon runs under this version of the topology from now on.", "Nothing; `spinesd-status` tells which version each neighbour has."),
+    "strange": ("A document of the administrator doesn't follow the topology that the node runs under: it has other nodes, keys or links, or a removed node.",
+                "Sign a document that follows (`spinesd-keys publish`); other nodes, keys and links need `spinesd-keys add` or `renew`."),
+    "badend": ("The node that is named is no other node of the overlay or a removed one, or under format 2 none of which a start was heard "
+               "yet. As `epoch:badend` a node's own start came back to it, which happens all the time.",
                "Ask again; `spinesd-status` tells who isn't met."),
     "learned": ("A frame was made for an earlier life of this node, or before its neighbour had heard of it.", "Nothing: it comes a few times after each start."),
     "STANDS": ("Messages of the flow wait at this node, and nothing of it moved for a while.",

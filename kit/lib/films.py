@@ -12,10 +12,10 @@ import frames
 STEP = ("node", "kind", "line", "said", "frame", "flows", "seen", "mark")
 REFUSED = {
     "full", "spent", "expired", "nopaths", "tickspent", "ticknotreserved", "low", "toolong", "short", "magic", "version", "notforme", "badtag",
-    "stale", "topology", "section", "exhausted", "down", "badend", "notreserved", "badrequest", "sessionsfull",
+    "stale", "topology", "section", "withdrawn", "exhausted", "down", "badend", "notreserved", "badrequest", "sessionsfull",
 }
-REFUSED_OBJECTS = {"badsig", "badend", "epoch", "foreign", "low", "ahead", "gap", "full", "inboxfull", "expired"}
-OBJECT = re.compile(r"(weight|prio|ack|rel|epoch):(\w+|\?)")
+REFUSED_OBJECTS = {"bad", "badsig", "badend", "epoch", "foreign", "low", "ahead", "gap", "full", "inboxfull", "expired", "strange"}
+OBJECT = re.compile(r"(weight|prio|ack|rel|epoch|document):(\w+|\?)")
 
 
 def objects_of(reply):
@@ -48,18 +48,20 @@ def of_effects(node, said, version):
         elif words[:2] == ["+", "delivered"]:
             flows.append([words[2], int(words[3]), node, "delivered", int(words[4])])
             seen.append("delivered")
-        elif words[:2] == ["+", "gone"] and words[4] in ("evicted", "expired"):
+        elif words[:2] == ["+", "gone"] and words[4] in ("evicted", "expired", "withdrawn"):
             seen.append(words[4])
         elif words[:2] == ["+", "ended"]:
             ends = int(words[2]), int(words[3])
             flows += [["rel", *ends, "ended", 0]] if node in ends else []
             seen.append("ended")
+        elif words[:2] == ["+", "version"]:
+            seen.append("version")
     return flows, seen
 
 
 def mark_of(said, seen):
     """The word of a step for the time line; an empty one where nothing is to be marked."""
-    for word in ("delivered", "ended", "evicted", "expired"):
+    for word in ("delivered", "version", "ended", "evicted", "expired", "withdrawn"):
         if word in seen:
             return word
     if said and is_refused(re.sub(r"^\d+ ", "", said[0])):

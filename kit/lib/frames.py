@@ -165,11 +165,15 @@ class Pieces:
         return Sections([], 0, None, document=document)
 
 
+def has_document(frame):
+    """Whether the sections of a frame begin as a document does."""
+    return frame[2] > 1 and frame[HEAD:-TAG][:1] == bytes([DOCUMENT])
+
+
 def sections_of(frame, signature):
     """The objects of a frame in their order, its reports, its probe and its document; `signature` is how many bytes one has."""
     pieces = Pieces(frame[HEAD:-TAG], frame[2], signature)
-    has_document = pieces.version > 1 and pieces.data[:1] == bytes([DOCUMENT])
-    sections = pieces.document() if has_document else pieces.plain()
+    sections = pieces.document() if has_document(frame) else pieces.plain()
     if pieces.at < len(pieces.data):
         raise Bad("tail")
     return sections

@@ -63,23 +63,35 @@ def told_twice(lives):
                    f"{before.boot} and the indexes below {before.bound}: an older key file was put back (docs/KEYS.md)")
 
 
-def verified(program, configuration, life):
-    """The status and the last line of `spinesd verify` for one life."""
-    ended = subprocess.run([program, "verify"], input=configuration + life.text, stdout=subprocess.PIPE, check=False)
-    return ended.returncode, ended.stdout.decode("ascii", "replace").strip()
+def configurations_in(folder):
+    """The configurations of a node's folder: that of its next start, and those before it, the last first."""
+    path = os.path.join(folder, "spinesd.conf")
+    before = [each for each in glob.glob(glob.escape(path) + ".*") if each[len(path) + 1:].isdecimal()]
+    return [read(each) for each in [path, *sorted(before, key=lambda each: -int(each[len(path) + 1:]))]]
+
+
+def verified(program, configurations, life):
+    """The status and the last line of `spinesd verify` for one life, under the configuration that it began with: where none fits, under the first."""
+    said = []
+    for configuration in configurations:
+        ended = subprocess.run([program, "verify"], input=configuration + life.text, stdout=subprocess.PIPE, check=False)
+        said.append((ended.returncode, ended.stdout.decode("ascii", "replace").strip()))
+        if ended.returncode == 0:
+            return said[-1]
+    return said[0]
 
 
 def verify(folder):
     """Verifies all lives, and tells each; gives the first status that isn't good."""
-    program, configuration = program_of(None), read(os.path.join(folder, "spinesd.conf"))
-    lives, good, worst = lives_in(folder, MOST_BYTES - len(configuration)), 0, 0
+    program, configurations = program_of(None), configurations_in(folder)
+    lives, good, worst = lives_in(folder, MOST_BYTES - max(map(len, configurations))), 0, 0
     for life in lives:
         name = os.path.basename(life.path)
         if not life.boot:
             said = "a start that failed, with the last line `" + life.text.decode("ascii", "replace").strip()[:60] + "`" if life.text else "a start that was cut"
             print(f"no life, {name}: {said}", flush=True)
             continue
-        status, said = verified(program, configuration, life)
+        status, said = verified(program, configurations, life)
         good, worst = good + (status == 0), worst or status
         print(f"life {life.boot}, {name}: {said}" + ("" if life.is_whole else f", of its first {len(life.text):,} bytes"), flush=True)
     twice = list(told_twice(lives))

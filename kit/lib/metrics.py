@@ -7,11 +7,13 @@ from watching import ANSWERS, HELD_UP
 def of_daemon(look):
     """Rows of one daemon: a name, a type, a help, and the samples, each labels and a value."""
     watch, configuration, seconds = look.watch, look.watch.configuration, lambda milliseconds: (milliseconds or 0) / 1000
-    labels = {"boot": watch.boot, "topology_version": configuration.topology.version, "height": configuration.topology.height}
+    labels = {"boot": watch.boot, "topology_version": watch.rules.versions.version, "height": configuration.topology.height}
     left = turns_left(look)
     return [
         ("info", "gauge", "What the daemon is; the value is 1.", [(labels, 1)]),
         ("boot", "gauge", "Which life of the node this is: it rises with each start.", [({}, watch.boot)]),
+        ("topology_version", "gauge", "Version of the topology that the daemon runs under.", [({}, watch.rules.versions.version)]),
+        ("links_withdrawn", "gauge", "Links of the topology that are withdrawn.", [({}, len(watch.rules.versions.withdrawn()))]),
         ("nodes_not_met", "gauge", "Nodes of which no start was heard yet; 0 under format 1.", [({}, len(watch.not_met()))]),
         ("life_boot", "gauge", "The life that is held of a node, under format 2.", [({"of": node}, boot) for node, boot in sorted(watch.rules.lives.items())]),
         ("turns_total", "counter", "Turns that the daemon made.", [({}, watch.turns)]),
@@ -41,6 +43,8 @@ def of_neighbours(watch):
         ("neighbour_frames_sent_total", "counter", "Frames that were made for a neighbour.", [({"neighbour": node}, n.polls) for node, n in near]),
         ("neighbour_datagrams_total", "counter", "Datagrams of a neighbour's port by their answer.",
          [({"neighbour": node, "answer": answer}, n.answers[answer]) for node, n in near for answer in ANSWERS]),
+        ("neighbour_topology_version", "gauge", "Version that is kept of a neighbour, under format 2: while it is below the own one, its document is offered.",
+         [({"neighbour": node}, watch.rules.versions.kept[node]) for node, _ in near if node in watch.rules.versions.kept]),
         ("neighbour_frames_lost_total", "counter", "Frames that a neighbour made and that never came, or came too late. A busy one sends not all.",
          [({"neighbour": node}, n.lost) for node, n in near]),
         ("neighbour_bad_signatures_total", "counter", "Messages with a wrong signature that a neighbour passed on, where the digest tells it.",
@@ -70,7 +74,7 @@ def of_flows(look, looks):
          [(flow(*ends), n) for ends, n in sorted(watch.acknowledged.items())]),
         ("flow_standing_seconds", "gauge", "For how long a flow didn't move although messages of it wait here; 0 where none waits.",
          [(flow(*ends), watch.standing(ends, look.now) / 1000) for ends in watch.flows()]),
-        ("flow_ended_total", "counter", "How often a flow ended here, since another life of one of its ends began.",
+        ("flow_ended_total", "counter", "How often a flow ended here, since another life of one of its ends began or an end was removed.",
          [(flow(*ends), n) for ends, n in sorted(watch.ended_flows.items())]),
         ("flow_held_up", "gauge", "1 where a neighbour, whose daemon is told here too, answers the flow's messages so.",
          [({**flow(*ends), "neighbour": node, "answer": word}, 1) for ends in watch.flows() for node, word in held_up_at(look, ends, looks).items()]),

@@ -43,8 +43,6 @@ def fault_of(version, nodes, edges):
         return f"the overlay would have {nodes} nodes, and one of format {version} has 2 to {most_nodes}{larger if nodes > most_nodes else ''}"
     if len(edges) > most_edges:
         return f"the overlay would have {len(edges)} links, and one of format {version} has {most_edges} at most{larger}"
-    if version > 1 and any(weight == 0 for _, _, weight in edges):
-        return "a link of weight 0 is withdrawn, and no daemon takes such a topology yet; leave the link out"
     return None
 
 

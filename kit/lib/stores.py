@@ -8,7 +8,7 @@ import collections
 INBOX = 0
 MOST_IN_FLIGHT = 4
 
-Entry = collections.namedtuple("Entry", "id source number rank expiry")
+Entry = collections.namedtuple("Entry", "id source number rank expiry destination")
 
 
 class Place(collections.namedtuple("Place", "node capacity last entries number served flight")):
@@ -17,7 +17,7 @@ class Place(collections.namedtuple("Place", "node capacity last entries number s
 
     def put(self, item):
         """With one message more, and the lines that tell it."""
-        entry = Entry(self.last + 1, item.source, item.number, item.rank, item.expiry)
+        entry = Entry(self.last + 1, item.source, item.number, item.rank, item.expiry, item.destination)
         entries, text = (*self.entries, entry), f"+ stored {self.node} {entry.id} {item.source} {item.number} {item.rank}\n"
         if len(entries) > self.capacity:
             victim = self.victim(entries)

@@ -65,7 +65,8 @@ def as_object(look, looks=()):
     watch, reading, configuration, clients = look.watch, look.reading, look.watch.configuration, look.watch.clients
     left = turns_left(look)
     return {
-        "node": configuration.node, "boot": watch.boot, "topology_format": watch.format, "topology_version": configuration.topology.version,
+        "node": configuration.node, "boot": watch.boot, "topology_format": watch.format, "topology_version": watch.rules.versions.version,
+        "removed": sorted(watch.rules.versions.removed), "withdrawn": [f"{low}-{high}" for low, high in watch.rules.versions.withdrawn()],
         "state": state_of(look),
         "turns": watch.turns, "turns_left": left and left[0], "turns_end_in_seconds": left and left[1] and round(left[1]),
         "first_turn_ms": watch.first_tick, "last_turn_ms": watch.now,
@@ -80,6 +81,7 @@ def as_object(look, looks=()):
         "neighbours": [
             {"node": node, "port": n.port, "frames_sent": n.polls, "answers": {word: n.answers[word] for word in ANSWERS}, "lost": n.lost,
              "bad_signatures": n.bad_signatures, "untold": n.untold, "last_fresh_ms": n.last_fresh, "boot": n.link.peer_boot,
+             "topology_version": watch.rules.versions.kept.get(node, 0),
              "held_up": {word: n.held_up[word] for word in HELD_UP}}
             for node, n in sorted(watch.neighbours.items())],
         "flows": [of_flow(look, flow, looks) for flow in watch.flows()],
@@ -173,6 +175,15 @@ def of_lives(told):
     return [f"starts of nodes {lives}; not met " + (", ".join(map(str, told["not_met"])) or "none")] if lives else []
 
 
+def of_versions(told):
+    """The lines of what the topology withdraws, and of neighbours that run under another version; none where there is nothing of it."""
+    if told["withdrawn"]:
+        yield f"withdrawn links {', '.join(told['withdrawn'])}; removed nodes " + (", ".join(map(str, told["removed"])) or "none")
+    others = [f"{n['node']} under {n['topology_version']}" for n in told["neighbours"] if n["topology_version"] not in (0, told["topology_version"])]
+    if others:
+        yield "versions of neighbours " + ", ".join(others)
+
+
 def as_table(look, looks=()):
     """All that is told, for a person."""
     watch, reading, told, standing = look.watch, look.reading, as_object(look, looks), dict(standing_flows(look))
@@ -181,6 +192,7 @@ def as_table(look, looks=()):
         f"node {told['node']}, start {told['boot']}, topology version {told['topology_version']}: {told['state']}",
         of_turns(look),
         *of_lives(told),
+        *of_versions(told),
         f"indexes {told['indexes']['left']} of {watch.total} left to reserve; this start began at {watch.index}",
         f"strays {watch.strays.total()}; requests " + (", ".join(f"{count} {word}" for word, count in told["requests"].items()) or "none"),
         "sessions " + (", ".join(sessions) or "none"),

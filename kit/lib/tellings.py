@@ -10,6 +10,7 @@ import itertools
 
 import paths
 import stores
+import versions
 from configurations import TOTALS
 
 # how many numbers below the greatest a window knows one by one; own updates above it are none; how many guesses are kept of what the stores hold
@@ -27,8 +28,9 @@ class Rules:
 
     def __init__(self, configuration):
         self.me, self.bound, self.now, self.total = configuration.node, configuration.buffer, 0, TOTALS[configuration.topology.height]
-        self.format, self.nodes, self.edges = configuration.topology.format, set(configuration.topology.nodes), configuration.topology.edges
-        ends = [edge[:2] for edge in self.edges]
+        self.format, self.nodes = configuration.topology.format, set(configuration.topology.nodes)
+        self.versions = versions.Versions(configuration.topology)
+        ends = [edge[:2] for edge in configuration.topology.edges]
         self.edge_to = {peer.node: ends.index(pair) for peer in configuration.peers
                         if (pair := tuple(sorted((self.me, peer.node)))) in ends}
         self.flows, self.weights, self.marks = {}, {}, {}
@@ -41,6 +43,18 @@ class Rules:
         """The node holds its own boot, where nodes run with epochs: under a document of format 2."""
         if self.format > 1:
             self.lives[self.me] = boot
+
+    def are_ends(self, source, destination):
+        """Whether the two are different nodes, neither of which is removed."""
+        return source != destination and {source, destination} <= self.nodes - self.versions.removed
+
+    def is_shut(self, peer):
+        """Whether the link to a neighbour is withdrawn."""
+        return not self.versions.edges[self.edge_to[peer]][2]
+
+    def open_places(self):
+        """The neighbours whose links aren't withdrawn, ascending, each with the number of its link."""
+        return [(node, edge) for node, edge in sorted(self.edge_to.items()) if not self.is_shut(node)]
 
     def held(self, source, destination):
         """The boots that are held of two nodes, 0 where none is."""
@@ -56,8 +70,9 @@ class Rules:
         self.flows[self.me, destination] = self.flow((self.me, destination))._replace(have=number)
 
     def took(self, source):
-        flow = self.flow((source, self.me))
-        self.flows[source, self.me] = flow._replace(inbox=flow.inbox - 1)
+        if (source, self.me) in self.flows:
+            flow = self.flow((source, self.me))
+            self.flows[source, self.me] = flow._replace(inbox=flow.inbox - 1)
 
     def took_prio(self):
         self.guesses = [{**guess, stores.INBOX: guess[stores.INBOX].taken()} for guess in self.guesses]
@@ -66,19 +81,22 @@ class Rules:
         self.weights[self.me, self.edge_to.get(peer)] = number, weight
 
     def in_effect(self):
-        """The weights of all edges, by their ends: the administrator's or that of an end, whichever is the greatest."""
+        """The weights of all edges that aren't withdrawn, by their ends: the administrator's or that of an end, whichever is the greatest."""
         return {(low, high): max(least, *(self.weights.get((end, place), (0, 0))[1] for end in (low, high)))
-                for place, (low, high, least) in enumerate(self.edges)}
+                for place, (low, high, least) in enumerate(self.versions.edges) if least}
 
     def sent_prio(self, item, count):
         """An own message over all edges, or over so many paths, each of which leaves by another link."""
-        ways = paths.leaving(self.me, item.destination, count, self.in_effect()) if count else [tuple(sorted(self.edge_to))]
+        ways = paths.leaving(self.me, item.destination, count, self.in_effect()) if count else [tuple(node for node, _ in self.open_places())]
         after = [{**guess, **{node: guess[node].put(item)[0] for node in way}} for way in ways for guess in self.guesses]
         self.guesses = after[:MOST_GUESSES]
 
     # ---- turns
 
     def polled(self, node):
+        """A frame with the document, and one over a withdrawn link, carry nothing of the stores."""
+        if self.versions.is_behind(node) or (node in self.edge_to and self.is_shut(node)):
+            return
         self.guesses = [{**guess, node: guess[node].polled()} if node in guess else guess for guess in self.guesses]
 
     def tick(self, now, digest):
@@ -120,6 +138,8 @@ class Rules:
 
     def fresh(self, sender, sections, digest):
         """The words of the objects and the lines of the answer to a fresh frame; None for the lines where none has this digest."""
+        if sections.document is not None:
+            return [], self.documented(sections.document, digest)
         most = len(sections.items)
         for bad in itertools.chain.from_iterable(itertools.combinations(range(most), count) for count in range(most + 1)):
             trial = Trial(self, sender, sections, bad)
@@ -133,6 +153,26 @@ class Rules:
         trial = Trial(self, sender, sections, ())
         self.keep(trial, [trial.of_places(guess)[0] for guess in self.guesses])
         return trial.words, None
+
+    def documented(self, document, digest):
+        """The lines of the answer to a document; None where none has this digest, and then it isn't taken."""
+        for word, topology in self.versions.answers_to(document):
+            front, back = f"fresh document:{word}\n", ""
+            after = [(guess, "") for guess in self.guesses]
+            if topology:
+                removed = versions.removed_of(topology.edges)
+                shut = {node for node, edge in self.edge_to.items() if not topology.edges[edge][2]}
+                over = [flow for flow in sorted(self.flows) if {*flow} & removed]
+                front += f"+ version {topology.version}\n"
+                after = [versions.closed(guess, shut, removed) for guess in self.guesses]
+                back = "".join(f"+ ended {source} {destination}\n" for source, destination in over)
+            kept = [(guess, text) for guess, text in after if is_digest(front + text + back, digest)]
+            if kept:
+                if topology:
+                    self.versions.topology, self.guesses = topology, [guess for guess, _ in kept]
+                    self.flows = {flow: row for flow, row in self.flows.items() if flow not in over}
+                return (front + kept[0][1] + back).split("\n")[:-1]
+        return None
 
     def keep(self, trial, guesses):
         """What a frame did stands from now on."""
@@ -173,8 +213,10 @@ class Trial:
         return word
 
     def of_weight(self, item):
-        edges, origin, weight = self.rules.edges, item.source, int.from_bytes(item.payload, "big")
+        edges, origin, weight = self.rules.versions.edges, item.source, int.from_bytes(item.payload, "big")
         if item.destination >= len(edges) or origin not in edges[item.destination][:2] or (origin == self.rules.me and item.number > MOST_OWN):
+            return "foreign"
+        if not edges[item.destination][2]:
             return "foreign"
         if weight < edges[item.destination][2]:
             return "low"
@@ -187,7 +229,7 @@ class Trial:
         self.front += f"+ weight {item.source} {item.destination} {item.number} {int.from_bytes(item.payload, 'big')}\n"
 
     def of_prio(self, item):
-        if item.source == item.destination or not {item.source, item.destination} <= self.rules.nodes:
+        if not self.rules.are_ends(item.source, item.destination):
             return "badend"
         if item.boots[0] != self.rules.held(item.source, item.destination)[0]:
             return "epoch"
@@ -204,7 +246,7 @@ class Trial:
 
     def is_of_slot(self, item):
         ends = item.source, item.destination
-        return ends == self.sections.slot[:2] and ends[0] != ends[1] and {*ends} <= self.rules.nodes
+        return ends == self.sections.slot[:2] and self.rules.are_ends(*ends)
 
     def of_ack(self, item):
         flow = self.flow((item.source, item.destination))
@@ -266,4 +308,4 @@ class Trial:
 
     def places_of(self, item):
         """Where a message for another node is stored."""
-        return [node for node, edge in sorted(self.rules.edge_to.items()) if item.mask >> edge & 1 and node != self.sender]
+        return [node for node, edge in self.rules.open_places() if item.mask >> edge & 1 and node != self.sender]

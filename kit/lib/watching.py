@@ -13,7 +13,8 @@ import tellings
 from clients import Clients
 from configurations import SIGNATURES, TOTALS
 
-ANSWERS = ("fresh", "learned", "stale", "badtag", "notforme", "malformed", "topology", "section")
+ANSWERS = ("fresh", "learned", "stale", "badtag", "notforme", "malformed", "topology", "section", "withdrawn")
+UNTAGGED = ("badtag", "notforme")
 NO_FRAME = ("toolong", "short", "magic", "version")
 TICKED = hashlib.sha256(b"ticked\n").hexdigest().encode()
 # the answers to a message that comes too early for a flow, and to one of another life of an end
@@ -54,7 +55,7 @@ class Watch:
         self.clients = Clients(self.minimum_of, self.rules)
         self.told = []                                  # of the last line, its answer and effects as far as they are found
         self.acknowledged, self.delivered = collections.Counter(), collections.Counter()
-        self.ended_flows = collections.Counter()        # how often a flow ended, since another life of an end began
+        self.ended_flows = collections.Counter()        # how often a flow ended, since another life of an end began or an end was removed
         self.held_up = {}                               # of a neighbour and a flow, the answer to its last messages where they were held up
         self.neighbours = {}
         self.moved = {}                                 # of a flow, its numbers and the clock at which one of them rose last
@@ -63,7 +64,7 @@ class Watch:
     def minimum_of(self, peer):
         """The least weight of the link to this neighbour, as the administrator says."""
         ends = sorted([str(self.configuration.node), peer])
-        return next((weight for low, high, weight in self.configuration.topology.edges if sorted([str(low), str(high)]) == ends), None)
+        return next((weight for low, high, weight in self.rules.versions.edges if sorted([str(low), str(high)]) == ends), None)
 
     def feed(self, line):
         """One line more."""
@@ -115,10 +116,10 @@ class Watch:
         if neighbour is None:
             return
         before, known = neighbour.link.seen, neighbour.link.peer_boot
-        answer = frames.fault_of(line.data, self.format) or neighbour.link.answer(line.data)
-        if self.format > 1 and neighbour.link.peer_boot > known:
-            neighbour.reports.clear()
-            self.rules.greeted(neighbour.link.peer)
+        fault = frames.fault_of(line.data, self.format)
+        answer = fault or neighbour.link.answer(line.data)
+        if self.format > 1 and not fault and answer not in UNTAGGED:
+            self.met(neighbour, frames.head_of(line.data), known)
         if answer == "fresh":
             neighbour.fresh(self.now, before, frames.head_of(line.data))
             answer, sections = self.of_fresh(neighbour, line.data)
@@ -131,15 +132,25 @@ class Watch:
         name = answer.split(" ")[0]
         neighbour.answers["malformed" if name in NO_FRAME else name] += 1
 
+    def met(self, neighbour, head, known):
+        """A frame with the right tag: its version counts, and where another life of the neighbour began, what that one reported is forgotten."""
+        rises = neighbour.link.peer_boot > known
+        self.rules.versions.hears(neighbour.link.peer, head.topology, rises, head.boot == known)
+        if rises:
+            neighbour.reports.clear()
+            self.rules.greeted(neighbour.link.peer)
+
     def of_fresh(self, neighbour, frame):
         """The first word that a fresh frame is answered, and its sections where they are read."""
         theirs = frames.head_of(frame).topology
-        if theirs != self.configuration.topology.version:
+        if theirs != self.rules.versions.version and not frames.has_document(frame):
             return f"topology {theirs}", None
         try:
             sections = self.sections_of(frame)
         except frames.Bad as bad:
             return f"section {bad}", None
+        if sections.document is None and self.rules.is_shut(neighbour.link.peer):
+            return "withdrawn", None
         if sections.slot:
             self.touched.add(sections.slot[:2])
         if sections.slot and sections.slot.boots == self.rules.held(*sections.slot[:2]):
@@ -206,8 +217,9 @@ class Watch:
         return sorted(found)
 
     def not_met(self):
-        """The nodes of which no start was heard yet; none where nodes run without epochs."""
-        return [node for node in self.configuration.topology.nodes if self.rules.lives and node not in self.rules.lives]
+        """The nodes of which no start was heard yet, but for removed ones; none where nodes run without epochs."""
+        nodes = [node for node in self.configuration.topology.nodes if node not in self.rules.versions.removed]
+        return [node for node in nodes if self.rules.lives and node not in self.rules.lives]
 
     def answers_to(self, peer, flow):
         """What this node answers to the last messages of a flow from a neighbour where they are held up; None where they aren't."""

@@ -33,7 +33,8 @@ use Rattle.laws_node.specs.Nodes.{NodeHolds}
 use Rattle.laws_node.specs.Sizes.{Sizes}
 use Rattle.laws_node.proofs.Boot.{flows_have}
 use Rattle.laws_node.proofs.Masks.{mask_within}
-use Rattle.laws_node.proofs.Own.{in_own_format, either, prio_free, prio_sent_fits, rel_free, rel_sent_fits, there_is_room, weight_sent_fits}
+use Rattle.laws_node.proofs.Own.{in_own_format, either, listed, listed_prio, prio_free, prio_sent_fits, rel_free, rel_sent_fits, there_is_room}
+use Rattle.laws_node.proofs.Own.{weight_sent_fits}
 use Rattle.laws_node.proofs.Reliable.{dated_due, due_now_fits, due_row}
 use Rattle.laws_node.proofs.Tables.{all_get, all_weaker, or_right}
 use Rattle.laws_node.proofs.Updates.{place_within}
@@ -72,8 +73,9 @@ rel_about k n dst payload e h =
     let nodes = both_nodes r (own_flow r dst) r.me dst (room_is r dst number.0 number.1).0 in
     let known : r.nodes ≡ nodes_of n.fixed.topology = h.parts.rel.known ∙ sym h.fixed.nodes in
     let me : r.me ≡ n.fixed.me = h.parts.rel.me ∙ sym h.fixed.me in
-    let from : is_node r.nodes n.fixed.me.0 ≡ true = subst (λ (u : NodeId). is_node r.nodes u.0 ≡ true) me nodes.0 in
-    (subst (λ (us : List NodeId). is_node us n.fixed.me.0 ≡ true) known from, subst (λ (us : List NodeId). is_node us dst.0 ≡ true) known nodes.1)
+    let from : is_node r.nodes n.fixed.me.0 ≡ true = subst (λ (u : NodeId). is_node r.nodes u.0 ≡ true) me (listed r r.me nodes.0) in
+    let to : is_node r.nodes dst.0 ≡ true = listed r dst nodes.1 in
+    (subst (λ (us : List NodeId). is_node us n.fixed.me.0 ≡ true) known from, subst (λ (us : List NodeId). is_node us dst.0 ≡ true) known to)
 
 pub rel_good : (arts : Arts) (k : Sizes) (n : NodeState) (dst : NodeId) (payload : List ℕ) → ArtsFit arts n.fixed n.signer
     → length payload ≤ MAX_PAYLOAD_BYTES → rel_refusal n dst ≡ None → NodeHolds k n → IsTrue (arts.is_good (rel_body n dst payload))
@@ -84,20 +86,25 @@ rel_good arts k n dst payload fits short e h =
 -- ---- a priority message
 
 pub prio_about : (k : Sizes) (n : NodeState) (m : PrioSend) (choice : Choice) → HasNode n.fixed.topology n.fixed.me → send_prio_refusal n m choice ≡ None
-    → IsChoice (graph_of n.fixed.topology n.parts.weights) n.fixed.me m.dst m.paths choice → NodeHolds k n
+    → IsChoice n.parts.weights (graph_of n.fixed.topology n.parts.weights) n.fixed.me m.dst m.paths choice → NodeHolds k n
     → IsAbout n.fixed.topology (prio_body n m (mask_in choice))
 prio_about k n m choice me e is h =
     let both = either (prio_refusal n m) (no_paths choice) e in
-    let to = (prio_free n m both.0).0 in
-    (me, subst (λ (us : List NodeId). is_node us m.dst.0 ≡ true) (h.parts.prio.known ∙ sym h.fixed.nodes) to, subst (λ (mask : ℕ). mask < 2 ^ length n.fixed.topology.edges) (sym (bits_from (mask_in choice))) (within choice both.1 is))
+    let to : is_node n.parts.prio.nodes m.dst.0 ≡ true = listed_prio n.parts.prio m.dst.0 (prio_free n m both.0).dst in (
+      me,
+      subst (λ (us : List NodeId). is_node us m.dst.0 ≡ true) (h.parts.prio.known ∙ sym h.fixed.nodes) to,
+      subst (λ (mask : ℕ). mask < 2 ^ length n.fixed.topology.edges) (sym (bits_from (mask_in choice))) (within choice both.1 is),
+    )
   where
-    within : (c : Choice) → no_paths c ≡ None → IsChoice (graph_of n.fixed.topology n.parts.weights) n.fixed.me m.dst m.paths c
+    within : (c : Choice) → no_paths c ≡ None → IsChoice n.parts.weights (graph_of n.fixed.topology n.parts.weights) n.fixed.me m.dst m.paths c
         → mask_in c < 2 ^ length n.fixed.topology.edges
-    within (Mask mask) e is = mask_within n.fixed.topology n.parts.weights n.fixed.me m.dst m.paths mask is
+    within (Mask mask) e is =
+        mask_within n.fixed.topology n.parts.weights (graph_of n.fixed.topology n.parts.weights) n.fixed.me m.dst m.paths mask
+        (h.parts.weights.edges ∙ sym h.fixed.edges) (h.parts.weights.least ∙ ap length (sym h.fixed.edges)) is
     within (OnlyPaths found) e is = absurd (cc)
 
 pub prio_good : (arts : Arts) (k : Sizes) (n : NodeState) (m : PrioSend) (choice : Choice) → ArtsFit arts n.fixed n.signer → PrioSendFits m
-    → send_prio_refusal n m choice ≡ None → IsChoice (graph_of n.fixed.topology n.parts.weights) n.fixed.me m.dst m.paths choice → NodeHolds k n
+    → send_prio_refusal n m choice ≡ None → IsChoice n.parts.weights (graph_of n.fixed.topology n.parts.weights) n.fixed.me m.dst m.paths choice → NodeHolds k n
     → IsTrue (arts.is_good (prio_body n m (mask_in choice)))
 prio_good arts k n m choice fits sizes e is h =
     fits.own (prio_body n m (mask_in choice)) (in_own_format k n (prio_body n m (mask_in choice)) h (prio_sent_fits k n m choice sizes e is h).fields)

@@ -17,7 +17,7 @@ use Rattle.sp_frame.specs.declared.kind.Kind.TheVariants as kinds
 use Rattle.sp_frame.specs.declared.refused.SectionRefused.{SectionRefused}
 use Rattle.sp_msg.specs.declared.kept.Kept.{Kept}
 use Rattle.sp_msg.specs.Bodies.{HasGoodFieldsIn}
-use Rattle.sp_rules.specs.Arrivals.{heeded, pieces_in, pieces_where, reply_at, sections_in}
+use Rattle.sp_rules.specs.Arrivals.{heeded, pieces_beside, pieces_in, pieces_where, reply_at, sections_in}
 use Rattle.sp_rules.specs.Arts.{Arts}
 use Rattle.sp_rules.specs.Node.{NodeState, Signer}
 use Rattle.sp_rules.specs.Parts.{Fixed}
@@ -145,12 +145,18 @@ pub record FewFit (k : Sizes) (pieces : List Piece) : Type 0 where
 none_fit : (k : Sizes) → FewFit k []
 none_fit k = record { fit = tt; few = omega arith }
 
+-- none are handled beside a document
+beside_fits : (k : Sizes) (document : Option (List ℕ)) (pieces : List Piece) → FewFit k pieces → FewFit k (pieces_beside document pieces)
+beside_fits k None pieces h = h
+beside_fits k (Some document) pieces h = none_fit k
+
 pub sections_fit : (k : Sizes) (arts : Arts) (f : Fixed) (signer : Signer) (bytes : List ℕ) → ArtsFit arts f signer → AreBytes bytes → f.topology.format ≡ k.format
     → f.signature_len ≡ k.signature_len → (s : Result Contents SectionRefused) → sections_in arts f bytes ≡ s → FewFit k (pieces_in f s)
 sections_fit k arts f signer bytes fits are format same (Ok s) is =
     let contents = subst (λ (n : ℕ). IsContentsIn n f.signature_len s) format (fits.sections bytes s are is) in
     let some = heeded_in k.format f.signature_len f.epochs s contents in
-    record { fit = contents_fit k f.signature_len same (heeded f s) some; few = few_messages k.format f.signature_len (heeded f s) some }
+    beside_fits k s.document (pieces_of (heeded f s))
+    (record { fit = contents_fit k f.signature_len same (heeded f s) some; few = few_messages k.format f.signature_len (heeded f s) some })
 sections_fit k arts f signer bytes fits are format same (Err e) is = none_fit k
 
 pub where_fits : (k : Sizes) (pieces : List Piece) (reply : LinkReply) → FewFit k pieces → FewFit k (pieces_where reply pieces)
@@ -165,6 +171,7 @@ where_fits k pieces (replies.Learned boot) h = none_fit k
 where_fits k pieces (replies.Stale boot counter) h = none_fit k
 where_fits k pieces (replies.OtherTopology theirs) h = none_fit k
 where_fits k pieces (replies.Section refused) h = none_fit k
+where_fits k pieces replies.Withdrawn h = none_fit k
 
 -- ---- what is new has its fields in their ranges
 

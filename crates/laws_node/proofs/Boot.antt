@@ -1,5 +1,6 @@
 -- A node holds all that it keeps at the start of its life.
-use Rattle.std.proofs.Common.{◌≡◌, ◌<◌, ◌≤◌, ℕ, zero, suc, ◌+◌, ◌*◌, ◌^◌, ◌==◌, not, true, List, [], ◌∷◌, ◌++◌, length, map, filter, replicate, Option, Some, None, refl, sym, ap, ◌∙◌, subst, arith}
+use Rattle.std.proofs.Common.{◌≡◌, ◌<◌, ◌≤◌, ℕ, zero, suc, ◌+◌, ◌*◌, ◌^◌, ◌==◌, not, true, List, [], ◌∷◌, ◌++◌, length, map, filter, replicate, Option, Some}
+use Rattle.std.proofs.Common.{None, refl, sym, ap, ◌∙◌, subst, arith}
 use Rattle.std.specs.Prelude.{IfSome, IsTrue, zip}
 use Rattle.std.specs.List.{All, AllPairs, flat_map}
 use Rattle.std.proofs.lemmas.Bool.Decides.{nat_tests}
@@ -12,16 +13,18 @@ use Rattle.sp_base.specs.Formats.{max_nodes}
 use Rattle.sp_base.specs.declared.id.EdgeId.{EdgeId}
 use Rattle.sp_base.specs.declared.id.Flow.{Flow}
 use Rattle.sp_base.specs.declared.id.NodeId.{NodeId}
+use Rattle.sp_base.specs.declared.limits.TheConstants.{MAX_WEIGHT}
 use Rattle.sp_msg.specs.declared.kept.Kept.{Kept}
 use Rattle.sp_rules.specs.Flow.{ends, no_flow}
 use Rattle.sp_rules.specs.Node.{Signer, booted, link_of}
-use Rattle.sp_rules.specs.Parts.{Fixed, as_neighbour, is_signed, neighbours_of, nodes_of}
+use Rattle.sp_rules.specs.Parts.{Fixed, as_neighbour, bare_parts, is_signed, neighbours_of, nodes_of}
 use Rattle.sp_rules.specs.PrioPeer.{new_peer}
 use Rattle.sp_rules.specs.Rel.{flows_from, pairs_of}
+use Rattle.sp_rules.specs.Topologies.{removed_of, weights_in}
 use Rattle.sp_rules.specs.Weights.{held_in}
 use Rattle.sp_rules.specs.declared.prio.Neighbour.{Neighbour}
 use Rattle.sp_topology.specs.Neighbours.{neighbour, neighbours_from, other_end}
-use Rattle.sp_topology.specs.Ranges.{AreEdges, AreNodes, has_id, ids_of}
+use Rattle.sp_topology.specs.Ranges.{AreEdges, AreNodes, has_id, ids_of, ends_of}
 use Rattle.sp_topology.specs.declared.topology.Edge.{Edge}
 use Rattle.sp_topology.specs.declared.topology.LmsHeight.{LmsHeight}
 use Rattle.sp_topology.specs.declared.topology.NodeKey.{NodeKey}
@@ -30,10 +33,12 @@ use Rattle.laws_node.specs.Flows.{Differ, FlowHolds}
 use Rattle.laws_node.specs.Laws.{BootKeeps}
 use Rattle.laws_node.specs.Inputs.{Boots}
 use Rattle.laws_node.specs.Nodes.{LinkHolds, NodeHolds, sizes_of}
-use Rattle.laws_node.specs.Sizes.{IsNode, Sizes}
+use Rattle.laws_node.specs.Sizes.{IsNode, Sizes, ids_after, numbers_after}
 use Rattle.laws_node.specs.Stores.{EntryHolds, PrioPeerHolds}
 use Rattle.laws_node.specs.Updates.{UpdateHolds}
 use Rattle.laws_node.proofs.Flows.{no_flow_holds}
+use Rattle.laws_node.proofs.Successors.{length_weights}
+use Rattle.laws_node.proofs.Withdrawals.{closed_holds}
 use Rattle.laws_node.proofs.Lost.{all_filter}
 use Rattle.laws_node.proofs.Priority.{all_map, peer_more}
 use Rattle.laws_node.proofs.Tables.{all_weaker, cond_either, or_where}
@@ -192,6 +197,13 @@ peers_hold k (n ∷ ns) =
       heard = omega arith;
     }) (peers_hold k ns)
 
+-- the weights of a topology have room in their fields
+pub weights_small : (format : ℕ) (ids : List ℕ) (before : ℕ × ℕ) (edges : List Edge) → AreEdges format ids before edges
+    → All (λ weight. weight ≤ MAX_WEIGHT) (weights_in edges)
+weights_small format ids before [] are = All-nil (λ weight. weight ≤ MAX_WEIGHT)
+weights_small format ids before (e ∷ edges) are =
+    All-cons (λ weight. weight ≤ MAX_WEIGHT) e.weight (weights_in edges) are.1.1 (weights_small format ids (ends_of e) edges are.2)
+
 -- whatever is asked of messages, since none is kept
 pub boot_holds : (P : Kept → Type 0) (f : Fixed) (signer : Signer) (keys : List (List ℕ)) (buffer store : ℕ) → Boots f signer
     → NodeHolds (sizes_of P (booted f signer keys buffer store)) (booted f signer keys buffer store)
@@ -214,37 +226,44 @@ boot_holds P f signer keys buffer store boots =
         signature_len = refl;
         short = boots.short;
       };
+      live = record {
+        version = boots.topology.ranges.version;
+        count = length_weights t.edges;
+        weights = weights_small t.format (ids_of t.nodes) (0, 0) t.edges boots.topology.ranges.graph.are_edges;
+        document = boots.document;
+      };
       now = omega arith;
       calls = omega arith;
       links = links_hold t.format f boots.me boots.boot (neighbours_of f) keys
           (neighbours_small t.format (ids_of t.nodes) (λ id. small_id t.format t.height 0 t.nodes id boots.topology.ranges.nodes) f.me.0 0 (0, 0) t.edges boots.topology.ranges.graph.are_edges);
       signer = boots.signer;
-      parts = record {
-        weights = record { edges = refl; rows = λ row. none_held (UpdateHolds k signer.index) (2 * length t.edges) row };
-        prio = record {
-          me = refl;
-          known = refl;
-          nodes = nodes;
-          capacity = refl;
-          inbox = record { last = omega arith; bounded = omega arith; capacity = omega arith; entries = All-nil (EntryHolds k 0) };
-          peers = all_weaker (PrioPeerHolds k 0 0) (PrioPeerHolds k 0 _) (map (new_peer store) (map as_neighbour (neighbours_of f)))
-              (λ q. peer_more k 0 0 0 _ q (omega arith) (omega arith)) (peers_hold k (map as_neighbour (neighbours_of f)));
-          least = omega arith;
-          next = omega arith;
-        };
-        rel = record {
-          me = refl;
-          bound = refl;
-          nodes = nodes;
-          known = refl;
-          flows = all_map (λ (fl : Flow). IsNode t.format fl.src × IsNode t.format fl.dst) (FlowHolds k signer.index) no_flow (λ fl both. no_flow_holds k signer.index fl both.0 both.1) pairs
-              (flows_have (IsNode t.format) (nodes_of t) (nodes_of t) nodes nodes);
-          keys = same_ends pairs;
-          once = subst (AllPairs Differ) (sym (same_ends pairs)) (flows_once (nodes_of t) (nodes_of t) once once);
-        };
-        lives = no_lives_hold k (nodes_of t);
-        origins = length-replicate (length t.nodes) None ∙ sym (length-map t.nodes (λ n. n.id));
-      };
+      parts = closed_holds k (numbers_after 0) (ids_after 0 signer.index) signer.index (bare_parts f buffer store) (weights_in t.edges)
+          (removed_of (nodes_of t) t.edges) (length_weights t.edges) (record {
+            weights = record { edges = refl; least = length_weights t.edges; rows = λ row. none_held (UpdateHolds k signer.index) (2 * length t.edges) row };
+            prio = record {
+              me = refl;
+              known = refl;
+              nodes = nodes;
+              capacity = refl;
+              inbox = record { last = omega arith; bounded = omega arith; capacity = omega arith; entries = All-nil (EntryHolds k 0) };
+              peers = all_weaker (PrioPeerHolds k 0 0) (PrioPeerHolds k 0 _) (map (new_peer store) (map as_neighbour (neighbours_of f)))
+                  (λ q. peer_more k 0 0 0 _ q (omega arith) (omega arith)) (peers_hold k (map as_neighbour (neighbours_of f)));
+              least = omega arith;
+              next = omega arith;
+            };
+            rel = record {
+              me = refl;
+              bound = refl;
+              nodes = nodes;
+              known = refl;
+              flows = all_map (λ (fl : Flow). IsNode t.format fl.src × IsNode t.format fl.dst) (FlowHolds k signer.index) no_flow (λ fl both. no_flow_holds k signer.index fl both.0 both.1) pairs
+                  (flows_have (IsNode t.format) (nodes_of t) (nodes_of t) nodes nodes);
+              keys = same_ends pairs;
+              once = subst (AllPairs Differ) (sym (same_ends pairs)) (flows_once (nodes_of t) (nodes_of t) once once);
+            };
+            lives = no_lives_hold k (nodes_of t);
+            origins = length-replicate (length t.nodes) None ∙ sym (length-map t.nodes (λ n. n.id));
+          });
     }
 
 pub boot_keeps : BootKeeps

@@ -16,6 +16,7 @@ use Rattle.sp_rules.specs.Parts.{is_signed}
 use Rattle.sp_rules.specs.Prio.{admit_prio}
 use Rattle.sp_rules.specs.Sends.{PrioSend, no_paths, own_prio, prio_body, prio_refusal, prio_sent}
 use Rattle.sp_rules.specs.Steps.{Output, Poll, Datagram, Tick, SendRel, SendPrio, SetWeight, TakeRel, TakePrio, Reply, Accepted, accepted, refused_send}
+use Rattle.sp_rules.specs.Steps.{Publish}
 use Rattle.laws_node.specs.Inputs.{ArtsFit, PrioSendFits, ReadsBack}
 use Rattle.laws_node.specs.Nodes.{IsKept, sizes_of}
 use Rattle.laws_node.proofs.About.{prio_good}
@@ -42,13 +43,14 @@ abbrev output_by : Arts → NodeState → PrioSend → Choice → Option SendRef
 output_by arts n x c r = refused_send (or_else r (no_paths c)) (accepted n.parts.prio.next (prio_sent arts n x c))
 
 module _ (arts : Arts) (n : NodeState) (x : PrioSend) (o : Output) (one two : NodeState) (reads : ReadsBack arts) (arts_fit : ArtsFit arts n.fixed n.signer) (fits : PrioSendFits x) (kept : IsKept arts n) where
-  good : (mask : ℕ) → prio_refusal n x ≡ None → IsChoice (graph_of n.fixed.topology n.parts.weights) n.fixed.me x.dst x.paths (Mask mask)
+  good : (mask : ℕ) → prio_refusal n x ≡ None → IsChoice n.parts.weights (graph_of n.fixed.topology n.parts.weights) n.fixed.me x.dst x.paths (Mask mask)
       → IsTrue (arts.is_good (prio_body n x mask))
   good mask e is =
       prio_good arts (sizes_of (λ k. IsTrue (is_signed arts n.fixed k)) n) n x (Mask mask) arts_fit fits (ap (λ (r : Option SendRefused). or_else r None) e) is kept
 
   by_choice : prio_refusal n x ≡ None → (c d : Choice)
-      → IsChoice (graph_of n.fixed.topology n.parts.weights) n.fixed.me x.dst x.paths c → IsChoice (graph_of n.fixed.topology n.parts.weights) n.fixed.me x.dst x.paths d
+      → IsChoice n.parts.weights (graph_of n.fixed.topology n.parts.weights) n.fixed.me x.dst x.paths c
+      → IsChoice n.parts.weights (graph_of n.fixed.topology n.parts.weights) n.fixed.me x.dst x.paths d
       → o ≡ output_by arts n x c None → o ≡ output_by arts n x d None → one ≡ step_by arts n x c None → two ≡ step_by arts n x d None → one ≡ two
   by_choice e (OnlyPaths f) (OnlyPaths g) is also o1 o2 n1 n2 = n1 ∙ sym n2
   by_choice e (OnlyPaths f) (Mask l) is also o1 o2 n1 n2 = absurd (let same : false ≡ true = ap (λ (q : Output). was_accepted q.reply) (sym o1 ∙ o2) in cc)
@@ -60,8 +62,8 @@ module _ (arts : Arts) (n : NodeState) (x : PrioSend) (o : Output) (one two : No
       n1 ∙ (ap (λ (m : ℕ). step_by arts n x (Mask m) None) mask ∙ sym n2)
 
   by_refusal : (r : Option SendRefused) → prio_refusal n x ≡ r → (c d : Choice)
-      → (prio_refusal n x ≡ None → IsChoice (graph_of n.fixed.topology n.parts.weights) n.fixed.me x.dst x.paths c)
-      → (prio_refusal n x ≡ None → IsChoice (graph_of n.fixed.topology n.parts.weights) n.fixed.me x.dst x.paths d)
+      → (prio_refusal n x ≡ None → IsChoice n.parts.weights (graph_of n.fixed.topology n.parts.weights) n.fixed.me x.dst x.paths c)
+      → (prio_refusal n x ≡ None → IsChoice n.parts.weights (graph_of n.fixed.topology n.parts.weights) n.fixed.me x.dst x.paths d)
       → o ≡ output_by arts n x c r → o ≡ output_by arts n x d r → one ≡ step_by arts n x c r → two ≡ step_by arts n x d r → one ≡ two
   by_refusal (Some f) e c d is also o1 o2 n1 n2 = n1 ∙ sym n2
   by_refusal None e c d is also o1 o2 n1 n2 = by_choice e c d (is e) (also e) o1 o2 n1 n2
@@ -76,3 +78,4 @@ steps_are_determined arts n (SendPrio x) o one two reads arts_fit fits kept s t 
 steps_are_determined arts n (SetWeight v weight) o one two reads arts_fit fits kept s t = s.1 ∙ sym t.1
 steps_are_determined arts n (TakeRel src) o one two reads arts_fit fits kept s t = s.1 ∙ sym t.1
 steps_are_determined arts n TakePrio o one two reads arts_fit fits kept s t = s.1 ∙ sym t.1
+steps_are_determined arts n (Publish document) o one two reads arts_fit fits kept s t = s.1 ∙ sym t.1

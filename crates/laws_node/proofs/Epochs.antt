@@ -13,18 +13,21 @@ use Rattle.sp_msg.specs.declared.kept.Kept.{Kept}
 use Rattle.sp_msg.specs.declared.refused.SendRefused.{SendRefused}
 use Rattle.sp_rules.proofs.FlowJudged.{found_ends}
 use Rattle.sp_rules.specs.Answers.{ack_answer, epoch_answer, is_new, prio_answer, rel_answer, weight_answer}
-use Rattle.sp_rules.specs.Arrivals.{arrival_at, greeted, handled, has_risen, link_after, parts_met, pieces_in, pieces_where, reply_at, sections_in}
+use Rattle.sp_rules.specs.Arrivals.{arrival_at, before_document, document_at, greeted, parts_met, pieces_in, pieces_where, read_by, reply_at, rises}
+use Rattle.sp_rules.specs.Arrivals.{sections_in}
 use Rattle.sp_rules.specs.Arts.{Arts}
 use Rattle.sp_rules.specs.Flow.{FlowState, ends, is_flow, no_flow}
 use Rattle.sp_rules.specs.Handle.{Arrival, handle, handle_all, heard_where, met, offer_to}
 use Rattle.sp_rules.specs.Lives.{are_held, boot_said, held, held_boot, is_dated, is_known, is_life, judge_epoch, no_life, origin_said, boot_of}
-use Rattle.sp_rules.specs.Node.{NodeState, call_refusal, kept_or, link_in}
+use Rattle.sp_rules.specs.Link.{advanced}
+use Rattle.sp_rules.specs.Node.{NodeState, call_refusal, called, kept_or, link_in, with_link}
 use Rattle.sp_rules.specs.Parts.{Parts, is_signed}
 use Rattle.sp_rules.specs.Pieces.{Piece, WeightPiece, PrioAckPiece, PrioPiece, ReportPiece, AckPiece, RelPiece, EpochPiece}
+use Rattle.sp_rules.specs.Polls.{is_served, parts_after, polled}
 use Rattle.sp_rules.specs.Prio.{admit_prio, judge_prio, place_of, window_at, windows_less}
 use Rattle.sp_rules.specs.Rel.{flow_in, flow_less, is_end, judge_ack_of, judge_rel_of}
 use Rattle.sp_rules.specs.Sends.{rel_refusal, send_prio_refusal, signer_refusal, weight_refusal}
-use Rattle.sp_rules.specs.Steps.{Input, NodeStep, Output, Poll, Datagram, Tick, SendRel, SendPrio, SetWeight, TakeRel, TakePrio}
+use Rattle.sp_rules.specs.Steps.{Input, NodeStep, Output, Poll, Datagram, Tick, SendRel, SendPrio, SetWeight, TakeRel, TakePrio, Publish}
 use Rattle.sp_rules.specs.Ticks.{at_time, due_now, settled_by}
 use Rattle.sp_rules.specs.declared.answers.EpochAnswer.{EpochAnswer}
 use Rattle.sp_rules.specs.declared.answers.Item.TheVariants as items
@@ -33,6 +36,7 @@ use Rattle.sp_rules.specs.declared.answers.PrioAnswer.TheVariants as prios
 use Rattle.sp_rules.specs.declared.lives.EpochJudged.TheVariants as judged
 use Rattle.sp_rules.specs.declared.lives.Life.{Life}
 use Rattle.laws_node.specs.Epochs.{BootsNeverFall, EpochTaken, Follows, OwnBootStays}
+use Rattle.laws_node.proofs.Adopting.{publishing, reading}
 use Rattle.laws_node.proofs.Handles.{new_start}
 use Rattle.laws_node.proofs.TableReads.{first_replaced, other_replaced}
 
@@ -223,13 +227,17 @@ step_rises : (arts : Arts) (n : NodeState) (input : Input) (output : Output) (ne
     → Rises n.fixed.me n.parts.lives new.parts.lives
 step_rises arts n (Poll v) output new s =
     subst (λ (m : NodeState). Rises n.fixed.me n.parts.lives m.parts.lives) (sym s.1)
-    (or_rises n.fixed.me (call_refusal n v) n _ (rests n.fixed.me n.parts.lives _ refl))
+    (or_rises n.fixed.me (call_refusal n v) n (called n (with_link n v (advanced (link_in n v))) (parts_after n v))
+    (rests n.fixed.me n.parts.lives (parts_after n v).lives (either n.fixed.me (is_served n v) (polled n.fixed n.parts v) n.parts refl)))
 step_rises arts n (Datagram v bytes) output new s =
-    subst (λ (m : NodeState). Rises n.fixed.me n.parts.lives m.parts.lives) (sym s.1) (or_rises n.fixed.me (call_refusal n v) n _
-    (on n.fixed.me n.parts.lives (parts_met arts n v bytes).lives (handled arts n v bytes).parts.lives
-    (rests n.fixed.me n.parts.lives _ (greeted_lives n.fixed.epochs (has_risen (link_in n v) (link_after arts n v bytes)) v n.parts))
+    let left = before_document arts n v bytes in
+    let first = on n.fixed.me n.parts.lives (parts_met arts n v bytes).lives left.parts.lives
+    (rests n.fixed.me n.parts.lives _ (greeted_lives n.fixed.epochs (rises arts n v bytes) v n.parts))
     (all_pieces n.fixed.me arts (arrival_at n v) (parts_met arts n v bytes)
-    (pieces_where (reply_at arts n v bytes) (pieces_in n.fixed (sections_in arts n.fixed bytes))) refl)))
+    (pieces_where (reply_at arts n v bytes) (pieces_in n.fixed (sections_in arts n.fixed bytes))) refl) in
+    subst (λ (m : NodeState). Rises n.fixed.me n.parts.lives m.parts.lives) (sym s.1)
+    (or_rises n.fixed.me (call_refusal n v) n (read_by arts left (document_at arts n v bytes))
+    (reading arts left (document_at arts n v bytes) (λ m told. Rises n.fixed.me n.parts.lives m.parts.lives) first (λ document d is reads by. first)))
 step_rises arts n (Tick now) output new s =
     subst (λ (m : NodeState). Rises n.fixed.me n.parts.lives m.parts.lives) (sym s.1) (go (due_now n) (signer_refusal n.signer))
   where
@@ -250,6 +258,10 @@ step_rises arts n (TakeRel src) output new s =
     subst (λ (m : NodeState). Rises n.fixed.me n.parts.lives m.parts.lives) (sym s.1) (rests n.fixed.me n.parts.lives n.parts.lives refl)
 step_rises arts n TakePrio output new s =
     subst (λ (m : NodeState). Rises n.fixed.me n.parts.lives m.parts.lives) (sym s.1) (rests n.fixed.me n.parts.lives n.parts.lives refl)
+step_rises arts n (Publish document) output new s =
+    let same = rests n.fixed.me n.parts.lives n.parts.lives refl in
+    subst (λ (m : NodeState). Rises n.fixed.me n.parts.lives m.parts.lives) (sym s.1)
+    (publishing arts n document (λ m told. Rises n.fixed.me n.parts.lives m.parts.lives) same (λ d reads by. same))
 
 pub boots_never_fall : BootsNeverFall
 boots_never_fall arts old input output new v s = (step_rises arts old input output new s).rise v

@@ -1,5 +1,6 @@
 -- What a poll writes is in the ranges of a frame.
-use Rattle.std.proofs.Common.{◌≡◌, ◌<◌, ◌≤◌, ℕ, ◌+◌, ◌-◌, ◌^◌, ◌==◌, nat_lt, max, Bool, true, false, cond, List, [], length, map, drop, Option, Some, None}
+use Rattle.std.proofs.Common.{◌≡◌, ◌<◌, ◌≤◌, ℕ, ◌+◌, ◌-◌, ◌^◌, ◌==◌, nat_lt, max, ◌&&◌, not, Bool, true, false, cond, List, [], length, map, drop, Option, Some}
+use Rattle.std.proofs.Common.{None}
 use Rattle.std.proofs.Common.{refl, sym, subst, ◌∙◌, arith}
 use Rattle.std.specs.Prelude.{IfSome, IsTrue}
 use Rattle.std.specs.List.{All, slice_get}
@@ -15,6 +16,7 @@ use Rattle.sp_base.specs.declared.limits.TheConstants.{MAX_MESSAGES}
 use Rattle.sp_frame.specs.Objects.{IsObject, is_of}
 use Rattle.sp_frame.specs.Ranges.{IsContentsIn, IsNumbered, IsReport, Later}
 use Rattle.sp_frame.specs.Reliable.{Report}
+use Rattle.sp_frame.specs.Sections.{with_document}
 use Rattle.sp_frame.specs.Views.{as_list}
 use Rattle.sp_frame.specs.declared.kind.Kind.{Kind}
 use Rattle.sp_frame.specs.declared.kind.Kind.TheVariants as kinds
@@ -25,8 +27,8 @@ use Rattle.sp_msg.specs.declared.kept.Kept.{Kept}
 use Rattle.sp_rules.specs.Flow.{FlowState, ends}
 use Rattle.sp_rules.specs.Lives as lives
 use Rattle.sp_rules.specs.Parts.{is_signed, place_of}
-use Rattle.sp_rules.specs.Node.{NodeState}
-use Rattle.sp_rules.specs.Polls.{as_message, contents_to, dated}
+use Rattle.sp_rules.specs.Node.{NodeState, is_behind, is_shut_to, version_of}
+use Rattle.sp_rules.specs.Polls.{as_message, contents_at, contents_to, dated, no_contents}
 use Rattle.sp_rules.specs.Prio.{is_peer, no_peer, peer_in}
 use Rattle.sp_rules.specs.PrioPeer as rows
 use Rattle.sp_rules.specs.PrioPeer.{PrioPeer}
@@ -37,7 +39,7 @@ use Rattle.sp_rules.specs.declared.store.Entry.{Entry}
 use Rattle.laws_node.specs.Flows.{AckKept, FlowHolds, IsAckOf, IsRel, RelHolds}
 use Rattle.laws_node.specs.HeldBoots.{IsEpochOf, LifeHolds}
 use Rattle.laws_node.specs.Laws.{FramesFit}
-use Rattle.laws_node.specs.Nodes.{NodeHolds, sizes_of}
+use Rattle.laws_node.specs.Nodes.{FitsAFrame, NodeHolds, sizes_of}
 use Rattle.laws_node.specs.Sizes.{Fits, Sizes, numbers_after}
 use Rattle.laws_node.specs.Stores.{IsPrio, PrioPeerHolds}
 use Rattle.laws_node.specs.Updates.{IsUpdate, UpdateHolds, WeightsHold}
@@ -45,7 +47,7 @@ use Rattle.laws_node.proofs.HeldBoots.{boot_fits, next_is_held}
 use Rattle.laws_node.proofs.Flight.{Flies, flight_few, flight_holds}
 use Rattle.laws_node.proofs.Priority.{all_map, no_peer_holds, row_carried_holds}
 use Rattle.laws_node.proofs.Reliable.{read}
-use Rattle.laws_node.proofs.Tables.{all_drop_first, all_first, all_get, all_weaker, cond_either}
+use Rattle.laws_node.proofs.Tables.{all_drop_first, all_first, all_get, all_weaker, cond_either, cond_where}
 
 -- ---- objects
 
@@ -259,7 +261,7 @@ epoch_fits k len known origins v same short held =
 
 -- ---- the frame
 
-pub contents_fit : (k : Sizes) (n : NodeState) (v : NodeId) → NodeHolds k n
+contents_fit : (k : Sizes) (n : NodeState) (v : NodeId) → NodeHolds k n
     → IsContentsIn n.fixed.topology.format n.fixed.signature_len (contents_to n.fixed n.parts v)
 contents_fit k n v h =
     let len = n.fixed.signature_len in
@@ -286,5 +288,51 @@ contents_fit k n v h =
       epoch = epoch_fits k len n.parts.lives n.parts.origins (place_of n.fixed v) same h.fixed.short h.parts.lives;
     })
 
+-- a frame without sections
+none_fit : (format len : ℕ) → IsContentsIn format len no_contents
+none_fit format len = record {
+  document = tt;
+  few_weights = omega arith;
+  weights = All-nil (IsObject format kinds.Weight len);
+  prio_ack = omega arith;
+  few_prios = omega arith;
+  prios = All-nil (IsNumbered format len);
+  slot = tt;
+  paths = tt;
+  probe = tt;
+  epoch = tt;
+}
+
+-- a frame with a document
+document_fits : (format len : ℕ) (document : List ℕ) → (format == FORMAT_1) ≡ false → FitsAFrame document → IsContentsIn format len (with_document document)
+document_fits format len document later fits = record {
+  document = (later, record { short = let few = fits.1 in omega (arith, few); alone = refl });
+  few_weights = omega arith;
+  weights = All-nil (IsObject format kinds.Weight len);
+  prio_ack = omega arith;
+  few_prios = omega arith;
+  prios = All-nil (IsNumbered format len);
+  slot = tt;
+  paths = tt;
+  probe = tt;
+  epoch = tt;
+}
+
+changing : (first above below : Bool) → (not first && above && below) ≡ true → first ≡ false
+changing false above below e = refl
+changing true above below e = absurd (cc)
+
+-- each of the three kinds
+pub frame_fits : (k : Sizes) (n : NodeState) (v : NodeId) → NodeHolds k n
+    → IsContentsIn n.fixed.topology.format n.fixed.signature_len (contents_at n v)
+frame_fits k n v h =
+    let format = n.fixed.topology.format in
+    let len = n.fixed.signature_len in
+    let else_what = cond (is_shut_to n v) no_contents (contents_to n.fixed n.parts v) in
+    cond_where (IsContentsIn format len) (is_behind n v) (with_document n.live.document) else_what
+    (λ behind. document_fits format len n.live.document
+    (changing (format == FORMAT_1) (nat_lt 0 (version_of n v)) (nat_lt (version_of n v) n.live.version) behind) h.live.document)
+    (λ level. cond_either (IsContentsIn format len) (is_shut_to n v) no_contents (contents_to n.fixed n.parts v) (none_fit format len) (contents_fit k n v h))
+
 pub frames_fit : FramesFit
-frames_fit arts n v h = contents_fit (sizes_of (λ o. IsTrue (is_signed arts n.fixed o)) n) n v h
+frames_fit arts n v h = frame_fits (sizes_of (λ o. IsTrue (is_signed arts n.fixed o)) n) n v h

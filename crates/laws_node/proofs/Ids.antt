@@ -1,34 +1,41 @@
 -- In no place does a step give an id twice.
-use Rattle.std.proofs.Common.{◌≡◌, ◌≤◌, ℕ, zero, suc, ◌+◌, ◌-◌, Bool, true, false, List, [], ◌∷◌, ◌++◌, length, map, filter, drop, not, Option, Some, None, refl, sym, subst, arith, cond}
-use Rattle.std.specs.List.{All}
-use Rattle.std.proofs.lemmas.List.Elements.{All-cons, All-head, All-tail}
-use Rattle.sp_base.specs.Rows.{first_where, replace_where}
+use Rattle.std.proofs.Common.{◌≡◌, ◌≤◌, ℕ, zero, suc, ◌+◌, ◌-◌, Bool, true, false, List, [], ◌∷◌, ◌++◌, length, map, filter, drop, not, Option, Some, None}
+use Rattle.std.proofs.Common.{refl, sym, subst, arith, cond}
 use Rattle.sp_base.specs.declared.id.NodeId.{NodeId}
 use Rattle.sp_base.specs.declared.limits.TheConstants.{MAX_MESSAGES}
 use Rattle.sp_msg.specs.declared.body.Ack.{Ack}
 use Rattle.sp_msg.specs.declared.kept.Kept.{Kept}
 use Rattle.sp_msg.specs.declared.refused.SendRefused.{SendRefused}
 use Rattle.sp_rules.specs.Answers.{epoch_answer, is_new, prio_answer}
-use Rattle.sp_rules.specs.Arrivals.{arrival_at, greeted, handled, has_risen, link_after, parts_met, pieces_in, pieces_where, reply_at, sections_in}
+use Rattle.sp_rules.specs.Arrivals.{arrival_at, before_document, document_at, greeted, parts_met, pieces_in, pieces_where, read_by, reply_at, rises}
+use Rattle.sp_rules.specs.Arrivals.{sections_in}
 use Rattle.sp_rules.specs.Arts.{Arts}
 use Rattle.sp_rules.specs.Choices.{less_first}
+use Rattle.sp_rules.specs.Documents.{under_topology}
 use Rattle.sp_rules.specs.Handle.{Arrival, handle, handle_all, heard_where, met}
+use Rattle.sp_rules.specs.Link.{advanced}
 use Rattle.sp_rules.specs.Node.{NodeState, call_refusal, called, kept_or, link_in, signed_once, with_link}
-use Rattle.sp_rules.specs.Parts.{Parts, is_signed}
+use Rattle.sp_rules.specs.Parts.{Parts, is_signed, nodes_of}
 use Rattle.sp_rules.specs.Pieces.{Piece, WeightPiece, PrioAckPiece, PrioPiece, ReportPiece, AckPiece, RelPiece, EpochPiece}
+use Rattle.sp_rules.specs.Polls.{is_served, parts_after, polled}
 use Rattle.sp_rules.specs.Prio as prio
 use Rattle.sp_rules.specs.Prio.{PrioState}
 use Rattle.sp_rules.specs.PrioPeer as rows
 use Rattle.sp_rules.specs.PrioPeer.{PrioPeer}
 use Rattle.sp_rules.specs.Sends.{own_prio, rel_refusal, send_prio_refusal, signer_refusal, weight_refusal}
-use Rattle.sp_rules.specs.Steps.{Input, NodeStep, Output, Poll, Datagram, Tick, SendRel, SendPrio, SetWeight, TakeRel, TakePrio}
+use Rattle.sp_rules.specs.Steps.{Input, NodeStep, Output, Poll, Datagram, Tick, SendRel, SendPrio, SetWeight, TakeRel, TakePrio, Publish}
 use Rattle.sp_rules.specs.Store.{Store, arriving, evicted, has_id, is_expired, less_expired, next_besides, put, removed, without}
 use Rattle.sp_rules.specs.Lives.{are_held, is_dated, judge_epoch}
 use Rattle.sp_rules.specs.Ticks.{due_now, at_time, settled_by, time_after}
+use Rattle.sp_rules.specs.Topologies.{is_shut, removed_of, weights_in}
 use Rattle.sp_rules.specs.declared.answers.Item.TheVariants as items
 use Rattle.sp_rules.specs.declared.answers.PrioAnswer.{PrioAnswer}
 use Rattle.sp_rules.specs.declared.answers.PrioAnswer.TheVariants as prios
 use Rattle.sp_rules.specs.declared.store.Entry.{Entry}
+use Rattle.sp_topology.specs.declared.topology.Topology.{Topology}
+use Rattle.laws_node.proofs.Adopting.{publishing, reading}
+use Rattle.laws_node.proofs.Priority.{all_map}
+use Rattle.laws_node.proofs.Tables.{first_changes}
 use Rattle.laws_node.specs.Ids.{AllRise, IdsStayOwn, PeerRises, PlaceRises, Rises}
 
 -- ---- lists of entries
@@ -80,20 +87,6 @@ expired_out given s now h = record { rise = some (λ e. not (is_expired now e)) 
 module _ (given : ℕ → ℕ) where
   -- ---- rows
 
-  first_changes : (test : PrioPeer → Bool) (d : PrioPeer) (f : PrioPeer → PrioPeer) → ((q : PrioPeer) → (PeerRises given) q → (PeerRises given) (f q)) → (qs : List PrioPeer)
-      → All (PeerRises given) qs → All (PeerRises given) (replace_where test (f (first_where test d qs)) qs)
-  first_changes test d f keeps [] all = all
-  first_changes test d f keeps (q ∷ qs) all = by (test q) (first_changes test d f keeps qs (All-tail (PeerRises given) q qs all))
-    where
-      by : (t : Bool) → All (PeerRises given) (replace_where test (f (first_where test d qs)) qs)
-          → All (PeerRises given) (cond t (f (cond t q (first_where test d qs)) ∷ qs) (q ∷ replace_where test (f (cond t q (first_where test d qs))) qs))
-      by true rest = All-cons (PeerRises given) (f q) qs (keeps q (All-head (PeerRises given) q qs all)) (All-tail (PeerRises given) q qs all)
-      by false rest = All-cons (PeerRises given) q (replace_where test (f (first_where test d qs)) qs) (All-head (PeerRises given) q qs all) rest
-
-  each_changes : (f : PrioPeer → PrioPeer) → ((q : PrioPeer) → (PeerRises given) q → (PeerRises given) (f q)) → (qs : List PrioPeer) → All (PeerRises given) qs → All (PeerRises given) (map f qs)
-  each_changes f keeps [] all = all
-  each_changes f keeps (q ∷ qs) all = All-cons (PeerRises given) (f q) (map f qs) (keeps q (All-head (PeerRises given) q qs all)) (each_changes f keeps qs (All-tail (PeerRises given) q qs all))
-
   launched_rises : (q : PrioPeer) (o : Option Entry) → (PeerRises given) q → (PeerRises given) (rows.launched q o)
   launched_rises q None h = h
   launched_rises q (Some e) h = h
@@ -115,7 +108,7 @@ module _ (given : ℕ → ℕ) where
   -- ---- the priority part
 
   one_peer : (s : PrioState) (v : ℕ) (f : PrioPeer → PrioPeer) → ((q : PrioPeer) → (PeerRises given) q → (PeerRises given) (f q)) → (AllRise given) s → (AllRise given) (prio.with_peer s v (f (prio.peer_in s v)))
-  one_peer s v f keeps h = record { inbox = h.inbox; peers = first_changes (prio.is_peer v) prio.no_peer f keeps s.peers h.peers }
+  one_peer s v f keeps h = record { inbox = h.inbox; peers = first_changes (PeerRises given) (prio.is_peer v) prio.no_peer f keeps s.peers h.peers }
 
   carried_keeps : (q : PrioPeer) → (PeerRises given) q → (PeerRises given) (rows.carried q)
   carried_keeps q h = filled_rises (MAX_MESSAGES - length (rows.settled q).flight) (rows.settled q) h
@@ -128,7 +121,7 @@ module _ (given : ℕ → ℕ) where
 
       by : (t : Bool) → (AllRise given) (cond t (record (prio.marked s o.body came) { inbox = put s.inbox o }) (record (prio.marked s o.body came) { peers = map (rows.given o came) s.peers }))
       by true = record { inbox = put_rises (given 0) s.inbox o h.inbox; peers = h.peers }
-      by false = record { inbox = h.inbox; peers = each_changes (rows.given o came) (given_rises o came) s.peers h.peers }
+      by false = record { inbox = h.inbox; peers = all_map (PeerRises given) (PeerRises given) (rows.given o came) (given_rises o came) s.peers h.peers }
 
   -- ---- a frame
 
@@ -188,17 +181,33 @@ module _ (given : ℕ → ℕ) where
   settled_keeps arts n (Some ack) (Some refusal) h = h
   settled_keeps arts n (Some ack) None h = h
 
+  -- ids of those that leave aren't given again
+  closed_rises : (least : List ℕ) (removed : List NodeId) (q : PrioPeer) → (PeerRises given) q → (PeerRises given) (rows.closed least removed q)
+  closed_rises least removed q h = record {
+    rise = some (λ e. not (rows.leaves (is_shut least q.edge) removed e)) 0 q.store.last q.store.entries h.rise;
+    least = h.least;
+  }
+
+  adopted_rises : (n : NodeState) (bytes : List ℕ) (t : Topology) → Whole n → Whole (under_topology n bytes t)
+  adopted_rises n bytes t h =
+      let least = weights_in t.edges in
+      let gone = removed_of (nodes_of t) t.edges in
+      record { inbox = h.inbox; peers = all_map (PeerRises given) (PeerRises given) (rows.closed least gone) (closed_rises least gone) n.parts.prio.peers h.peers }
+
   step_rises : (arts : Arts) (n : NodeState) (input : Input) (output : Output) (new : NodeState) → NodeStep arts n input output new → Whole n → Whole new
-  step_rises arts n (Poll v) output new s h = subst Whole (sym s.1) (or_kept (call_refusal n v) n _ h (one_peer n.parts.prio v.0 rows.carried carried_keeps h))
+  step_rises arts n (Poll v) output new s h =
+      subst Whole (sym s.1) (or_kept (call_refusal n v) n (called n (with_link n v (advanced (link_in n v))) (parts_after n v)) h
+      (which (is_served n v) (polled n.fixed n.parts v) n.parts (one_peer n.parts.prio v.0 rows.carried carried_keeps h) h))
   step_rises arts n (Datagram v bytes) output new s h =
       let xs = pieces_where (reply_at arts n v bytes) (pieces_in n.fixed (sections_in arts n.fixed bytes)) in
-      subst Whole (sym s.1) (or_kept (call_refusal n v) n (called n (with_link n v (link_after arts n v bytes)) (handled arts n v bytes).parts) h
-      (pieces arts (arrival_at n v) (parts_met arts n v bytes) xs
-      (greeted_rises n.fixed.epochs (has_risen (link_in n v) (link_after arts n v bytes)) v n.parts h)))
+      let met_at = before_document arts n v bytes in
+      let first = pieces arts (arrival_at n v) (parts_met arts n v bytes) xs (greeted_rises n.fixed.epochs (rises arts n v bytes) v n.parts h) in
+      subst Whole (sym s.1) (or_kept (call_refusal n v) n (read_by arts met_at (document_at arts n v bytes)) h
+      (reading arts met_at (document_at arts n v bytes) (λ m told. Whole m) first (λ document d is reads by. adopted_rises met_at document d.topology first)))
   step_rises arts n (Tick now) output new s h =
       let time = time_after n now in
       subst Whole (sym s.1) (settled_keeps arts (at_time n now) (due_now n) (signer_refusal n.signer)
-      (record { inbox = expired_out (given 0) n.parts.prio.inbox time h.inbox; peers = each_changes (λ q. rows.expired q time) (λ q k. expired_out (given q.peer) q.store time k) n.parts.prio.peers h.peers }))
+      (record { inbox = expired_out (given 0) n.parts.prio.inbox time h.inbox; peers = all_map (PeerRises given) (PeerRises given) (λ q. rows.expired q time) (λ q k. expired_out (given q.peer) q.store time k) n.parts.prio.peers h.peers }))
   step_rises arts n (SendRel dst payload) output new s h = subst Whole (sym s.1) (or_kept (rel_refusal n dst) n _ h h)
   step_rises arts n (SendPrio m) output new s h =
       let o = own_prio arts n m s.choice in
@@ -210,6 +219,8 @@ module _ (given : ℕ → ℕ) where
         inbox = record { rise = oldest_out n.parts.prio.inbox.last n.parts.prio.inbox.entries h.inbox.rise; least = h.inbox.least };
         peers = h.peers;
       })
+  step_rises arts n (Publish document) output new s h =
+      subst Whole (sym s.1) (publishing arts n document (λ m told. Whole m) h (λ d reads by. adopted_rises n document d.topology h))
 
 pub ids_stay_own : IdsStayOwn
 ids_stay_own arts old input output new given s = step_rises given arts old input output new s

@@ -1,9 +1,11 @@
 -- What each step says of a link, and a life of all of them.
-use Rattle.std.proofs.Common.{◌≡◌, ℕ, ◌==◌, Bool, true, false, cond, not, List, [], ◌∷◌, ◌++◌, map, Option, Some, None, Result, Ok, Err, refl, sym, ap, subst, ◌∙◌, inl, inr}
-use Rattle.std.specs.Prelude.{option_map, unwrap_or, zip}
+use Rattle.std.proofs.Common.{◌≡◌, ℕ, ◌==◌, Bool, true, false, cond, not, List, [], ◌∷◌, ◌++◌, map, Option, Some, None, Result, Ok, Err, refl, sym, ap, subst}
+use Rattle.std.proofs.Common.{◌∙◌, inl, inr, ◌&&◌}
+use Rattle.std.specs.Prelude.{is_none, option_map, unwrap_or, zip}
 use Rattle.std.specs.Result.{result_err}
 use Rattle.std.proofs.lemmas.Bool.{cases_Bool, eqb-true, eq-eqb}
 use Rattle.std.proofs.lemmas.List.{append-nil}
+use Rattle.sp_base.specs.Cursor.{or_else}
 use Rattle.sp_base.specs.Rows.{first_where}
 use Rattle.sp_base.specs.declared.id.EdgeId.{EdgeId}
 use Rattle.sp_base.specs.declared.id.NodeId.{NodeId}
@@ -15,14 +17,14 @@ use Rattle.sp_frame.specs.declared.refused.SectionRefused.{SectionRefused}
 use Rattle.sp_msg.specs.declared.body.Ack.{Ack}
 use Rattle.sp_msg.specs.declared.refused.SendRefused.{SendRefused}
 use Rattle.sp_rules.proofs.ArrivalLemmas.{link_stays, link_with, of_frame, of_fresh, of_link}
-use Rattle.sp_rules.specs.Arrivals.{handled, link_after, link_says, not_read, reply_at, sections_in}
+use Rattle.sp_rules.specs.Arrivals.{before_document, document_at, document_in, link_after, link_says, not_open, not_taken, read_by, reply_at, sections_in}
 use Rattle.sp_rules.specs.Arts.{Arts, is_right}
 use Rattle.sp_rules.specs.Link.{Link, advanced, after_answer, is_above, new_link, pair_of}
-use Rattle.sp_rules.specs.Node.{NodeState, announced, booted, call_refusal, called, is_link, is_neighbour, kept_or, link_in, link_of, with_link}
+use Rattle.sp_rules.specs.Node.{NodeState, announced, booted, call_refusal, called, is_link, is_neighbour, is_shut_to, kept_or, link_in, link_of, with_link}
 use Rattle.sp_rules.specs.Parts.{Fixed, neighbours_of}
-use Rattle.sp_rules.specs.Polls.{polled}
+use Rattle.sp_rules.specs.Polls.{parts_after}
 use Rattle.sp_rules.specs.Sends.{rel_refusal, send_prio_refusal, signer_refusal, weight_refusal}
-use Rattle.sp_rules.specs.Steps.{Input, NodeStep, Output, Poll, Datagram, Tick, SendRel, SendPrio, SetWeight, TakeRel, TakePrio, arrived, refused_call}
+use Rattle.sp_rules.specs.Steps.{Input, NodeStep, Output, Poll, Datagram, Tick, SendRel, SendPrio, SetWeight, TakeRel, TakePrio, Publish, arrived, refused_call}
 use Rattle.sp_rules.specs.Ticks.{at_time, due_now, settled_by}
 use Rattle.sp_rules.specs.declared.link.LinkAnswer.{LinkAnswer}
 use Rattle.sp_rules.specs.declared.link.LinkAnswer.TheVariants as answers
@@ -32,6 +34,7 @@ use Rattle.sp_rules.specs.declared.node.NodeRefused.TheVariants as refusals
 use Rattle.laws_node.specs.LifeLaws.{PairsOfLives}
 use Rattle.laws_node.specs.LinkArrivals.{fresh_pair, greatest, learned_pair}
 use Rattle.laws_node.specs.Lives.{Life, pair_told, pairs_of_life, pairs_told}
+use Rattle.laws_node.proofs.Adopting.{publishing, reading}
 use Rattle.laws_node.proofs.FreshLemmas.{one}
 use Rattle.laws_node.proofs.TableReads.{first_replaced, other_replaced}
 
@@ -45,36 +48,44 @@ rests old new seen boot known = record { known = ap (λ (p : ℕ × ℕ). p.0) s
 
 -- ---- a datagram
 
-fresh_told : (p : ℕ × ℕ) (mine theirs : ℕ) (s : Result Contents SectionRefused) → pair_told p (of_fresh mine theirs s) ≡ p ∷ []
-fresh_told p mine theirs s = by (not (theirs == mine)) s
+fresh_told : (p : ℕ × ℕ) (mine theirs : ℕ) (documents : Bool) (s : Result Contents SectionRefused) (shut : Bool)
+    → pair_told p (of_fresh mine theirs documents s shut) ≡ p ∷ []
+fresh_told p mine theirs documents s shut = by (not (theirs == mine) && not documents) s
   where
+    last : (t : Bool) → pair_told p (unwrap_or (cond t (Some replies.Withdrawn) None) replies.Fresh) ≡ p ∷ []
+    last true = refl
+    last false = refl
+
     by : (t : Bool) (s : Result Contents SectionRefused)
-        → pair_told p (unwrap_or (cond t (Some (replies.OtherTopology theirs)) (option_map replies.Section (result_err s))) replies.Fresh) ≡ p ∷ []
+        → pair_told p (unwrap_or (or_else (cond t (Some (replies.OtherTopology theirs)) (option_map replies.Section (result_err s)))
+        (not_open (document_in s) shut)) replies.Fresh) ≡ p ∷ []
     by true s = refl
-    by false (Ok contents) = refl
+    by false (Ok contents) = last (shut && is_none contents.document)
     by false (Err refused) = refl
 
-answer_told : (arts : Arts) (f : Fixed) (bytes : List ℕ) (a : LinkAnswer)
-    → pair_told (pair_of (arts.head bytes)) (of_link a (not_read f.topology.version (arts.head bytes).topology (sections_in arts f bytes)))
+answer_told : (arts : Arts) (f : Fixed) (version : ℕ) (shut : Bool) (bytes : List ℕ) (a : LinkAnswer)
+    → pair_told (pair_of (arts.head bytes)) (of_link a (not_taken version (arts.head bytes).topology (arts.is_document bytes) (sections_in arts f bytes) shut))
     ≡ fresh_pair (arts.head bytes) a ++ learned_pair a
-answer_told arts f bytes answers.NotForMe = refl
-answer_told arts f bytes answers.BadTag = refl
-answer_told arts f bytes (answers.Learned boot) = refl
-answer_told arts f bytes (answers.Stale boot counter) = refl
-answer_told arts f bytes answers.Fresh = fresh_told (pair_of (arts.head bytes)) f.topology.version (arts.head bytes).topology (sections_in arts f bytes)
+answer_told arts f version shut bytes answers.NotForMe = refl
+answer_told arts f version shut bytes answers.BadTag = refl
+answer_told arts f version shut bytes (answers.Learned boot) = refl
+answer_told arts f version shut bytes (answers.Stale boot counter) = refl
+answer_told arts f version shut bytes answers.Fresh =
+    fresh_told (pair_of (arts.head bytes)) version (arts.head bytes).topology (arts.is_document bytes) (sections_in arts f bytes) shut
 
-comes : (arts : Arts) (f : Fixed) (l : Link) (bytes : List ℕ) (o : Result (List ℕ) FrameRefused) → l.seen.0 ≡ l.peer_boot
-    → Goes l (pair_told (pair_of (arts.head bytes)) (of_frame arts f l bytes o)) (link_with arts l bytes o)
-comes arts f l bytes (Err frames.TooLong) known = rests l l refl refl known
-comes arts f l bytes (Err (frames.Short short)) known = rests l l refl refl known
-comes arts f l bytes (Err frames.Magic) known = rests l l refl refl known
-comes arts f l bytes (Err frames.Version) known = rests l l refl refl known
-comes arts f l bytes (Ok frame) known =
+comes : (arts : Arts) (f : Fixed) (version : ℕ) (shut : Bool) (l : Link) (bytes : List ℕ) (o : Result (List ℕ) FrameRefused) → l.seen.0 ≡ l.peer_boot
+    → Goes l (pair_told (pair_of (arts.head bytes)) (of_frame arts f version shut l bytes o)) (link_with arts l bytes o)
+comes arts f version shut l bytes (Err frames.TooLong) known = rests l l refl refl known
+comes arts f version shut l bytes (Err (frames.Short short)) known = rests l l refl refl known
+comes arts f version shut l bytes (Err frames.Magic) known = rests l l refl refl known
+comes arts f version shut l bytes (Err frames.Version) known = rests l l refl refl known
+comes arts f version shut l bytes (Ok frame) known =
     let h = arts.head bytes in
     let a = link_says arts l bytes in
     let goes = one l h (is_right arts l.key bytes) known in
-    let all : (fresh_pair h a ++ learned_pair a) ++ [] ≡ pair_told (pair_of h) (of_link a (not_read f.topology.version h.topology (sections_in arts f bytes))) =
-    append-nil (fresh_pair h a ++ learned_pair a) ∙ sym (answer_told arts f bytes a) in
+    let all : (fresh_pair h a ++ learned_pair a) ++ [] ≡ pair_told (pair_of h)
+    (of_link a (not_taken version h.topology (arts.is_document bytes) (sections_in arts f bytes) shut)) =
+    append-nil (fresh_pair h a ++ learned_pair a) ∙ sym (answer_told arts f version shut bytes a) in
     record { known = goes.known; most = sym (goes.most []) ∙ ap (greatest l.seen) all }
 
 -- ---- which link
@@ -142,13 +153,17 @@ quiet : {R : Type 0} (n done : NodeState) (v : NodeId) (r : Option R) → (link_
 quiet n done v (Some x) same known = rests (link_in n v) (link_in n v) refl refl known
 quiet n done v None same known = subst (λ (l : Link). Goes (link_in n v) [] l) (sym same) (rests (link_in n v) (link_in n v) refl refl known)
 
+-- a document leaves the links
+read_links : (arts : Arts) (n : NodeState) (document : Option (List ℕ)) (v : NodeId) → link_in (read_by arts n document) v ≡ link_in n v
+read_links arts n document v = reading arts n document (λ m told. link_in m v ≡ link_in n v) refl (λ bytes d is reads by. refl)
+
 step_goes : (arts : Arts) (v : NodeId) (n : NodeState) (input : Input) (output : Output) (new : NodeState) → NodeStep arts n input output new
     → (link_in n v).seen.0 ≡ (link_in n v).peer_boot → LinkGoes arts v n input output new
 step_goes arts v n (Poll u) output new s known =
     subst (λ (m : NodeState). Goes (link_in n v) [] (link_in m v)) (sym s.1) (go (call_refusal n u) refl)
   where
     done : NodeState
-    done = called n (with_link n u (advanced (link_in n u))) (polled n.fixed n.parts u)
+    done = called n (with_link n u (advanced (link_in n u))) (parts_after n u)
 
     go : (r : Option NodeRefused) → call_refusal n u ≡ r → Goes (link_in n v) [] (link_in (kept_or r n done) v)
     go (Some refused) e = rests (link_in n v) (link_in n v) refl refl known
@@ -160,13 +175,16 @@ step_goes arts v n (Datagram u bytes) output new s known =
     (subst (λ (m : NodeState). LinkGoes arts v n (Datagram u bytes) (refused_call (call_refusal n u) (arrived arts n u bytes)) m) (sym s.1) (go (call_refusal n u) refl))
   where
     done : NodeState
-    done = called n (with_link n u (link_after arts n u bytes)) (handled arts n u bytes).parts
+    done = read_by arts (before_document arts n u bytes) (document_at arts n u bytes)
 
     go : (r : Option NodeRefused) → call_refusal n u ≡ r → LinkGoes arts v n (Datagram u bytes) (refused_call r (arrived arts n u bytes)) (kept_or r n done)
     go (Some refused) e = rests (link_in n v) (link_in n v) refl refl known
     go None e =
-        one_link n u v (link_after arts n u bytes) (pair_told (pair_of (arts.head bytes)) (reply_at arts n u bytes)) (neighbours n u _ e)
-        (comes_peer arts (link_in n u) bytes (arts.opened bytes)) known (λ k. comes arts n.fixed (link_in n u) bytes (arts.opened bytes) k)
+        subst (Goes (link_in n v) (cond (u.0 == v.0) (pair_told (pair_of (arts.head bytes)) (reply_at arts n u bytes)) []))
+        (sym (read_links arts (before_document arts n u bytes) (document_at arts n u bytes) v))
+        (one_link n u v (link_after arts n u bytes) (pair_told (pair_of (arts.head bytes)) (reply_at arts n u bytes)) (neighbours n u _ e)
+        (comes_peer arts (link_in n u) bytes (arts.opened bytes)) known
+        (λ k. comes arts n.fixed n.live.version (is_shut_to n u) (link_in n u) bytes (arts.opened bytes) k))
 step_goes arts v n (Tick now) output new s known =
     subst (λ (m : NodeState). Goes (link_in n v) [] (link_in m v)) (sym s.1) (go (due_now n) (signer_refusal n.signer))
   where
@@ -184,6 +202,12 @@ step_goes arts v n (TakeRel src) output new s known =
     subst (λ (m : NodeState). Goes (link_in n v) [] (link_in m v)) (sym s.1) (rests (link_in n v) (link_in n v) refl refl known)
 step_goes arts v n TakePrio output new s known =
     subst (λ (m : NodeState). Goes (link_in n v) [] (link_in m v)) (sym s.1) (rests (link_in n v) (link_in n v) refl refl known)
+step_goes arts v n (Publish document) output new s known =
+    subst (λ (m : NodeState). Goes (link_in n v) [] (link_in m v)) (sym s.1)
+    (publishing arts n document (λ m told. Goes (link_in n v) [] (link_in m v)) same (λ d reads by. same))
+  where
+    same : Goes (link_in n v) [] (link_in n v)
+    same = rests (link_in n v) (link_in n v) refl refl known
 
 -- ---- a life
 

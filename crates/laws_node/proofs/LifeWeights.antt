@@ -15,25 +15,30 @@ use Rattle.sp_msg.specs.declared.effect.Why.TheVariants as whys
 use Rattle.sp_msg.specs.declared.kept.Kept.{Kept}
 use Rattle.sp_msg.specs.declared.refused.SendRefused.{SendRefused}
 use Rattle.sp_rules.specs.Answers.{ack_answer, epoch_answer, is_new, prio_answer, rel_answer, weight_answer}
-use Rattle.sp_rules.specs.Arrivals.{arrival_at, greeted, handled, has_risen, link_after, parts_met, pieces_in, pieces_where, reply_at, sections_in}
+use Rattle.sp_rules.specs.Arrivals.{arrival_at, before_document, document_at, greeted, handled, parts_met, pieces_in, pieces_where, read_by, reply_at, rises}
+use Rattle.sp_rules.specs.Arrivals.{sections_in}
 use Rattle.sp_rules.specs.Arts.{Arts}
+use Rattle.sp_rules.specs.Documents.{after_publish, publish_effects, version_effects}
 use Rattle.sp_rules.specs.Flow.{flow_said}
 use Rattle.sp_rules.specs.Handle.{Arrival, handle, handle_all, heard_where, met, offer_of, offer_to, reported_where, weight_effects}
 use Rattle.sp_rules.specs.Link.{advanced}
 use Rattle.sp_rules.specs.Node.{NodeState, announced, booted, call_refusal, called, kept_or, link_in, signed_now, signed_once, with_link}
-use Rattle.sp_rules.specs.Parts.{Parts, edge_to, is_signed}
+use Rattle.sp_rules.specs.Parts.{Parts, edge_to, is_signed, nodes_of}
 use Rattle.sp_rules.specs.Pieces.{Piece, WeightPiece, PrioAckPiece, PrioPiece, ReportPiece, AckPiece, RelPiece, EpochPiece}
-use Rattle.sp_rules.specs.Polls.{frame_to, polled}
+use Rattle.sp_rules.specs.Polls.{frame_to, is_served, parts_after, polled}
 use Rattle.sp_rules.specs.Prio as prio
 use Rattle.sp_rules.specs.Prio.{admit_prio, judge_prio, prio_effects}
 use Rattle.sp_rules.specs.PrioPeer as rows
 use Rattle.sp_rules.specs.Rel.{admit_ack, admit_rel, is_to, judge_ack_of, judge_rel_of, pushed_in, rel_effects, reported, restart_effects}
-use Rattle.sp_rules.specs.Sends.{after_take_prio, after_take_rel, edge_or, mask_in, own_prio, prio_body, prio_sent, rel_body, rel_number, rel_refusal, rel_sent, send_prio_refusal, signed_effect, signer_refusal, weight_body, weight_number, weight_refusal, weight_refusal_at, weight_sent}
-use Rattle.sp_rules.specs.Steps.{Input, NodeStep, Output, Poll, Datagram, Tick, SendRel, SendPrio, SetWeight, TakeRel, TakePrio, Frame, accepted, arrived, refused_call, refused_send, replied}
+use Rattle.sp_rules.specs.Sends.{after_take_prio, after_take_rel, edge_or, mask_in, own_prio, prio_body, prio_sent, rel_body, rel_number, rel_refusal, rel_sent}
+use Rattle.sp_rules.specs.Sends.{send_prio_refusal, signed_effect, signer_refusal, weight_body, weight_number, weight_refusal, weight_refusal_at, weight_sent}
+use Rattle.sp_rules.specs.Steps.{Input, NodeStep, Output, Poll, Datagram, Tick, SendRel, SendPrio, SetWeight, TakeRel, TakePrio, Publish, Frame, accepted}
+use Rattle.sp_rules.specs.Steps.{arrived, document_effects, refused_call, refused_send, replied}
 use Rattle.sp_rules.specs.Store.{oldest}
 use Rattle.sp_rules.specs.Lives.{are_held, is_dated, judge_epoch, origin_said}
 use Rattle.sp_rules.specs.Ticks.{ack_effects, at_time, due_now, settled_by, time_after}
-use Rattle.sp_rules.specs.Weights.{WeightState, held, held_in, minimum, minimum_of, offer, row_for, row_in, row_of, start, weight_of}
+use Rattle.sp_rules.specs.Topologies.{removed_of, weights_in}
+use Rattle.sp_rules.specs.Weights.{WeightState, held, held_in, minimum, offer, replaced, row_for, row_in, row_of, weight_of}
 use Rattle.sp_rules.specs.declared.answers.Item.TheVariants as items
 use Rattle.sp_rules.specs.declared.answers.PrioAnswer.{PrioAnswer}
 use Rattle.sp_rules.specs.declared.answers.PrioAnswer.TheVariants as prios
@@ -42,17 +47,20 @@ use Rattle.sp_rules.specs.declared.weights.Offer.TheVariants as offers
 use Rattle.sp_rules.specs.declared.weights.TheConstants.{MAX_OWN_HEARD}
 use Rattle.sp_topology.specs.Ranges.{ids_of}
 use Rattle.sp_topology.specs.declared.topology.Edge.{Edge}
+use Rattle.sp_topology.specs.declared.topology.Topology.{Topology}
 use Rattle.laws_node.specs.HeldUpdates.{last_weight}
 use Rattle.laws_node.specs.LifeLaws.{WeightsOfLives}
 use Rattle.laws_node.specs.Lives.{Life, effects_of_life, last_told}
 use Rattle.laws_node.specs.Shapes.{Shape}
+use Rattle.laws_node.proofs.Adopting.{publishing, reading}
 use Rattle.laws_node.proofs.GreatestWeights.{high_row, low_row}
 use Rattle.laws_node.proofs.Handles.{new_weight}
 use Rattle.laws_node.proofs.LastWeights.{At, HasRows, IsUpdateAt, held_said, length_stays, new_at, said as row_said}
 use Rattle.laws_node.proofs.Shapes.{shapes_stay}
 use Rattle.laws_node.proofs.UpdateRows.{ends_differ, nothing_held}
 use Rattle.laws_node.proofs.Updates.{own_row}
-use Rattle.laws_node.proofs.SilentEffects.{Silent, last_both, silent_both, silent_either, silent_expired, silent_gone, silent_left, silent_prio, silent_rel}
+use Rattle.laws_node.proofs.SilentEffects.{Silent, last_both, silent_both, silent_closed, silent_either, silent_expired, silent_gone, silent_left, silent_prio}
+use Rattle.laws_node.proofs.SilentEffects.{silent_rel}
 use Rattle.laws_node.proofs.SilentEffects.{silent_restart}
 
 -- ---- what is told of a change of the weights
@@ -225,29 +233,49 @@ own_placed n v weight same free = go (edge_to n.fixed v) refl free
               ∙ ap (λ (o : Option ℕ). row_in n.fixed.topology.edges (edge_or o) n.fixed.me.0) is ∙ own.1,
         )
 
+-- another version tells of no held weight, and leaves what is held
+adopted_turns : (n : NodeState) (t : Topology) → HasRows n.parts.weights
+    → Turns n.parts.weights (version_effects n t) (replaced n.parts.weights (weights_in t.edges))
+adopted_turns n t h =
+    let least = weights_in t.edges in
+    let gone = removed_of (nodes_of t) t.edges in
+    stays n.parts.weights (replaced n.parts.weights least) (version_effects n t) (λ edge end w. silent_closed n.parts least gone edge end w) refl refl h
+
 pub step_turns : (arts : Arts) (n : NodeState) (input : Input) (output : Output) (new : NodeState) → NodeStep arts n input output new
     → n.parts.weights.edges ≡ n.fixed.topology.edges → HasRows n.parts.weights → Done n output new
 step_turns arts n (Poll v) output new s same h = go (call_refusal n v) (ap (λ (o : Output). o.effects) s.0) s.1
   where
     done : NodeState
-    done = called n (with_link n v (advanced (link_in n v))) (polled n.fixed n.parts v)
+    done = called n (with_link n v (advanced (link_in n v))) (parts_after n v)
+
+    served : (t : Bool) → Turns n.parts.weights [] (cond t (polled n.fixed n.parts v) n.parts).weights
+    served true = stays n.parts.weights (polled n.fixed n.parts v).weights [] nothing refl refl h
+    served false = plain n [] nothing h
 
     go : (r : Option NodeRefused) → output.effects ≡ (refused_call r (replied (Frame (frame_to arts n v)))).effects → new ≡ kept_or r n done → Done n output new
-    go None e f = by n output new done [] e f (stays n.parts.weights (polled n.fixed n.parts v).weights [] nothing refl refl h)
+    go None e f = by n output new done [] e f (served (is_served n v))
     go (Some refused) e f = by n output new n [] e f (plain n [] nothing h)
 step_turns arts n (Datagram v bytes) output new s same h = go (call_refusal n v) (ap (λ (o : Output). o.effects) s.0) s.1
   where
+    met_at : NodeState
+    met_at = before_document arts n v bytes
+
     done : NodeState
-    done = called n (with_link n v (link_after arts n v bytes)) (handled arts n v bytes).parts
+    done = read_by arts met_at (document_at arts n v bytes)
 
     go : (r : Option NodeRefused) → output.effects ≡ (refused_call r (arrived arts n v bytes)).effects → new ≡ kept_or r n done → Done n output new
     go None e f =
-        let same = greeted_weights n.fixed.epochs (has_risen (link_in n v) (link_after arts n v bytes)) v n.parts in
-        by n output new done (handled arts n v bytes).effects e f
-        (subst (λ (w : WeightState). Turns w (handled arts n v bytes).effects done.parts.weights) same
+        let same = greeted_weights n.fixed.epochs (rises arts n v bytes) v n.parts in
+        let first : Turns n.parts.weights (handled arts n v bytes).effects met_at.parts.weights =
+        subst (λ (w : WeightState). Turns w (handled arts n v bytes).effects met_at.parts.weights) same
         (all_turns arts (arrival_at n v) (parts_met arts n v bytes)
         (pieces_where (reply_at arts n v bytes) (pieces_in n.fixed (sections_in arts n.fixed bytes)))
-        (subst HasRows (sym same) h)))
+        (subst HasRows (sym same) h)) in
+        by n output new done ((handled arts n v bytes).effects ++ document_effects arts met_at (document_at arts n v bytes)) e f
+        (on n.parts.weights met_at.parts.weights done.parts.weights (handled arts n v bytes).effects
+        (document_effects arts met_at (document_at arts n v bytes)) first
+        (reading arts met_at (document_at arts n v bytes) (λ m told. Turns met_at.parts.weights told m.parts.weights) (plain met_at [] nothing first.rows)
+        (λ document d is reads by. adopted_turns met_at d.topology first.rows)))
     go (Some refused) e f = by n output new n [] e f (plain n [] nothing h)
 step_turns arts n (Tick now) output new s same h =
     by n output new (settled_by arts (at_time n now) (due_now n) (signer_refusal n.signer))
@@ -309,6 +337,9 @@ step_turns arts n (TakeRel src) output new s same h = by n output new (after_tak
 step_turns arts n TakePrio output new s same h =
     by n output new (after_take_prio n) (rows.gone 0 whys.Taken (oldest n.parts.prio.inbox)) (ap (λ (o : Output). o.effects) s.0) s.1
     (plain n (rows.gone 0 whys.Taken (oldest n.parts.prio.inbox)) (silent_gone 0 whys.Taken (oldest n.parts.prio.inbox)) h)
+step_turns arts n (Publish document) output new s same h =
+    by n output new (after_publish arts n document) (publish_effects arts n document) (ap (λ (o : Output). o.effects) s.0) s.1
+    (publishing arts n document (λ m told. Turns n.parts.weights told m.parts.weights) (plain n [] nothing h) (λ d reads by. adopted_turns n d.topology h))
 
 -- ---- a life
 
@@ -329,11 +360,9 @@ life_turns arts n (step ∷ steps) last life same h =
 pub weights_of_lives : WeightsOfLives
 weights_of_lives arts f signer keys buffer store steps last good life edge e there =
     let t = f.topology in
-    let first = start t in
     let s = last.parts.weights in
     let told = effects_of_life steps in
     let turns = begins f.epochs life in
-    let here : slice_get s.edges edge ≡ Some e = ap (λ (es : List Edge). slice_get es edge) turns.edges ∙ there in
     let below = ends_differ t.format (ids_of t.nodes) (0, 0) t.edges edge e good.graph.are_edges there in
     let low : row_said s (2 * edge) ≡ last_told edge e.low.0 0 told =
     turns.said edge e.low.0 (2 * edge) (record { joined = e; there = there; placed = low_row edge e })
@@ -341,9 +370,8 @@ weights_of_lives arts f signer keys buffer store steps last good life edge e the
     let high : row_said s (2 * edge + 1) ≡ last_told edge e.high.0 0 told =
     turns.said edge e.high.0 (2 * edge + 1) (record { joined = e; there = there; placed = high_row edge e below })
     ∙ ap (λ (w : ℕ). last_told edge e.high.0 w told) (nothing_held (2 * length t.edges) (2 * edge + 1)) in
-    let least : minimum s edge ≡ e.weight = ap minimum_of here in
-    ap (λ (m : ℕ). max m (max (row_said s (2 * edge)) (row_said s (2 * edge + 1)))) least
-    ∙ ap (λ (m : ℕ). max e.weight (max m (row_said s (2 * edge + 1)))) low ∙ ap (λ (m : ℕ). max e.weight (max (last_told edge e.low.0 0 told) m)) high
+    ap (λ (m : ℕ). max (minimum s edge) (max m (row_said s (2 * edge + 1)))) low
+    ∙ ap (λ (m : ℕ). max (minimum s edge) (max (last_told edge e.low.0 0 told) m)) high
   where
     n : NodeState
     n = booted f signer keys buffer store

@@ -1,5 +1,5 @@
 -- What each step marks of a source, and a life of all of them.
-use Rattle.std.proofs.Common.{Bool, true, false, ◌≡◌, ℕ, zero, suc, ◌==◌, true, false, cond, List, [], ◌∷◌, ◌++◌, length, replicate, Option, Some, None}
+use Rattle.std.proofs.Common.{Bool, true, false, ◌≡◌, ℕ, ◌==◌, true, false, cond, List, [], ◌∷◌, ◌++◌, length, Option, Some, None}
 use Rattle.std.proofs.Common.{refl, sym, ap, subst, ◌∙◌, inl, inr}
 use Rattle.std.specs.Prelude.{fold}
 use Rattle.std.specs.List.{flat_map}
@@ -15,20 +15,24 @@ use Rattle.sp_msg.specs.declared.body.Body.TheVariants as bodies
 use Rattle.sp_msg.specs.declared.kept.Kept.{Kept}
 use Rattle.sp_msg.specs.declared.refused.SendRefused.{SendRefused}
 use Rattle.sp_rules.specs.Answers.{ack_answer, epoch_answer, is_new, prio_answer, rel_answer, weight_answer}
-use Rattle.sp_rules.specs.Arrivals.{arrival_at, greeted, handled, has_risen, link_after, parts_met, pieces_in, pieces_where, reply_at, sections_in}
+use Rattle.sp_rules.specs.Arrivals.{arrival_at, before_document, document_at, greeted, handled, parts_met, pieces_in, pieces_where, read_by, reply_at, rises}
+use Rattle.sp_rules.specs.Arrivals.{sections_in}
 use Rattle.sp_rules.specs.Arts.{Arts}
+use Rattle.sp_rules.specs.Documents.{under_topology}
 use Rattle.sp_rules.specs.Handle.{Arrival, handle, handle_all, heard_where, met, offer_to, reported_where}
 use Rattle.sp_rules.specs.Lives.{are_held, is_dated, judge_epoch, origin_said}
 use Rattle.sp_rules.specs.Link.{advanced}
 use Rattle.sp_rules.specs.Node.{NodeState, announced, booted, call_refusal, called, kept_or, link_in, signed_now, signed_once, with_link}
 use Rattle.sp_rules.specs.Parts.{Parts, is_signed, nodes_of}
 use Rattle.sp_rules.specs.Pieces.{Piece, WeightPiece, PrioAckPiece, PrioPiece, ReportPiece, AckPiece, RelPiece, EpochPiece}
-use Rattle.sp_rules.specs.Polls.{frame_to, polled}
+use Rattle.sp_rules.specs.Polls.{frame_to, is_served, parts_after, polled}
 use Rattle.sp_rules.specs.Prio as prio
 use Rattle.sp_rules.specs.Prio.{PrioState, admit_prio, is_here, is_node, judge_prio, marked, place_of, spread, window_at, window_in, windows_less, windows_with}
 use Rattle.sp_rules.specs.Rel.{RelState, admit_ack, admit_rel, judge_ack_of, judge_rel_of, pushed_in}
-use Rattle.sp_rules.specs.Sends.{own_prio, prio_sent, rel_body, rel_number, rel_refusal, rel_sent, send_prio_refusal, signer_refusal, weight_body, weight_number, weight_refusal, weight_sent}
-use Rattle.sp_rules.specs.Steps.{Input, NodeStep, Output, Poll, Datagram, Tick, SendRel, SendPrio, SetWeight, TakeRel, TakePrio, Frame, accepted, arrived, refused_call, refused_send, replied}
+use Rattle.sp_rules.specs.Sends.{own_prio, prio_sent, rel_body, rel_number, rel_refusal, rel_sent, send_prio_refusal, signer_refusal, weight_body}
+use Rattle.sp_rules.specs.Sends.{weight_number, weight_refusal, weight_sent}
+use Rattle.sp_rules.specs.Steps.{Input, NodeStep, Output, Poll, Datagram, Tick, SendRel, SendPrio, SetWeight, TakeRel, TakePrio, Publish, Frame, accepted}
+use Rattle.sp_rules.specs.Steps.{arrived, refused_call, refused_send, replied}
 use Rattle.sp_rules.specs.Store.{put, said}
 use Rattle.sp_rules.specs.Ticks.{at_time, due_now, settled_by}
 use Rattle.sp_rules.specs.Weights.{WeightState, held}
@@ -41,15 +45,18 @@ use Rattle.sp_rules.specs.declared.prio.PrioJudged.TheVariants as judged
 use Rattle.sp_rules.specs.declared.rel.AckJudged.TheVariants as acks
 use Rattle.sp_rules.specs.declared.rel.RelJudged.TheVariants as rels
 use Rattle.sp_rules.specs.declared.weights.Offer.TheVariants as offers
+use Rattle.sp_topology.specs.declared.topology.Topology.{Topology}
 use Rattle.laws_node.specs.HeldBoots.{IsEpochOf}
 use Rattle.laws_node.specs.LifeLaws.{WindowsOfLives}
 use Rattle.laws_node.specs.Lives.{Life, mark_told, marks_of_life, marks_told, number_of}
 use Rattle.laws_node.specs.Shapes.{Shape}
+use Rattle.laws_node.proofs.Adopting.{publishing, reading}
 use Rattle.laws_node.proofs.Handles.{new_ack, new_prio, new_rel, new_start, new_weight}
 use Rattle.laws_node.proofs.HeldBoots.{new_epoch}
 use Rattle.laws_node.proofs.LifeMarks.{from_empty, mark_on}
 use Rattle.laws_node.proofs.Shapes.{shapes_stay}
-use Rattle.laws_node.proofs.WindowPlaces.{less_here, less_there, long_less, long_with, mark_here, mark_there}
+use Rattle.laws_node.proofs.Tables.{cond_either}
+use Rattle.laws_node.proofs.WindowPlaces.{empty_window, less_here, less_there, long_less, long_with, mark_here, mark_there}
 
 -- ---- what was marked of a source
 
@@ -281,41 +288,44 @@ module _ (src : ℕ) where
   by n input output o new m e f done =
       subst (λ (x : Output). Done n input x new) (sym e) (subst (λ (y : NodeState). Done n input o y) (sym f) done)
 
-  quiet : {R : Type 0} (n done : NodeState) (r : Option R) → done.parts.prio ≡ n.parts.prio → Marks src n.parts.prio [] (kept_or r n done).parts.prio
-  quiet n done (Some x) same = none n.parts.prio n.parts.prio refl refl
-  quiet n done None same = subst (λ (s : PrioState). Marks src n.parts.prio [] s) (sym same) (none n.parts.prio n.parts.prio refl refl)
-
-  no_answers : (r : Option SendRefused) (o : Output) → o.answered ≡ [] → (refused_send r o).answered ≡ []
-  no_answers None o e = e
-  no_answers (Some x) o e = refl
+  -- a document leaves the windows
+  adopted_marks : (n : NodeState) (bytes : List ℕ) (t : Topology) → Marks src n.parts.prio [] (under_topology n bytes t).parts.prio
+  adopted_marks n bytes t = none n.parts.prio (under_topology n bytes t).parts.prio refl refl
 
   step_marks : (arts : Arts) (n : NodeState) (input : Input) (output : Output) (new : NodeState) → NodeStep arts n input output new
       → HasWindows n.parts.prio → is_node n.parts.prio.nodes src ≡ true → Done n input output new
   step_marks arts n (Poll v) output new s h there = by n (Poll v) output _ new _ s.0 s.1 (go (call_refusal n v))
     where
       done : NodeState
-      done = called n (with_link n v (advanced (link_in n v))) (polled n.fixed n.parts v)
+      done = called n (with_link n v (advanced (link_in n v))) (parts_after n v)
 
       go : (r : Option NodeRefused) → Done n (Poll v) (refused_call r (replied (Frame (frame_to arts n v)))) (kept_or r n done)
-      go None = none n.parts.prio (polled n.fixed n.parts v).prio refl refl
+      go None =
+          cond_either (λ (p : Parts). Marks src n.parts.prio [] p.prio) (is_served n v) (polled n.fixed n.parts v) n.parts
+          (none n.parts.prio (polled n.fixed n.parts v).prio refl refl) (none n.parts.prio n.parts.prio refl refl)
       go (Some refused) = none n.parts.prio n.parts.prio refl refl
   step_marks arts n (Datagram v bytes) output new s h there = by n (Datagram v bytes) output _ new _ s.0 s.1 (go (call_refusal n v))
     where
+      left : NodeState
+      left = before_document arts n v bytes
+
       done : NodeState
-      done = called n (with_link n v (link_after arts n v bytes)) (handled arts n v bytes).parts
+      done = read_by arts left (document_at arts n v bytes)
 
       met_at : Parts
       met_at = parts_met arts n v bytes
 
       greeting : Marks src n.parts.prio [] met_at.prio
-      greeting = greeted_marks n.fixed.epochs (has_risen (link_in n v) (link_after arts n v bytes)) v n.parts
+      greeting = greeted_marks n.fixed.epochs (rises arts n v bytes) v n.parts
 
       go : (r : Option NodeRefused) → Done n (Datagram v bytes) (refused_call r (arrived arts n v bytes)) (kept_or r n done)
       go None =
-          subst (λ (xs : List (Option ℕ)). Marks src n.parts.prio xs done.parts.prio) (sym (append-nil (told (handled arts n v bytes).answered)))
-          (on n.parts.prio met_at.prio done.parts.prio [] (told (handled arts n v bytes).answered) greeting
+          on n.parts.prio left.parts.prio done.parts.prio (told (handled arts n v bytes).answered) []
+          (on n.parts.prio met_at.prio left.parts.prio [] (told (handled arts n v bytes).answered) greeting
           (all_pieces arts (arrival_at n v) met_at (pieces_where (reply_at arts n v bytes) (pieces_in n.fixed (sections_in arts n.fixed bytes)))
           (windows_on n.parts.prio met_at.prio [] greeting h) (ap (λ (ns : List NodeId). is_node ns src) greeting.nodes ∙ there)))
+          (reading arts left (document_at arts n v bytes) (λ m caused. Marks src left.parts.prio [] m.parts.prio)
+          (none left.parts.prio left.parts.prio refl refl) (λ document d is reads by. adopted_marks left document d.topology))
       go (Some refused) = none n.parts.prio n.parts.prio refl refl
   step_marks arts n (Tick now) output new s h there = by n (Tick now) output _ new _ s.0 s.1 (go (due_now n) (signer_refusal n.signer))
     where
@@ -349,6 +359,10 @@ module _ (src : ℕ) where
       go (Some refused) = none n.parts.prio n.parts.prio refl refl
   step_marks arts n (TakeRel from) output new s h there = by n (TakeRel from) output _ new _ s.0 s.1 (none n.parts.prio n.parts.prio refl refl)
   step_marks arts n TakePrio output new s h there = by n TakePrio output _ new _ s.0 s.1 (none n.parts.prio (prio.taken n.parts.prio) refl refl)
+  step_marks arts n (Publish document) output new s h there =
+      by n (Publish document) output _ new _ s.0 s.1
+      (publishing arts n document (λ m caused. Marks src n.parts.prio [] m.parts.prio) (none n.parts.prio n.parts.prio refl refl)
+      (λ d reads is. adopted_marks n document d.topology))
 
   -- ---- a life
 
@@ -363,13 +377,6 @@ module _ (src : ℕ) where
       (ap (λ (ns : List NodeId). is_node ns src) one.nodes ∙ there) in
       on n.parts.prio next.parts.prio last.parts.prio (marks_told n.fixed.me.0 src step.0 step.1) (marks_of_life n.fixed.me.0 src steps) one
       (subst (λ (id : ℕ). Marks src next.parts.prio (marks_of_life id src steps) last.parts.prio) me rest)
-
--- a window of which nothing is marked
-empty_window : (count : ℕ) (place : Option ℕ) → window_at (replicate count []) place ≡ []
-empty_window count None = refl
-empty_window zero (Some place) = refl
-empty_window (suc count) (Some zero) = refl
-empty_window (suc count) (Some (suc place)) = empty_window count (Some place)
 
 pub windows_of_lives : WindowsOfLives
 windows_of_lives arts f signer keys buffer store steps last src life there =

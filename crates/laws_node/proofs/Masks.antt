@@ -1,5 +1,6 @@
 -- The mask of an own message names edges alone, so it has room in its field.
-use Rattle.std.proofs.Common.{◌≡◌, ◌<◌, ◌≤◌, ℕ, zero, suc, ◌+◌, ◌*◌, ◌-◌, ◌^◌, ◌/◌, ◌%◌, ◌==◌, Bool, true, false, if◌then◌else◌, List, [], ◌∷◌, length, refl, sym, ap, ◌∙◌, subst, arith}
+use Rattle.std.proofs.Common.{◌≡◌, ◌<◌, ◌≤◌, ℕ, zero, suc, ◌+◌, ◌*◌, ◌-◌, ◌^◌, ◌/◌, ◌%◌, ◌==◌, Bool, true, false, if◌then◌else◌, List, [], ◌∷◌, length, sym, ap}
+use Rattle.std.proofs.Common.{◌∙◌, subst, arith}
 use Rattle.std.proofs.Math.Nat.{pow-suc}
 use Rattle.std.specs.Int.{bit_at}
 use Rattle.std.proofs.lemmas.Bool.Decides.{nat_tests}
@@ -16,7 +17,7 @@ use Rattle.sp_msg.specs.Masks.{HALF, mask_from}
 use Rattle.sp_msg.specs.Views.{names_edge}
 use Rattle.sp_msg.specs.declared.refused.Field.TheVariants as fields
 use Rattle.sp_rules.proofs.MaskLemmas.{none_used}
-use Rattle.sp_rules.specs.Masks.{IsChoice, IsMaskOf, Mask, all_edges, graph_of, is_used, weighed}
+use Rattle.sp_rules.specs.Masks.{IsChoice, IsMaskOf, Mask, is_used, open_edges}
 use Rattle.sp_rules.specs.Weights.{WeightState}
 use Rattle.sp_topology.specs.declared.topology.Edge.{Edge}
 use Rattle.sp_topology.specs.declared.topology.Topology.{Topology}
@@ -57,32 +58,48 @@ no_bit : (n i : ℕ) → names_edge n i ≡ false → bit_at n i ≡ 0
 no_bit n i e = grind (arith, nat_tests, bit_at-lt n i)
 
 -- no edge stands after the last
-past_none : (g : Graph) (paths : List (List NodeId)) (mask : ℕ) → IsMaskOf g paths mask → (i : ℕ) → length g.edges ≤ i → bit_at mask i ≡ 0
-past_none g paths mask is i from =
-    no_bit mask i (is i ∙ ap (is_used paths) (slice_get_past g.edges i from) ∙ none_used paths)
+past_none : (edges : List Edge) (paths : List (List NodeId)) (mask : ℕ) → IsMaskOf edges paths mask → (i : ℕ) → length edges ≤ i → bit_at mask i ≡ 0
+past_none edges paths mask is i from =
+    no_bit mask i (is i ∙ ap (is_used paths) (slice_get_past edges i from) ∙ none_used paths)
 
-length_weighed : (w : WeightState) (place : ℕ) (edges : List Edge) → length (weighed w place edges) ≡ length edges
-length_weighed w place [] = refl
-length_weighed w place (e ∷ edges) = ap suc (length_weighed w (place + 1) edges)
+-- the edges that aren't withdrawn are below the last place
+open_small : (place : ℕ) (weights : List ℕ) → open_edges place weights + 2 ^ place ≤ 2 ^ (place + length weights)
+open_small place [] = let same : place + 0 ≡ place = omega arith in rw same (omega arith)
+open_small place (w ∷ weights) =
+    let rest = open_small (place + 1) weights in
+    let same : place + suc (length weights) ≡ place + 1 + length weights = omega arith in
+    let one : place + 1 ≡ suc place = omega arith in
+    let twice : 2 ^ (place + 1) ≡ 2 ^ place * 2 = ap (λ (k : ℕ). 2 ^ k) one ∙ doubled place in
+    rw same (go (w == 0) rest twice)
+  where
+    go : (t : Bool) → open_edges (place + 1) weights + 2 ^ (place + 1) ≤ 2 ^ (place + 1 + length weights) → 2 ^ (place + 1) ≡ 2 ^ place * 2
+        → (if t then open_edges (place + 1) weights else 2 ^ place + open_edges (place + 1) weights) + 2 ^ place ≤ 2 ^ (place + 1 + length weights)
+    go true rest twice = omega (arith, rest, twice)
+    go false rest twice = omega (arith, rest, twice)
 
 -- the mask that was chosen names no edge behind the last
-pub mask_within : (t : Topology) (w : WeightState) (s d : NodeId) (count mask : ℕ) → IsChoice (graph_of t w) s d count (Mask mask) → mask < 2 ^ length t.edges
-mask_within t w s d count mask is = subst (λ (n : ℕ). mask < 2 ^ n) (length_weighed w 0 t.edges) (go count is)
+pub mask_within : (t : Topology) (w : WeightState) (g : Graph) (s d : NodeId) (count mask : ℕ) → w.edges ≡ t.edges → length w.least ≡ length t.edges
+    → IsChoice w g s d count (Mask mask) → mask < 2 ^ length t.edges
+mask_within t w g s d count mask edges least is = go count is
   where
-    go : (count : ℕ) → IsChoice (graph_of t w) s d count (Mask mask) → mask < 2 ^ length (weighed w 0 t.edges)
+    go : (count : ℕ) → IsChoice w g s d count (Mask mask) → mask < 2 ^ length t.edges
     go zero is =
-        let same : mask ≡ all_edges (weighed w 0 t.edges) = cc in
-        omega (arith, same, positive (length (weighed w 0 t.edges)))
-    go (suc more) is = small mask mask (length (weighed w 0 t.edges)) (below_its_power mask) (past_none (graph_of t w) is.paths mask is.mask_of)
+        let same : mask ≡ open_edges 0 w.least = cc in
+        let few : open_edges 0 w.least + 2 ^ 0 ≤ 2 ^ (0 + length w.least) = open_small 0 w.least in
+        let one : 0 + length w.least ≡ length t.edges = omega (arith, least) in
+        let less : open_edges 0 w.least + 1 ≤ 2 ^ length t.edges = subst (λ (k : ℕ). open_edges 0 w.least + 1 ≤ 2 ^ k) one few in
+        omega (arith, same, less)
+    go (suc more) is =
+        subst (λ (k : ℕ). mask < 2 ^ k) (ap length edges) (small mask mask (length w.edges) (below_its_power mask) (past_none w.edges is.paths mask is.mask_of))
 
 -- so it has room in its field
-mask_small : (t : Topology) (w : WeightState) (s d : NodeId) (count mask most : ℕ) → length t.edges ≤ most
-    → IsChoice (graph_of t w) s d count (Mask mask) → mask < 2 ^ most
-mask_small t w s d count mask most few is =
+mask_small : (t : Topology) (w : WeightState) (g : Graph) (s d : NodeId) (count mask most : ℕ) → length t.edges ≤ most → w.edges ≡ t.edges
+    → length w.least ≡ length t.edges → IsChoice w g s d count (Mask mask) → mask < 2 ^ most
+mask_small t w g s d count mask most few edges least is =
     let more = powers (length t.edges) (most - length t.edges) in
     let same : length t.edges + (most - length t.edges) ≡ most = omega (arith, few) in
     let room : 2 ^ length t.edges ≤ 2 ^ most = subst (λ (n : ℕ). 2 ^ length t.edges ≤ 2 ^ n) same more in
-    omega (arith, mask_within t w s d count mask is, room)
+    omega (arith, mask_within t w g s d count mask edges least is, room)
 
 -- its halves have room in theirs
 halves_small : (format n : ℕ) → n < 2 ^ max_edges format → GoodMask format (mask_from n)
@@ -93,6 +110,7 @@ halves_small format n small = let both = go (format == FORMAT_1) small in record
     go true small = (omega (arith, small), (omega arith, omega (arith, small)))
     go false small = (omega (arith, small), omega arith)
 
-pub good_mask : (format : ℕ) (t : Topology) (w : WeightState) (s d : NodeId) (count mask : ℕ) → length t.edges ≤ max_edges format
-    → IsChoice (graph_of t w) s d count (Mask mask) → GoodMask format (mask_from mask)
-good_mask format t w s d count mask few is = halves_small format mask (mask_small t w s d count mask (max_edges format) few is)
+pub good_mask : (format : ℕ) (t : Topology) (w : WeightState) (g : Graph) (s d : NodeId) (count mask : ℕ) → length t.edges ≤ max_edges format
+    → w.edges ≡ t.edges → length w.least ≡ length t.edges → IsChoice w g s d count (Mask mask) → GoodMask format (mask_from mask)
+good_mask format t w g s d count mask few edges least is =
+    halves_small format mask (mask_small t w g s d count mask (max_edges format) few edges least is)

@@ -1,5 +1,6 @@
 -- What a node signs itself is in its ranges, and is valid.
-use Rattle.std.proofs.Common.{◌≡◌, ◌<◌, ◌≤◌, ℕ, ◌+◌, ◌==◌, ◌||◌, not, nat_lt, Bool, true, false, List, length, Option, Some, None, Result, Ok, Err, refl, sym}
+use Rattle.std.proofs.Common.{◌≡◌, ◌<◌, ◌≤◌, ℕ, ◌+◌, ◌==◌, ◌||◌, not, nat_lt, ◌&&◌, Bool, true, false, List, length, Option, Some, None, Result, Ok, Err, refl}
+use Rattle.std.proofs.Common.{sym}
 use Rattle.std.proofs.Common.{ap, ◌∙◌, subst, arith, cond}
 use Rattle.std.specs.Prelude.{IsTrue}
 use Rattle.std.proofs.lemmas.Bool.Decides.{nat_tests}
@@ -22,11 +23,12 @@ use Rattle.sp_rules.specs.Arts.{Arts}
 use Rattle.sp_rules.specs.Masks.{Choice, IsChoice, Mask, OnlyPaths, graph_of}
 use Rattle.sp_rules.specs.Node.{NodeState, Signer, signed_now}
 use Rattle.sp_rules.specs.Parts.{edge_to, is_signed, is_signed_by}
-use Rattle.sp_rules.specs.Prio.{is_node}
-use Rattle.sp_rules.specs.Rel.{IsNextOwn, flow_in, own_flow, room}
+use Rattle.sp_rules.specs.Prio.{PrioState, is_node, is_there}
+use Rattle.sp_rules.specs.Rel as rel
+use Rattle.sp_rules.specs.Rel.{IsNextOwn, RelState, flow_in, own_flow, room}
 use Rattle.sp_rules.specs.Sends.{PrioSend, edge_or, is_unmet, mask_in, no_life, no_paths, no_room, prio_body, prio_of, prio_refusal, rel_body, rel_of}
 use Rattle.sp_rules.specs.Sends.{rel_refusal, send_prio_refusal, signer_refusal, weight_body, weight_refusal, weight_refusal_at}
-use Rattle.sp_rules.specs.Weights.{minimum, next_seq, row_for, row_in}
+use Rattle.sp_rules.specs.Weights.{is_withdrawn, minimum, next_seq, row_for, row_in}
 use Rattle.sp_rules.specs.declared.rel.RelRefused.{RelRefused}
 use Rattle.sp_rules.specs.declared.rel.RelRefused.TheVariants as rels
 use Rattle.sp_rules.specs.declared.weights.TheConstants.{MAX_OWN_HEARD}
@@ -84,6 +86,18 @@ own_is_signed arts n body arts_fit left mine =
     is_valid key is = subst (λ (o : Option (List ℕ)). IsTrue (is_signed_by arts o (arts.spell body) (signed_now arts n body).signature)) (sym is)
         (arts_fit.valid n.signer.index (arts.spell body) left)
 
+-- who isn't removed is a node
+
+both_true : (a b : Bool) → (a && b) ≡ true → a ≡ true
+both_true true b e = refl
+both_true false b e = absurd (cc)
+
+pub listed : (r : RelState) (u : NodeId) → rel.is_node r u ≡ true → rel.is_one_of r.nodes u ≡ true
+listed r u e = both_true (rel.is_one_of r.nodes u) (not (rel.is_one_of r.removed u)) e
+
+pub listed_prio : (p : PrioState) (id : ℕ) → is_there p id ≡ true → is_node p.nodes id ≡ true
+listed_prio p id e = both_true (is_node p.nodes id) (not (is_node p.removed id)) e
+
 -- ---- a reliable message
 
 pub there_is_room : (r : Result ℕ RelRefused) → no_room r ≡ None → (number : ℕ) × (r ≡ Ok number)
@@ -113,8 +127,8 @@ rel_sent_fits k n dst payload short e h =
     let facts = room_is r dst number.0 number.1 in
     let nodes = both_nodes r (own_flow r dst) r.me dst facts.0 in
     let me_too : r.me ≡ n.fixed.me = h.parts.rel.me ∙ sym h.fixed.me in
-    let to = in_range k.format r.nodes dst h.parts.rel.nodes nodes.1 in
-    let from = in_range k.format r.nodes r.me h.parts.rel.nodes nodes.0 in
+    let to = in_range k.format r.nodes dst h.parts.rel.nodes (listed r dst nodes.1) in
+    let from = in_range k.format r.nodes r.me h.parts.rel.nodes (listed r r.me nodes.0) in
     let f = flow_in r.flows (own_flow r dst) in
     let there = read k n.signer.index r.flows (own_flow r dst) from to h.parts.rel.flows in
     let same : f.src.0 ≡ k.me.0 = ap (λ (e : Flow). e.src.0) (found_ends r.flows (own_flow r dst)) ∙ ap (λ (u : NodeId). u.0) h.parts.rel.me in
@@ -141,41 +155,45 @@ pub record PrioSent (k : Sizes) (n : NodeState) (m : PrioSend) (choice : Choice)
   pub free : signer_refusal n.signer ≡ None
   pub fields : HasGoodFieldsIn k.format (prio_body n m (mask_in choice))
 
-pub split : (a b : Bool) → (a || not b) ≡ false → b ≡ true
-split true b e = absurd (cc)
-split false true e = refl
-split false false e = absurd (cc)
+split : (a b c d : Bool) → (a || not b || not c || d) ≡ false → (b ≡ true) × (c ≡ true)
+split true b c d e = absurd (cc)
+split false true true d e = (refl, refl)
+split false true false d e = absurd (cc)
+split false false c d e = absurd (cc)
 
-left_false : (a b : Bool) → (a || b) ≡ false → a ≡ false
-left_false false b e = refl
-left_false true b e = absurd (cc)
+pub record PrioFree (n : NodeState) (m : PrioSend) : Type 0 where
+  pub dst : is_there n.parts.prio m.dst.0 ≡ true
+  pub me : is_there n.parts.prio n.fixed.me.0 ≡ true
+  pub free : signer_refusal n.signer ≡ None
 
--- the destination is a node, the message isn't expired, and the signer goes on
-pub prio_free : (n : NodeState) (m : PrioSend) → prio_refusal n m ≡ None
-    → (is_node n.parts.prio.nodes m.dst.0 ≡ true) × (signer_refusal n.signer ≡ None)
+-- both ends are nodes that aren't removed, the message isn't expired, and the signer goes on
+pub prio_free : (n : NodeState) (m : PrioSend) → prio_refusal n m ≡ None → PrioFree n m
 prio_free n m e =
+    let s = n.parts.prio in
     let away = m.dst.0 == n.fixed.me.0 in
-    let there = is_node n.parts.prio.nodes m.dst.0 in
-    let one = if_none (away || not there || is_unmet n m.dst) refusals.BadEnd _ e in
+    let one = if_none (away || not (is_there s m.dst.0) || not (is_there s n.fixed.me.0) || is_unmet n m.dst) refusals.BadEnd _ e in
     let two = if_none (nat_lt m.expiry n.now) (refusals.Expired n.now) (signer_refusal n.signer) one.1 in
-    (split away there (left_false (away || not there) (is_unmet n m.dst) one.0), two.1)
+    let there = split away (is_there s m.dst.0) (is_there s n.fixed.me.0) (is_unmet n m.dst) one.0 in
+    record { dst = there.0; me = there.1; free = two.1 }
 
 mask_fits : (k : Sizes) (n : NodeState) (m : PrioSend) (choice : Choice) → no_paths choice ≡ None → NodeHolds k n
-    → IsChoice (graph_of n.fixed.topology n.parts.weights) n.fixed.me m.dst m.paths choice → GoodMask k.format (mask_from (mask_in choice))
+    → IsChoice n.parts.weights (graph_of n.fixed.topology n.parts.weights) n.fixed.me m.dst m.paths choice
+    → GoodMask k.format (mask_from (mask_in choice))
 mask_fits k n m (Mask mask) e h is =
-    good_mask k.format n.fixed.topology n.parts.weights n.fixed.me m.dst m.paths mask
-    (subst (λ (f : ℕ). length n.fixed.topology.edges ≤ max_edges f) h.fixed.format h.fixed.topology.ranges.graph.edge_count) is
+    good_mask k.format n.fixed.topology n.parts.weights (graph_of n.fixed.topology n.parts.weights) n.fixed.me m.dst m.paths mask
+    (subst (λ (f : ℕ). length n.fixed.topology.edges ≤ max_edges f) h.fixed.format h.fixed.topology.ranges.graph.edge_count)
+    (h.parts.weights.edges ∙ sym h.fixed.edges) (h.parts.weights.least ∙ ap length (sym h.fixed.edges)) is
 mask_fits k n m (OnlyPaths found) e h is = absurd (cc)
 
 pub prio_sent_fits : (k : Sizes) (n : NodeState) (m : PrioSend) (choice : Choice) → PrioSendFits m → send_prio_refusal n m choice ≡ None
-    → IsChoice (graph_of n.fixed.topology n.parts.weights) n.fixed.me m.dst m.paths choice → NodeHolds k n → PrioSent k n m choice
+    → IsChoice n.parts.weights (graph_of n.fixed.topology n.parts.weights) n.fixed.me m.dst m.paths choice → NodeHolds k n → PrioSent k n m choice
 prio_sent_fits k n m choice fits e is h =
     let both = either (prio_refusal n m) (no_paths choice) e in
     let can = prio_free n m both.0 in
-    let to = in_range k.format n.parts.prio.nodes m.dst h.parts.prio.nodes can.0 in
+    let to = in_range k.format n.parts.prio.nodes m.dst h.parts.prio.nodes (listed_prio n.parts.prio m.dst.0 can.dst) in
     let mask = mask_fits k n m choice both.1 h is in
     record {
-      free = can.1;
+      free = can.free;
       fields = prio_is_good k.format (prio_of n m (mask_in choice)) (record {
         src = h.fixed.is_node;
         dst = to;
@@ -226,5 +244,6 @@ weight_sent_fits k n v weight least most e h = go (edge_to n.fixed v) refl e
     go : (o : Option ℕ) → edge_to n.fixed v ≡ o → weight_refusal_at n o weight ≡ None → WeightSent k n v weight
     go None is e = absurd (cc)
     go (Some edge) is e =
-        let low = if_none (nat_lt weight (minimum n.parts.weights edge)) (refusals.Low (minimum n.parts.weights edge)) (signer_refusal n.signer) e in
+        let usable = if_none (is_withdrawn n.parts.weights edge) refusals.BadEnd _ e in
+        let low = if_none (nat_lt weight (minimum n.parts.weights edge)) (refusals.Low (minimum n.parts.weights edge)) (signer_refusal n.signer) usable.1 in
         at edge is low.1

@@ -1,5 +1,6 @@
 -- What each change of the priority part keeps.
-use Rattle.std.proofs.Common.{◌≡◌, ◌<◌, ◌≤◌, ℕ, zero, suc, ◌+◌, ◌-◌, ◌^◌, not, List, [], ◌∷◌, length, map, Option, Some, None, sym, subst, arith, nat_lt, length-append, length-drop}
+use Rattle.std.proofs.Common.{◌≡◌, ◌<◌, ◌≤◌, ℕ, zero, suc, ◌+◌, ◌-◌, ◌^◌, not, List, [], ◌∷◌, length, map, Option, Some, None, sym, subst, arith, nat_lt}
+use Rattle.std.proofs.Common.{length-append, length-drop}
 use Rattle.std.specs.List.{All}
 use Rattle.std.proofs.lemmas.Bool.Decides.{nat_tests}
 use Rattle.std.proofs.lemmas.List.Elements.{All-cons, All-head, All-nil, All-tail}
@@ -11,7 +12,8 @@ use Rattle.sp_msg.specs.Bodies.{HasGoodFieldsIn}
 use Rattle.sp_msg.specs.declared.body.Body.{Body}
 use Rattle.sp_msg.specs.declared.body.Body.TheVariants as bodies
 use Rattle.sp_msg.specs.declared.kept.Kept.{Kept}
-use Rattle.sp_rules.specs.Prio.{PrioState, acked, admit_prio, carried, expired, heard, is_here, is_peer, marked, next_after_own, no_peer, peer_in, spread, taken, with_peer}
+use Rattle.sp_rules.specs.Prio.{PrioState, acked, admit_prio, carried, expired, heard, is_here, is_peer, marked, next_after_own, no_peer, peer_in, spread}
+use Rattle.sp_rules.specs.Prio.{taken, with_peer}
 use Rattle.sp_rules.specs.PrioPeer as rows
 use Rattle.sp_rules.specs.PrioPeer.{PrioPeer, filled, given, goes_to, landed, lands, launch, launched, less_all, settled, waits}
 use Rattle.sp_rules.specs.Store.{Store, arriving, evicted, has_id, is_expired, less_expired, less_oldest, next_besides, put, removed, said, victim, without}

@@ -1,5 +1,6 @@
 -- What each change of the reliable part keeps.
-use Rattle.std.proofs.Common.{◌≡◌, ◌<◌, ◌≤◌, ℕ, zero, suc, ◌+◌, ◌==◌, ◌&&◌, nat_lt, Bool, true, false, List, [], ◌∷◌, map, Option, Some, None, refl, sym, ap, ◌∙◌, subst, arith}
+use Rattle.std.proofs.Common.{◌≡◌, ◌<◌, ◌≤◌, ℕ, zero, suc, ◌+◌, ◌==◌, ◌&&◌, nat_lt, Bool, true, false, List, [], ◌∷◌, map, Option, Some, None, refl, sym, ap}
+use Rattle.std.proofs.Common.{◌∙◌, subst, arith}
 use Rattle.std.specs.List.{All, AllPairs, list_any, slice_get}
 use Rattle.std.specs.Option.{option_and_then, option_map}
 use Rattle.std.proofs.lemmas.Bool.Decides.{nat_tests}
@@ -20,7 +21,9 @@ use Rattle.sp_rules.proofs.FlowDue.{can_conclude, is_due_at}
 use Rattle.sp_rules.proofs.FlowJudged.{can_acknowledge, can_push, can_push_own, can_receive, found_ends, new_ack, new_rel, same_ends, same_flow}
 use Rattle.sp_rules.specs.Changes.{CanAcknowledge, CanConclude, CanPush, CanReceive}
 use Rattle.sp_rules.specs.Flow.{FlowState, IsReliable, IsStanding, ends, flow_said, concluded, is_flow, number_said, pushed, received}
-use Rattle.sp_rules.specs.Rel.{AreStanding, IsNextOwn, RelPeer, RelState, ack_of, admit_ack, admit_rel, due, due_place, flow_at, flow_in, flow_to_me, is_from, is_to, judge_ack_of, judge_rel, judge_rel_of, next_place, plain, undated, pushed_in, put_flow, reported, served, served_at, settled, settled_at, took, told, with_flow, with_peer, peer_in}
+use Rattle.sp_rules.specs.Rel.{AreStanding, IsNextOwn, RelPeer, RelState, ack_of, admit_ack, admit_rel, due, due_place, flow_at, flow_in, flow_to_me, is_from}
+use Rattle.sp_rules.specs.Rel.{is_to, judge_ack_of, judge_rel, judge_rel_of, next_place, plain, undated, pushed_in, put_flow, reported, served, served_at}
+use Rattle.sp_rules.specs.Rel.{settled, settled_at, took, told, with_flow, with_peer, peer_in}
 use Rattle.sp_rules.specs.Lives.{held_boot}
 use Rattle.sp_rules.specs.Node.{NodeState}
 use Rattle.sp_rules.specs.Ticks.{dated, due_now}
@@ -387,3 +390,15 @@ due_now_fits {index = index} k n ack e h =
           (facts.fields (held_boot n.parts.lives d.raw.src) (held_boot n.parts.lives d.raw.dst) (boot_fits k n.parts.lives d.raw.src h.lives)
           (boot_fits k n.parts.lives d.raw.dst h.lives));
     }
+
+-- its flow is active
+pub due_now_active : {numbers ids index : ℕ} (k : Sizes) (n : NodeState) (ack : Ack) → due_now n ≡ Some ack → PartsHold k numbers ids index n.parts
+    → (flow_in n.parts.rel.flows (flow_said (bodies.Ack ack))).active ≡ true
+due_now_active {index = index} k n ack e h =
+    let d = dated_due n ack e in
+    let r = n.parts.rel in
+    let fits = due_now_fits k n ack e h in
+    let due_body : option_map bodies.Ack (due r) ≡ Some (plain (bodies.Ack ack)) =
+    ap (option_map bodies.Ack) d.is_due ∙ ap (λ (a : Ack). Some (bodies.Ack a)) (undated_due r d.raw d.is_due)
+    ∙ ap (λ (a : Ack). Some (plain (bodies.Ack a))) (sym d.is) in
+    (can_conclude r (bodies.Ack ack) due_body (k.format, fits.fields) (are_standing k index r h.rel)).active

@@ -9,39 +9,47 @@ use Rattle.sp_msg.specs.declared.body.Ack.{Ack}
 use Rattle.sp_msg.specs.declared.body.Body.TheVariants as bodies
 use Rattle.sp_msg.specs.declared.kept.Kept.{Kept}
 use Rattle.sp_msg.specs.declared.refused.SendRefused.{SendRefused}
-use Rattle.sp_rules.specs.Arrivals.{arrival_at, greeted, handled, has_risen, link_after, parts_met, pieces_in, pieces_where, reply_at, sections_in}
+use Rattle.sp_rules.specs.Arrivals.{arrival_at, before_document, document_at, greeted, handled, is_told, link_after, parts_met, pieces_in, pieces_where}
+use Rattle.sp_rules.specs.Arrivals.{read_by, reply_at, rises, sections_in, version_after}
 use Rattle.sp_rules.specs.Answers.{ack_answer, epoch_answer, is_new, prio_answer, rel_answer, weight_answer}
 use Rattle.sp_rules.specs.Arts.{Arts}
 use Rattle.sp_rules.specs.declared.answers.Item.TheVariants as items
+use Rattle.sp_rules.specs.Documents.{under_topology}
 use Rattle.sp_rules.specs.Flow.{after_take, ends, flow_said, no_flow, pushed}
 use Rattle.sp_rules.specs.Handle.{Arrival, handle, handle_all, heard_where, met, offer_to}
 use Rattle.sp_rules.specs.Link.{Link, advanced}
 use Rattle.sp_rules.specs.Node.{announced, own_epoch, NodeState, booted, call_refusal, called, kept_or, link_in, link_of, signed_now, signed_once, with_link}
-use Rattle.sp_rules.specs.Parts.{Parts, as_neighbour, empty_parts, is_signed, neighbours_of, nodes_of, place_of}
+use Rattle.sp_rules.specs.Parts as parts
+use Rattle.sp_rules.specs.Parts.{Parts, as_neighbour, bare_parts, empty_parts, is_signed, neighbours_of, nodes_of, place_of}
 use Rattle.sp_rules.specs.Pieces.{Piece, WeightPiece, PrioAckPiece, PrioPiece, ReportPiece, AckPiece, RelPiece, EpochPiece}
-use Rattle.sp_rules.specs.Polls.{polled}
+use Rattle.sp_rules.specs.Polls.{is_served, parts_after, polled}
 use Rattle.sp_rules.specs.Prio as prio
 use Rattle.sp_rules.specs.Prio.{PrioState}
 use Rattle.sp_rules.specs.PrioPeer as rows
 use Rattle.sp_rules.specs.Rel as rel
 use Rattle.sp_rules.specs.Rel.{RelState}
 use Rattle.sp_rules.specs.Sends.{own_prio, rel_body, rel_refusal, send_prio_refusal, signer_refusal, weight_body, weight_refusal}
-use Rattle.sp_rules.specs.Steps.{Poll, Datagram, Tick, SendRel, SendPrio, SetWeight, TakeRel, TakePrio}
+use Rattle.sp_rules.specs.Steps.{Poll, Datagram, Tick, SendRel, SendPrio, SetWeight, TakeRel, TakePrio, Publish}
 use Rattle.sp_rules.specs.Lives as lives
 use Rattle.sp_rules.specs.Lives.{are_held, is_dated, is_life, judge_epoch, no_life, origin_said}
 use Rattle.sp_rules.specs.declared.lives.Life.{Life}
 use Rattle.sp_rules.specs.Ticks.{due_now, at_time, settled_by, time_after}
+use Rattle.sp_rules.specs.Topologies.{removed_of, weights_in}
+use Rattle.sp_rules.specs.Versions.{Heard, is_heard_of, none_heard, with_version}
 use Rattle.sp_rules.specs.Weights as weights
 use Rattle.sp_rules.specs.Weights.{WeightState}
 use Rattle.sp_rules.specs.declared.answers.PrioAnswer.{PrioAnswer}
 use Rattle.sp_rules.specs.declared.answers.PrioAnswer.TheVariants as prios
 use Rattle.sp_rules.specs.declared.prio.Neighbour.{Neighbour}
+use Rattle.sp_topology.specs.declared.topology.Topology.{Topology}
+use Rattle.laws_node.proofs.Adopting.{publishing, reading}
 use Rattle.laws_node.proofs.Restarts.{blank_shape, restarted_shape}
 use Rattle.laws_node.specs.Shapes.{LinkShape, PeerShape, PrioShape, RelPeerShape, RelShape, Shape, ShapesBegin, ShapesStart, ShapesStay, WeightShape}
 use Rattle.laws_node.specs.Shapes.{link_shape, peer_shape, prio_shape, rel_peer_shape, rel_shape, shape_at_start, shape_of, view_ends, weight_shape}
 use Rattle.laws_node.proofs.RowShapes.{acked_shape, acknowledged_shape, admitted_shape, carried_shape, cycles_length, expired_shape, held_shape, links_arrived}
 use Rattle.laws_node.proofs.RowShapes.{links_polled, moved_shape, new_rel_shape, one_flow, one_peer, one_rel_peer, rel_peer_with, replace_keyed, reported_shape}
-use Rattle.laws_node.proofs.RowShapes.{same_node, served_by, set_length, settled_shape, weight_with, with_windows}
+use Rattle.laws_node.proofs.RowShapes.{each_same, same_node, served_by, set_length, settled_shape, weight_with, with_windows}
+use Rattle.laws_node.proofs.Withdrawals.{ends_closed}
 
 -- ---- parts
 
@@ -116,13 +124,13 @@ either : (t : Bool) (new old : Parts) → parts_shape new ≡ parts_shape old �
 either true new old e = e
 either false new old e = refl
 
-heard_shape : (answer : PrioAnswer) (v : NodeId) (number : ℕ) (p : Parts) → parts_shape (heard_where answer v number p) ≡ parts_shape p
-heard_shape prios.New v number p = of_prio p (prio.heard p.prio v.0 number) (one_peer p.prio v.0 (λ q. rows.heard q number) (λ q. refl))
-heard_shape prios.Seen v number p = of_prio p (prio.heard p.prio v.0 number) (one_peer p.prio v.0 (λ q. rows.heard q number) (λ q. refl))
-heard_shape prios.BadEnd v number p = refl
-heard_shape prios.Expired v number p = refl
-heard_shape prios.BadSig v number p = refl
-heard_shape prios.Epoch v number p = refl
+marked_shape : (answer : PrioAnswer) (v : NodeId) (number : ℕ) (p : Parts) → parts_shape (heard_where answer v number p) ≡ parts_shape p
+marked_shape prios.New v number p = of_prio p (prio.heard p.prio v.0 number) (one_peer p.prio v.0 (λ q. rows.heard q number) (λ q. refl))
+marked_shape prios.Seen v number p = of_prio p (prio.heard p.prio v.0 number) (one_peer p.prio v.0 (λ q. rows.heard q number) (λ q. refl))
+marked_shape prios.BadEnd v number p = refl
+marked_shape prios.Expired v number p = refl
+marked_shape prios.BadSig v number p = refl
+marked_shape prios.Epoch v number p = refl
 
 piece_shape : (arts : Arts) (at : Arrival) (p : Parts) (piece : Piece) → parts_shape (handle arts at p piece).parts ≡ parts_shape p
 piece_shape arts at p (WeightPiece o) =
@@ -131,7 +139,7 @@ piece_shape arts at p (PrioAckPiece number) = of_prio p (prio.acked p.prio at.fr
 piece_shape arts at p (PrioPiece number o) =
     let answer = prio_answer (is_signed arts at.fixed o) (is_dated p.lives o.body) (prio.judge_prio p.prio o.body at.now) in
     let admitted = record p { prio = prio.admit_prio p.prio o (Some at.from) } in
-    heard_shape answer at.from number (cond (is_new (items.Prio answer)) admitted p)
+    marked_shape answer at.from number (cond (is_new (items.Prio answer)) admitted p)
     ∙ either (is_new (items.Prio answer)) admitted p (of_prio p (prio.admit_prio p.prio o (Some at.from)) (admitted_shape p.prio o (Some at.from)))
 piece_shape arts at p (ReportPiece flow sboot dboot base have) =
     either (are_held p.lives flow sboot dboot) (record p { rel = rel.reported p.rel at.from flow base have }) p
@@ -149,15 +157,20 @@ pieces_shape arts at p (piece ∷ pieces) = pieces_shape arts at (handle arts at
 
 -- ---- a node
 
--- the shape of a node from those of its links and its parts
-abbrev node_shape : (n : NodeState) (ls : List LinkShape) (p : PartsShape) → Shape
-node_shape n ls p =
+-- whose versions are kept
+abbrev heard_of : List Heard → List NodeId
+heard_of hs = map (λ h. h.peer) hs
+
+-- the shape of a node from those of what it heard, its links and its parts
+abbrev node_shape : (n : NodeState) (hs : List NodeId) (ls : List LinkShape) (p : PartsShape) → Shape
+node_shape n hs ls p =
     record {
       fixed = n.fixed;
       seed = n.signer.seed;
       bound = n.signer.bound;
       total = n.signer.total;
       links = ls;
+      heard = hs;
       weights = p.weights;
       prio = p.prio;
       rel = p.rel;
@@ -166,8 +179,15 @@ node_shape n ls p =
     }
 
 done : (n : NodeState) (ls : List Link) (p : Parts) → map link_shape ls ≡ map link_shape n.links → parts_shape p ≡ parts_shape n.parts
-    → node_shape n (map link_shape ls) (parts_shape p) ≡ shape_of n
-done n ls p links parts = ap₂ (λ (xs : List LinkShape) (q : PartsShape). node_shape n xs q) links parts
+    → node_shape n (heard_of n.heard) (map link_shape ls) (parts_shape p) ≡ shape_of n
+done n ls p links parts = ap₂ (λ (xs : List LinkShape) (q : PartsShape). node_shape n (heard_of n.heard) xs q) links parts
+
+-- a version is kept in the row of its neighbour
+heard_shape : (told : Bool) (hs : List Heard) (v : NodeId) (version : ℕ) → heard_of (cond told (with_version hs v version) hs) ≡ heard_of hs
+heard_shape false hs v version = refl
+heard_shape true hs v version =
+    replace_keyed (λ (h : Heard). h.peer) (is_heard_of v) (record { peer = v; version = version })
+    (λ h is. same_node v h.peer (grind (arith, nat_tests, is))) hs
 
 or_kept : {R : Type 0} (r : Option R) (old new : NodeState) → shape_of new ≡ shape_of old → shape_of (kept_or r old new) ≡ shape_of old
 or_kept (Some x) old new e = refl
@@ -180,9 +200,23 @@ settled_node arts n (Some ack) None =
     let o = signed_now arts n (bodies.Ack ack) in
     done n n.links (record n.parts { rel = rel.settled n.parts.rel o }) refl (of_rel n.parts (rel.settled n.parts.rel o) (settled_shape n.parts.rel o (rel.due_place n.parts.rel)))
 
--- a node of which this part alone changed, with its links and its signer's index
-pub shapes_stay : ShapesStay
-shapes_stay arts n (Poll v) output new s =
+-- ---- another version of the topology
+
+closed_shape : (p : Parts) (least : List ℕ) (gone : List NodeId) → parts_shape (parts.closed p least gone) ≡ parts_shape p
+closed_shape p least gone =
+    ap₂ (λ (ps : List PeerShape) (fs : List Flow). parts_with (lives_shape p) (weight_shape p.weights)
+    (record { me = p.prio.me; nodes = p.prio.nodes; inbox = p.prio.inbox.capacity; peers = ps; windows = length p.prio.windows })
+    (record { me = p.rel.me; nodes = p.rel.nodes; bound = p.rel.bound; flows = fs; peers = map rel_peer_shape p.rel.peers }))
+    (each_same peer_shape (rows.closed least gone) (λ q. refl) p.prio.peers) (ends_closed gone p.rel.flows)
+
+adopted_shape : (n : NodeState) (bytes : List ℕ) (t : Topology) → shape_of (under_topology n bytes t) ≡ shape_of n
+adopted_shape n bytes t = done n n.links (under_topology n bytes t).parts refl (closed_shape n.parts (weights_in t.edges) (removed_of (nodes_of t) t.edges))
+
+-- ---- each step
+
+served_parts : (n : NodeState) (v : NodeId) (t : Bool) → parts_shape (cond t (polled n.fixed n.parts v) n.parts) ≡ parts_shape n.parts
+served_parts n v false = refl
+served_parts n v true =
     let w = weights.moved n.parts.weights (place_of n.fixed v) in
     let q = prio.carried n.parts.prio v.0 in
     let one : Parts = record n.parts { weights = w } in
@@ -190,19 +224,30 @@ shapes_stay arts n (Poll v) output new s =
     let r = rel.served n.parts.rel v in
     let three : Parts = record two { rel = r } in
     let os = lives.moved n.parts.lives n.parts.origins (place_of n.fixed v) in
-    let ls = with_link n v (advanced (link_in n v)) in
-    ap shape_of s.1 ∙ or_kept (call_refusal n v) n (called n ls (polled n.fixed n.parts v)) (done n ls (polled n.fixed n.parts v) (links_polled n v)
-    (of_origins three os (cycles_length n.parts.origins (place_of n.fixed v) (lives.next_row n.parts.lives n.parts.origins (place_of n.fixed v)))
+    of_origins three os (cycles_length n.parts.origins (place_of n.fixed v) (lives.next_row n.parts.lives n.parts.origins (place_of n.fixed v)))
     ∙ (of_rel two r (served_by n.parts.rel v (rel.next_place n.parts.rel v))
     ∙ (of_prio one q (one_peer n.parts.prio v.0 rows.carried carried_shape)
-    ∙ of_weights n.parts w (moved_shape n.parts.weights (place_of n.fixed v))))))
+    ∙ of_weights n.parts w (moved_shape n.parts.weights (place_of n.fixed v))))
+
+-- a node of which this part alone changed, with its links and its signer's index
+pub shapes_stay : ShapesStay
+shapes_stay arts n (Poll v) output new s =
+    let ls = with_link n v (advanced (link_in n v)) in
+    ap shape_of s.1 ∙ or_kept (call_refusal n v) n (called n ls (parts_after n v))
+    (done n ls (parts_after n v) (links_polled n v) (served_parts n v (is_served n v)))
 shapes_stay arts n (Datagram v bytes) output new s =
     let pieces = pieces_where (reply_at arts n v bytes) (pieces_in n.fixed (sections_in arts n.fixed bytes)) in
     let p = (handled arts n v bytes).parts in
     let ls = with_link n v (link_after arts n v bytes) in
-    ap shape_of s.1 ∙ or_kept (call_refusal n v) n (called n ls p) (done n ls p (links_arrived arts n v bytes)
-    (pieces_shape arts (arrival_at n v) (parts_met arts n v bytes) pieces
-    ∙ greeted_shape n.fixed.epochs (has_risen (link_in n v) (link_after arts n v bytes)) v n.parts))
+    let left = before_document arts n v bytes in
+    let heard = heard_shape (is_told arts n v bytes) n.heard v (version_after arts n v bytes) in
+    let first : shape_of left ≡ shape_of n =
+    ap (λ (hs : List NodeId). node_shape n hs (map link_shape ls) (parts_shape p)) heard
+    ∙ done n ls p (links_arrived arts n v bytes) (pieces_shape arts (arrival_at n v) (parts_met arts n v bytes) pieces
+    ∙ greeted_shape n.fixed.epochs (rises arts n v bytes) v n.parts) in
+    ap shape_of s.1 ∙ or_kept (call_refusal n v) n (read_by arts left (document_at arts n v bytes))
+    (reading arts left (document_at arts n v bytes) (λ m told. shape_of m ≡ shape_of left) refl
+    (λ document d is reads by. adopted_shape left document d.topology) ∙ first)
 shapes_stay arts n (Tick now) output new s =
     let m = at_time n now in
     ap shape_of s.1 ∙ (settled_node arts m (due_now n) (signer_refusal n.signer)
@@ -227,6 +272,8 @@ shapes_stay arts n (TakeRel src) output new s =
     let p : Parts = record n.parts { rel = r } in
     ap shape_of s.1 ∙ done n n.links p refl (of_rel n.parts r (one_flow n.parts.rel (rel.flow_to_me n.parts.rel src) after_take (λ f. refl)))
 shapes_stay arts n TakePrio output new s = ap shape_of s.1
+shapes_stay arts n (Publish document) output new s =
+    ap shape_of s.1 ∙ publishing arts n document (λ m told. shape_of m ≡ shape_of n) refl (λ d reads by. adopted_shape n document d.topology)
 
 -- ---- the start of a life
 
@@ -270,13 +317,18 @@ shapes_begin f signer keys buffer store =
     ap₂ (λ (fs : List Flow) (ps : List RelPeerShape). record { me = f.me; nodes = nodes; bound = buffer; flows = fs; peers = ps })
     (same_flows (rel.pairs_of nodes)) peers in
     let rows : map (λ l. l.node) (map no_life nodes) ≡ nodes = same_lives nodes in
-    let known : lives_shape (empty_parts f buffer store) ≡ (record { nodes = nodes; origins = length t.nodes }) =
+    let known : lives_shape (bare_parts f buffer store) ≡ (record { nodes = nodes; origins = length t.nodes }) =
     ap₂ (λ (us : List NodeId) (c : ℕ). record { nodes = us; origins = c }) rows (length-replicate (length t.nodes) None) in
     let parts : parts_shape (empty_parts f buffer store) ≡ parts_with (record { nodes = nodes; origins = length t.nodes }) start.weights start.prio start.rel =
-    ap₂ (λ (ls : LivesShape) (w : WeightShape). parts_with ls w (prio_shape (empty_parts f buffer store).prio) (rel_shape (empty_parts f buffer store).rel))
+    closed_shape (bare_parts f buffer store) (weights_in t.edges) (removed_of nodes t.edges)
+    ∙ ap₂ (λ (ls : LivesShape) (w : WeightShape). parts_with ls w (prio_shape (bare_parts f buffer store).prio) (rel_shape (bare_parts f buffer store).rel))
     known updates
     ∙ ap₂ (λ (s : PrioShape) (r : RelShape). parts_with (record { nodes = nodes; origins = length t.nodes }) start.weights s r) urgent reliable in
-    ap₂ (λ (ls : List LinkShape) (p : PartsShape). node_shape (booted f signer keys buffer store) ls p) links parts
+    let heard : heard_of (booted f signer keys buffer store).heard ≡ start.heard =
+    fused (λ (h : Heard). h.peer) (λ n. none_heard n.0) (λ n. n.0) (λ n. refl {a = n.0}) ns in
+    ap (λ (hs : List NodeId). node_shape (booted f signer keys buffer store) hs (map link_shape (map (link_of f) (zip ns keys)))
+    (parts_shape (empty_parts f buffer store))) heard
+    ∙ ap₂ (λ (ls : List LinkShape) (p : PartsShape). node_shape (booted f signer keys buffer store) start.heard ls p) links parts
 
 announced_shape : (arts : Arts) (n : NodeState) → shape_of (announced arts n) ≡ shape_of n
 announced_shape arts n =

@@ -1,5 +1,5 @@
 -- Effects that tell no weight.
-use Rattle.std.proofs.Common.{◌≡◌, ℕ, ◌+◌, ◌&&◌, Bool, true, false, cond, List, [], ◌∷◌, ◌++◌, map, Option, Some, None, refl, ap, ◌∙◌, inl, inr}
+use Rattle.std.proofs.Common.{◌≡◌, ℕ, ◌+◌, ◌&&◌, Bool, true, false, cond, List, [], ◌∷◌, ◌++◌, filter, map, Option, Some, None, refl, ap, ◌∙◌, inl, inr}
 use Rattle.std.specs.List.{flat_map}
 use Rattle.std.proofs.lemmas.Bool.{cases_Bool}
 use Rattle.sp_base.specs.declared.id.NodeId.{NodeId}
@@ -11,12 +11,15 @@ use Rattle.sp_msg.specs.declared.effect.Why.{Why}
 use Rattle.sp_msg.specs.declared.effect.Why.TheVariants as whys
 use Rattle.sp_msg.specs.declared.kept.Kept.{Kept}
 use Rattle.sp_rules.specs.Flow.{FlowState, ends}
+use Rattle.sp_rules.specs.Parts.{Parts, closed_effects}
 use Rattle.sp_rules.specs.Prio as prio
 use Rattle.sp_rules.specs.Prio.{PrioState, prio_effects}
 use Rattle.sp_rules.specs.PrioPeer as rows
-use Rattle.sp_rules.specs.PrioPeer.{PrioPeer}
-use Rattle.sp_rules.specs.Rel.{RelState, delivery, ended_by, is_end, restart_effects}
+use Rattle.sp_rules.specs.PrioPeer.{PrioPeer, leaves}
+use Rattle.sp_rules.specs.Rel as rel
+use Rattle.sp_rules.specs.Rel.{RelState, delivery, ended_by, ended_effect, is_end, is_over, restart_effects}
 use Rattle.sp_rules.specs.Store.{Store, entry_in, evicted, expired_entries, removed}
+use Rattle.sp_rules.specs.Topologies.{is_shut}
 use Rattle.sp_rules.specs.declared.store.Entry.{Entry}
 use Rattle.laws_node.specs.Lives.{last_told, weight_told}
 
@@ -85,15 +88,15 @@ silent_prio p o came = elim (cases_Bool (prio.is_here p o.body)) [
       rw t all
 ]
 
-pub silent_expiring : (place : ℕ) (es : List Entry) → Silent (map (λ e. effects.Gone place e.id whys.Expired) es)
-silent_expiring place [] = λ edge end w. refl
-silent_expiring place (e ∷ es) = λ edge end w. silent_expiring place es edge end w
+pub silent_leaving : (place : ℕ) (why : Why) (es : List Entry) → Silent (map (λ e. effects.Gone place e.id why) es)
+silent_leaving place why [] = λ edge end w. refl
+silent_leaving place why (e ∷ es) = λ edge end w. silent_leaving place why es edge end w
 
 pub silent_expired : (p : PrioState) (now : ℕ) → Silent (prio.expired_effects p now)
 silent_expired p now =
     silent_both (rows.expired_effects 0 p.inbox now) (flat_map (λ (q : PrioPeer). rows.expired_effects q.peer q.store now) p.peers)
-    (silent_expiring 0 (expired_entries p.inbox now))
-    (silent_flat (λ (q : PrioPeer). rows.expired_effects q.peer q.store now) (λ q. silent_expiring q.peer (expired_entries q.store now)) p.peers)
+    (silent_leaving 0 whys.Expired (expired_entries p.inbox now))
+    (silent_flat (λ (q : PrioPeer). rows.expired_effects q.peer q.store now) (λ q. silent_leaving q.peer whys.Expired (expired_entries q.store now)) p.peers)
 
 pub silent_rel : (t : Bool) (body : Body) → Silent (cond t (delivery body ∷ []) [])
 silent_rel true body = λ edge end w. refl
@@ -104,3 +107,14 @@ silent_ended v f = silent_either (is_end v (ends f) && f.active) (effects.Ended 
 
 pub silent_restart : (r : RelState) (v : NodeId) → Silent (restart_effects r v)
 silent_restart r v = silent_flat (ended_by v) (silent_ended v) r.flows
+
+-- another version of the topology
+silent_ending : (gone : List NodeId) (f : FlowState) → Silent (ended_effect gone f)
+silent_ending gone f = silent_either (f.active && is_over gone (ends f)) (effects.Ended (ends f) ∷ []) (λ edge end w. refl)
+
+pub silent_closed : (p : Parts) (least : List ℕ) (gone : List NodeId) → Silent (closed_effects p least gone)
+silent_closed p least gone =
+    silent_both (prio.closed_effects p.prio least gone) (rel.closed_effects p.rel gone)
+    (silent_flat (rows.closed_effects least gone)
+    (λ q. silent_leaving q.peer whys.Withdrawn (filter (leaves (is_shut least q.edge) gone) q.store.entries)) p.prio.peers)
+    (silent_flat (ended_effect gone) (silent_ending gone) p.rel.flows)

@@ -41,6 +41,7 @@ announced_holds k arts n fits below two keeps h =
     let own = own_fits arts n k (own_epoch n.fixed) fits h.fixed.signature_len keeps (epoch_fields n.fixed k.format two me h.fixed.boot) in
     record {
       fixed = h.fixed;
+      live = h.live;
       now = h.now;
       calls = h.calls;
       links = h.links;

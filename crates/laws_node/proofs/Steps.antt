@@ -1,5 +1,6 @@
 -- What each step of a node keeps: one lemma for each case.
-use Rattle.std.proofs.Common.{◌≡◌, ◌<◌, ◌≤◌, ℕ, ◌+◌, ◌^◌, ◌==◌, not, Bool, true, false, List, [], ◌∷◌, ◌++◌, length, Option, Some, None, refl, sym, ap, ◌∙◌, subst, arith, cond}
+use Rattle.std.proofs.Common.{◌≡◌, ◌<◌, ◌≤◌, ℕ, ◌+◌, ◌^◌, ◌==◌, not, Bool, true, false, List, [], ◌∷◌, ◌++◌, length, Option, Some, None, refl, sym, ap, ◌∙◌}
+use Rattle.std.proofs.Common.{subst, arith, cond}
 use Rattle.std.specs.Prelude.{IsTrue}
 use Rattle.std.proofs.lemmas.Bool.Decides.{nat_tests}
 use Rattle.sp_base.specs.declared.id.NodeId.{NodeId}
@@ -21,8 +22,10 @@ use Rattle.sp_rules.specs.Handle.{weight_effects}
 use Rattle.sp_rules.specs.Prio.{admit_prio, expired_effects, prio_effects}
 use Rattle.sp_rules.specs.Lives.{held_boot}
 use Rattle.sp_rules.specs.Rel.{pushed_in, settled}
-use Rattle.sp_rules.specs.Sends.{PrioSend, mask_in, no_paths, own_prio, prio_body, prio_refusal, prio_sent, rel_body, rel_number, rel_refusal, rel_sent, send_prio_refusal, signer_refusal, weight_body, weight_number, weight_refusal, weight_sent}
-use Rattle.sp_rules.specs.Steps.{Input, NodeStep, Output, accepted, arrived, refused_call, refused_send, tick_output, Poll, Datagram, Tick, SendRel, SendPrio, SetWeight, TakeRel, TakePrio}
+use Rattle.sp_rules.specs.Sends.{PrioSend, mask_in, no_paths, own_prio, prio_body, prio_refusal, prio_sent, rel_body, rel_number, rel_refusal, rel_sent}
+use Rattle.sp_rules.specs.Sends.{send_prio_refusal, signer_refusal, weight_body, weight_number, weight_refusal, weight_sent}
+use Rattle.sp_rules.specs.Steps.{Input, NodeStep, Output, accepted, arrived, refused_call, refused_send, tick_output, Poll, Datagram, Tick, SendRel, SendPrio}
+use Rattle.sp_rules.specs.Steps.{SetWeight, TakeRel, TakePrio, Publish}
 use Rattle.sp_rules.specs.Ticks.{ack_effects, after_tick, at_time, due_now, settled_by, time_after}
 use Rattle.sp_rules.specs.Weights.{held}
 use Rattle.sp_rules.specs.declared.node.NodeRefused.{NodeRefused}
@@ -45,7 +48,8 @@ use Rattle.laws_node.proofs.Priority.{expired_holds, prio_more, sent_holds, take
 use Rattle.laws_node.proofs.Reliable.{dated_due, due_now_fits, pushed_in_holds, rel_more, settled_holds, took_holds}
 use Rattle.laws_node.proofs.Shapes.{shapes_stay}
 use Rattle.laws_node.proofs.Updates.{held_holds, weights_more}
-use Rattle.laws_node.proofs.Calls.{datagram_keeps, poll_keeps}
+use Rattle.laws_node.proofs.Versions.{publish_holds}
+use Rattle.laws_node.proofs.Calls.{arrival_keeps, poll_keeps}
 
 -- ---- the sizes of a node are those of the one before
 
@@ -106,6 +110,7 @@ rel_sent_keeps k arts n dst payload fits short own_keeps e h =
     (own_keeps refl (in_own_format k n (rel_body n dst payload) h sent.fields) (rel_about k n dst payload e h) (left n.signer h.signer sent.free)) sent.fields in
     record {
       fixed = h.fixed;
+      live = h.live;
       now = h.now;
       calls = h.calls;
       links = h.links;
@@ -121,7 +126,7 @@ rel_sent_keeps k arts n dst payload fits short own_keeps e h =
 
 prio_sent_keeps : (k : Sizes) (arts : Arts) (n : NodeState) (m : PrioSend) (choice : Choice) → ArtsFit arts n.fixed n.signer
     → PrioSendFits m → Owns k arts n (prio_body n m (mask_in choice)) → send_prio_refusal n m choice ≡ None
-    → IsChoice (graph_of n.fixed.topology n.parts.weights) n.fixed.me m.dst m.paths choice → NodeHolds k n
+    → IsChoice n.parts.weights (graph_of n.fixed.topology n.parts.weights) n.fixed.me m.dst m.paths choice → NodeHolds k n
     → NodeHolds k (signed_once n (record n.parts { prio = admit_prio n.parts.prio (own_prio arts n m choice) None }))
 prio_sent_keeps k arts n m choice fits sizes own_keeps e is h =
     let sent = prio_sent_fits k n m choice sizes e is h in
@@ -129,6 +134,7 @@ prio_sent_keeps k arts n m choice fits sizes own_keeps e is h =
     (own_keeps refl (in_own_format k n (prio_body n m (mask_in choice)) h sent.fields) (prio_about k n m choice (me_is_there arts n.fixed n.signer fits) e is h) (left n.signer h.signer sent.free)) sent.fields in
     record {
       fixed = h.fixed;
+      live = h.live;
       now = h.now;
       calls = h.calls;
       links = h.links;
@@ -154,6 +160,7 @@ weight_sent_keeps k arts n v weight fits least most own_keeps e h =
     (own_keeps refl (in_own_format k n (weight_body n v weight) h sent.fields) (weight_about n v weight (me_is_there arts n.fixed n.signer fits) e) (left n.signer h.signer sent.free)) sent.fields in
     record {
       fixed = h.fixed;
+      live = h.live;
       now = h.now;
       calls = h.calls;
       links = h.links;
@@ -173,6 +180,7 @@ weight_sent_keeps k arts n v weight fits least most own_keeps e h =
 at_time_holds : (k : Sizes) (n : NodeState) (now : ℕ) → now < 2 ^ 64 → NodeHolds k n → NodeHolds k (at_time n now)
 at_time_holds k n now small h = record {
   fixed = h.fixed;
+  live = h.live;
   now = omega (arith, small, h.now);
   calls = h.calls;
   links = h.links;
@@ -197,6 +205,7 @@ settled_keeps k arts n ack fits own_keeps is e h =
     facts.fields in
     record {
       fixed = h.fixed;
+      live = h.live;
       now = h.now;
       calls = h.calls;
       links = h.links;
@@ -258,7 +267,7 @@ step_holds k arts n (Poll v) output new fits input news own s h =
     subst (NodeHolds k) (sym s.1) (or_holds (NodeHolds k) n _ (call_refusal n v) h (λ e. poll_keeps k n v (not_worn n v e h.calls) h))
 step_holds k arts n (Datagram v bytes) output new fits input news own s h =
     subst (NodeHolds k) (sym s.1) (or_holds (NodeHolds k) n _ (call_refusal n v) h
-    (λ e. datagram_keeps k arts n v bytes fits input
+    (λ e. arrival_keeps k arts n v bytes fits input
     (subst (λ (r : Option NodeRefused). NewKeep k.keeps (refused_call r (arrived arts n v bytes)).answered) e (subst (λ (o : Output). NewKeep k.keeps o.answered) s.0 news))
     (not_worn n v e h.calls) h))
 step_holds k arts n (Tick now) output new fits input news own s h = subst (NodeHolds k) (sym s.1) (tick_holds k arts n now output fits input s.0 own h)
@@ -281,6 +290,7 @@ step_holds k arts n (SetWeight v weight) output new fits input news own s h =
 step_holds k arts n (TakeRel src) output new fits input news own s h =
     subst (NodeHolds k) (sym s.1) (record {
       fixed = h.fixed;
+      live = h.live;
       now = h.now;
       calls = h.calls;
       links = h.links;
@@ -296,6 +306,7 @@ step_holds k arts n (TakeRel src) output new fits input news own s h =
 step_holds k arts n TakePrio output new fits input news own s h =
     subst (NodeHolds k) (sym s.1) (record {
       fixed = h.fixed;
+      live = h.live;
       now = h.now;
       calls = h.calls;
       links = h.links;
@@ -308,6 +319,8 @@ step_holds k arts n TakePrio output new fits input news own s h =
         origins = h.parts.origins;
       };
     })
+step_holds k arts n (Publish document) output new fits input news own s h =
+    subst (NodeHolds k) (sym s.1) (publish_holds k arts n document input (λ d reads. fits.documents document d input.0 reads) h)
 
 -- ---- with the own signatures valid
 
@@ -338,6 +351,7 @@ step_new arts n (SendPrio m) output new s = none_new _ output.answered (ap (λ (
 step_new arts n (SetWeight v weight) output new s = none_new _ output.answered (ap (λ (o : Output). o.answered) s.0 ∙ none_sent _ (weight_refusal n v weight) refl)
 step_new arts n (TakeRel src) output new s = none_new _ output.answered (ap (λ (o : Output). o.answered) s.0)
 step_new arts n TakePrio output new s = none_new _ output.answered (ap (λ (o : Output). o.answered) s.0)
+step_new arts n (Publish document) output new s = none_new _ output.answered (ap (λ (o : Output). o.answered) s.0)
 
 step_fixed : (arts : Arts) (n : NodeState) (input : Input) (output : Output) (new : NodeState) → NodeStep arts n input output new → new.fixed ≡ n.fixed
 step_fixed arts n input output new s = ap (λ (x : Shape). x.fixed) (shapes_stay arts n input output new s)
@@ -362,6 +376,7 @@ each_step_keeps arts n input output new fits input_fits s h =
 pub extend_keeps : ExtendKeeps
 extend_keeps arts n upto above within h = record {
   fixed = h.fixed;
+  live = h.live;
   now = h.now;
   calls = h.calls;
   links = h.links;

@@ -33,6 +33,17 @@ all_replace P test y (x ∷ xs) all p =
     cond_either (All P) (test x) (y ∷ xs) (x ∷ replace_where test y xs) (All-cons P y xs p (All-tail P x xs all))
     (All-cons P x (replace_where test y xs) (All-head P x xs all) (all_replace P test y xs (All-tail P x xs all) p))
 
+-- the row that was found changes
+pub first_changes : {X : Type 0} (P : X → Type 0) (test : X → Bool) (d : X) (f : X → X) → ((x : X) → P x → P (f x)) → (xs : List X) → All P xs
+    → All P (replace_where test (f (first_where test d xs)) xs)
+first_changes P test d f keeps [] all = all
+first_changes P test d f keeps (x ∷ xs) all = by (test x) (first_changes P test d f keeps xs (All-tail P x xs all))
+  where
+    by : (t : Bool) → All P (replace_where test (f (first_where test d xs)) xs)
+        → All P (cond t (f (cond t x (first_where test d xs)) ∷ xs) (x ∷ replace_where test (f (cond t x (first_where test d xs))) xs))
+    by true rest = All-cons P (f x) xs (keeps x (All-head P x xs all)) (All-tail P x xs all)
+    by false rest = All-cons P x (replace_where test (f (first_where test d xs)) xs) (All-head P x xs all) rest
+
 -- the rows keep their keys where the new one has the key of those that the test finds
 pub replace_keys : {X K : Type 0} (key : X → K) (test : X → Bool) (y : X) → ((x : X) → test x ≡ true → key x ≡ key y) → (xs : List X)
     → map key (replace_where test y xs) ≡ map key xs

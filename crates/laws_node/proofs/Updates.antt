@@ -1,5 +1,6 @@
 -- What each change of the weights keeps.
-use Rattle.std.proofs.Common.{◌≡◌, ◌<◌, ◌≤◌, ℕ, zero, suc, ◌+◌, ◌*◌, ◌==◌, ◌&&◌, Bool, true, false, List, [], ◌∷◌, length, get_or, Option, Some, None, inl, inr, refl, sym, ap, ◌∙◌, subst, arith, cond, nat_lt}
+use Rattle.std.proofs.Common.{◌≡◌, ◌<◌, ◌≤◌, ℕ, zero, suc, ◌+◌, ◌*◌, ◌==◌, ◌&&◌, Bool, true, false, List, [], ◌∷◌, length, get_or, Option, Some, None, inl, inr}
+use Rattle.std.proofs.Common.{refl, sym, ap, ◌∙◌, subst, arith, cond, nat_lt, ◌||◌}
 use Rattle.std.specs.Prelude.{◌⊎◌, IfSome, is_none, position}
 use Rattle.std.specs.Option.{option_and_then}
 use Rattle.std.specs.List.{slice_get, slice_set}
@@ -11,7 +12,7 @@ use Rattle.sp_msg.specs.declared.body.Body.TheVariants as bodies
 use Rattle.sp_msg.specs.declared.body.WeightBody.{WeightBody}
 use Rattle.sp_msg.specs.declared.kept.Kept.{Kept}
 use Rattle.sp_rules.specs.Handle.{offer_to}
-use Rattle.sp_rules.specs.Weights.{WeightState, held, held_in, moved, offer, row_for, row_in, row_of, rows_with, seq_of, seq_said, next_seq}
+use Rattle.sp_rules.specs.Weights.{WeightState, held, held_in, moved, offer, row_for, row_in, row_of, rows_with, seq_of, seq_said, next_seq, is_withdrawn}
 use Rattle.sp_rules.specs.declared.weights.Offer.{Offer}
 use Rattle.sp_rules.specs.declared.weights.Offer.TheVariants as offers
 use Rattle.sp_rules.specs.declared.weights.TheConstants.{MAX_OWN_HEARD}
@@ -42,6 +43,7 @@ some_weaker P Q (Some x) weaker p = weaker x p
 pub weights_more : (k : Sizes) (index more : ℕ) (w : WeightState) → index ≤ more → WeightsHold k index w → WeightsHold k more w
 weights_more k index more w up h = record {
   edges = h.edges;
+  least = h.least;
   rows = λ row. some_weaker (UpdateHolds k index row) (UpdateHolds k more row) (held_in w.rows row) (λ o. update_more k index more row o up) (h.rows row);
 }
 
@@ -60,12 +62,13 @@ held_holds k index more row w o up new h =
     let place : row_for w.edges o.body ≡ Some row = ap (λ (es : List Edge). row_for es o.body) h.edges ∙ new.place in
     record {
       edges = h.edges;
+      least = h.least;
       rows = subst (λ (r : Option ℕ). (i : ℕ) → IfSome (held_in (rows_with r w.rows o) i) (UpdateHolds k more i)) (sym place)
           (set_holds (UpdateHolds k more) w.rows row o new (weights_more k index more w up h).rows);
     }
 
 pub moved_holds : (k : Sizes) (index : ℕ) (w : WeightState) (v : ℕ) → WeightsHold k index w → WeightsHold k index (moved w v)
-moved_holds k index w v h = record { edges = h.edges; rows = h.rows }
+moved_holds k index w v h = record { edges = h.edges; least = h.least; rows = h.rows }
 
 -- ---- an update arrives
 
@@ -84,11 +87,12 @@ record HasRow (edges : List Edge) (u : WeightBody) : Type 0 where
   is : row_for edges (bodies.Weight u) ≡ Some row
 
 offered_row : (w : WeightState) (u : WeightBody) → offer w u ≡ offers.New → HasRow w.edges u
-offered_row w u new = go (row_in w.edges u.edge.0 u.origin.0) refl _ new
+offered_row w u new = go (row_in w.edges u.edge.0 u.origin.0) refl (is_withdrawn w u.edge.0) _ new
   where
-    go : (o : Option ℕ) → row_in w.edges u.edge.0 u.origin.0 ≡ o → (known : Offer) → cond (is_none o) offers.Foreign known ≡ offers.New → HasRow w.edges u
-    go None is known new = absurd (cc)
-    go (Some row) is known new = record { row = row; is = is }
+    go : (o : Option ℕ) → row_in w.edges u.edge.0 u.origin.0 ≡ o → (shut : Bool) → (known : Offer) → cond (is_none o || shut) offers.Foreign known ≡ offers.New
+        → HasRow w.edges u
+    go None is shut known new = absurd (cc)
+    go (Some row) is shut known new = record { row = row; is = is }
 
 up_to : (mine : Bool) (most seq : ℕ) → (mine && nat_lt most seq) ≡ false → mine ≡ true → seq ≤ most
 up_to true most seq e is = grind (arith, nat_tests)

@@ -80,12 +80,17 @@ module _ (k : Sizes) (Q : Kept → Type 0) (less : (o : Kept) → k.keeps o → 
       signature_len = h.fixed.signature_len;
       short = h.fixed.short;
     };
+    live = record { version = h.live.version; count = h.live.count; weights = h.live.weights; document = h.live.document };
     now = h.now;
     calls = h.calls;
     links = h.links;
     signer = h.signer;
     parts = record {
-      weights = record { edges = h.parts.weights.edges; rows = λ row. update_weaker n.signer.index row _ (h.parts.weights.rows row) };
+      weights = record {
+        edges = h.parts.weights.edges;
+        least = h.parts.weights.least;
+        rows = λ row. update_weaker n.signer.index row _ (h.parts.weights.rows row);
+      };
       prio = record {
         me = h.parts.prio.me;
         nodes = h.parts.prio.nodes;

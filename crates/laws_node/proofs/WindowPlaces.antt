@@ -1,5 +1,6 @@
 -- The window of a source, after a mark of one source, or after one was emptied.
-use Rattle.std.proofs.Common.{true, false, ◌≡◌, ℕ, ◌+◌, ◌==◌, true, false, List, [], ◌∷◌, length, Option, Some, None, refl, sym, ap, ◌∙◌, inl, inr, arith}
+use Rattle.std.proofs.Common.{true, false, ◌≡◌, ℕ, zero, suc, ◌+◌, ◌==◌, List, [], ◌∷◌, length, replicate, Option, Some, None, refl, sym, ap, ◌∙◌, inl, inr}
+use Rattle.std.proofs.Common.{arith}
 use Rattle.std.specs.Prelude.{slice_index_or}
 use Rattle.std.proofs.lemmas.Bool.{cases_Bool, eqb-true, eq-eqb}
 use Rattle.std.proofs.lemmas.List.{get_or-set_other, get_or-set_same, length-set}
@@ -86,3 +87,10 @@ less_there ws nodes id src other = go (place_of nodes id) refl (place_of nodes s
 pub long_less : (ws : List (List ℕ)) (place : Option ℕ) → length (windows_less ws place) ≡ length ws
 long_less ws None = refl
 long_less ws (Some place) = length-set ws place []
+
+-- a window of which nothing is marked
+pub empty_window : (count : ℕ) (place : Option ℕ) → window_at (replicate count []) place ≡ []
+empty_window count None = refl
+empty_window zero (Some place) = refl
+empty_window (suc count) (Some zero) = refl
+empty_window (suc count) (Some (suc place)) = empty_window count (Some place)

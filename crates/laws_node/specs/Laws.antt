@@ -6,7 +6,7 @@ use Rattle.sp_frame.specs.Ranges.{IsContentsIn}
 use Rattle.sp_rules.specs.Arts.{Arts}
 use Rattle.sp_rules.specs.Node.{NodeState, Signer, booted, extended, started}
 use Rattle.sp_rules.specs.Parts.{Fixed}
-use Rattle.sp_rules.specs.Polls.{contents_to}
+use Rattle.sp_rules.specs.Polls.{contents_at}
 use Rattle.sp_rules.specs.Steps.{Input, NodeStep, Output}
 use Rattle.laws_node.specs.Inputs.{ArtsFit, Boots, InputFits}
 use Rattle.laws_node.specs.Nodes.{IsKept}
@@ -34,4 +34,4 @@ ExtendKeeps = (arts : Arts) (n : NodeState) (upto : ℕ) → n.signer.bound ≤ 
 -- what a poll writes is in the ranges of a frame, so it is read back as it is
 abbrev pub FramesFit : Type 0
 FramesFit = (arts : Arts) (n : NodeState) (v : NodeId) → IsKept arts n
-    → IsContentsIn n.fixed.topology.format n.fixed.signature_len (contents_to n.fixed n.parts v)
+    → IsContentsIn n.fixed.topology.format n.fixed.signature_len (contents_at n v)

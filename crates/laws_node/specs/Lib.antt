@@ -11,11 +11,14 @@ pub mod LifeLaws
 pub mod Lives
 pub mod Nodes
 pub mod Objects
+pub mod Replaced
 pub mod Shapes
 pub mod Sizes
+pub mod Spreading
 pub mod Stores
 pub mod Story
 pub mod Updates
+pub mod Withdrawals
 pub mod WithoutRows
 -- ---- laws of its parts
 pub mod LinkArrivals

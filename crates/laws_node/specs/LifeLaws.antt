@@ -6,7 +6,7 @@ use Rattle.sp_rules.specs.Node.{NodeState, Signer, link_in, started}
 use Rattle.sp_rules.specs.Parts.{Fixed, nodes_of}
 use Rattle.sp_rules.specs.Prio.{is_node, window_in}
 use Rattle.sp_rules.specs.Steps.{Input, Output}
-use Rattle.sp_rules.specs.Weights.{effective}
+use Rattle.sp_rules.specs.Weights.{effective, minimum}
 use Rattle.sp_topology.specs.Ranges.{IsTopology}
 use Rattle.sp_topology.specs.declared.topology.Edge.{Edge}
 use Rattle.laws_node.specs.LinkArrivals.{greatest}
@@ -21,13 +21,13 @@ PairsOfLives =
     → Life arts (started arts f signer keys buffer store) steps last
     → ((link_in last v).seen ≡ greatest (0, 0) (pairs_of_life arts v steps)) × ((link_in last v).seen.0 ≡ (link_in last v).peer_boot)
 
--- the effective weight of an edge is the greatest of the minimum and the last weight of each end that was told as held
+-- the effective weight of an edge is the greatest of the minimum in the topology as it is now and the last weight of each end that was told as held
 abbrev pub WeightsOfLives : Type 0
 WeightsOfLives = (arts : Arts) (f : Fixed) (signer : Signer) (keys : List (List ℕ)) (buffer store : ℕ) (steps : List (Input × Output)) (last : NodeState)
     → IsTopology f.topology → Life arts (started arts f signer keys buffer store) steps last
     → (edge : ℕ) (e : Edge) → slice_get f.topology.edges edge ≡ Some e
     → let told = effects_of_life steps in
-    effective last.parts.weights edge ≡ max e.weight (max (last_told edge e.low.0 0 told) (last_told edge e.high.0 0 told))
+    effective last.parts.weights edge ≡ max (minimum last.parts.weights edge) (max (last_told edge e.low.0 0 told) (last_told edge e.high.0 0 told))
 
 -- what the window of a node holds is the window of all its numbers that were marked since another life of it was heard of last, in their order
 abbrev pub WindowsOfLives : Type 0

@@ -28,6 +28,7 @@ abbrev pub pair_told : ℕ × ℕ → LinkReply → List (ℕ × ℕ)
 pair_told pair (replies.Learned boot) = (boot, 0) ∷ []
 pair_told pair (replies.OtherTopology theirs) = pair ∷ []
 pair_told pair (replies.Section refused) = pair ∷ []
+pair_told pair replies.Withdrawn = pair ∷ []
 pair_told pair replies.Fresh = pair ∷ []
 pair_told pair _ = []
 

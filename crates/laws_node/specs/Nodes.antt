@@ -1,13 +1,17 @@
 -- What a node keeps after any steps: within its bounds, each thing in its place, in its ranges, and counted.
-use Rattle.std.specs.Prelude.{ℕ, ◌≡◌, ◌<◌, ◌≤◌, ◌^◌, Bool, IsTrue, length}
+use Rattle.std.specs.Prelude.{ℕ, ◌≡◌, ◌<◌, ◌≤◌, ◌^◌, Bool, IsTrue, List, length}
 use Rattle.std.specs.List.{All}
+use Rattle.sp_base.specs.Spelling.{AreBytes}
+use Rattle.sp_base.specs.declared.limits.TheConstants.{MAX_WEIGHT}
+use Rattle.sp_frame.specs.declared.writing.TheConstants.{MAX_DOCUMENT_BYTES}
 use Rattle.sp_msg.specs.declared.kept.Kept.{Kept}
 use Rattle.sp_rules.specs.Arts.{Arts}
 use Rattle.sp_rules.specs.Link.{Link}
 use Rattle.sp_rules.specs.Node.{NodeState, Signer}
 use Rattle.sp_rules.specs.Parts.{Fixed, Parts, is_signed, nodes_of}
-use Rattle.sp_rules.specs.declared.node.TheConstants.{MAX_CALLS}
 use Rattle.sp_rules.specs.Topologies.{IsRunnable}
+use Rattle.sp_rules.specs.Versions.{Live}
+use Rattle.sp_rules.specs.declared.node.TheConstants.{MAX_CALLS}
 use Rattle.laws_node.specs.Flows.{RelHolds}
 use Rattle.laws_node.specs.HeldBoots.{LifeHolds}
 use Rattle.laws_node.specs.Sizes.{IsNode, Sizes, ids_after, most_indexes, numbers_after}
@@ -46,8 +50,20 @@ pub record PartsHold (k : Sizes) (numbers ids index : ℕ) (p : Parts) : Type 0 
   -- for each node the place in its cycle of Epoch objects
   pub origins : length p.origins ≡ length k.nodes
 
+-- a frame has room for these bytes as a document
+abbrev pub FitsAFrame : List ℕ → Type 0
+FitsAFrame document = AreBytes document × (length document ≤ MAX_DOCUMENT_BYTES)
+
+-- a weight for each edge, and all in their fields
+pub record LiveHolds (k : Sizes) (l : Live) : Type 0 where
+  pub version : l.version < 2 ^ 32
+  pub count : length l.weights ≡ length k.edges
+  pub weights : All (λ weight. weight ≤ MAX_WEIGHT) l.weights
+  pub document : FitsAFrame l.document
+
 pub record NodeHolds (k : Sizes) (n : NodeState) : Type 0 where
   pub fixed : FixedHolds k n.fixed
+  pub live : LiveHolds k n.live
   pub now : n.now < 2 ^ 64
   pub calls : n.calls ≤ MAX_CALLS
   pub links : All (LinkHolds n.calls) n.links

@@ -82,6 +82,7 @@ pub record Shape : Type 0 where
   pub bound : ℕ
   pub total : ℕ
   pub links : List LinkShape
+  pub heard : List NodeId
   pub weights : WeightShape
   pub prio : PrioShape
   pub rel : RelShape
@@ -96,6 +97,7 @@ shape_of n = record {
   bound = n.signer.bound;
   total = n.signer.total;
   links = map link_shape n.links;
+  heard = map (λ h. h.peer) n.heard;
   weights = weight_shape n.parts.weights;
   prio = prio_shape n.parts.prio;
   rel = rel_shape n.parts.rel;
@@ -109,8 +111,8 @@ abbrev pub ShapesStay : Type 0
 ShapesStay = (arts : Arts) (old : NodeState) (input : Input) (output : Output) (new : NodeState) → NodeStep arts old input output new
     → shape_of new ≡ shape_of old
 
--- rows for the ordered pairs of two nodes and for the neighbours, each with a view of each pair, a window, a life and a cycle for each node, and the
--- bounds that were given
+-- rows for the ordered pairs of two nodes and for the neighbours, each with a view of each pair and a kept version, a window, a life and a cycle for each
+-- node, and the bounds that were given
 abbrev pub shape_at_start : Fixed → Signer → List (List ℕ) → (buffer store : ℕ) → Shape
 shape_at_start f signer keys buffer store =
     let nodes = nodes_of f.topology in
@@ -121,6 +123,7 @@ shape_at_start f signer keys buffer store =
       bound = signer.bound;
       total = signer.total;
       links = map (λ n. record { me = f.me; peer = n.0.0; boot = f.boot; key = n.1 }) (zip ns keys);
+      heard = map (λ n. n.0) ns;
       weights = record { edges = f.topology.edges; rows = 2 * length f.topology.edges; cycles = length f.topology.nodes };
       prio = record {
         me = f.me.0;

@@ -100,6 +100,8 @@ toys = record {
     epoch = None;
   });
   frame = toy_frame;
+  is_document = λ b. false;
+  read_document = λ b. None;
   tag = λ key bytes. replicate 32 (slice_index key 0);
   is_good = λ body. true;
   spell = encoded;
@@ -121,7 +123,7 @@ row = record { format = 1; version = 1; height = Five; nodes = key_of 1 ∷ key_
 
 abbrev pub start : ℕ → List (List ℕ) → NodeState
 start me keys =
-    booted (record { me = node me; boot = 1; topology = row; signature_len = 1; epochs = false })
+    booted (record { me = node me; boot = 1; topology = row; document = []; signature_len = 1; admin = []; epochs = false })
     (record { seed = me ∷ []; index = 0; bound = 1024; total = 1024 }) keys 2 4
 
 -- the three, and the frame that was polled last

@@ -1,5 +1,5 @@
 -- What holds of the weights of a node after any steps: each row has an update of its own end alone, in its ranges.
-use Rattle.std.specs.Prelude.{ℕ, ◌≡◌, ◌≤◌, ◌+◌, ◌==◌, true, Some, IfSome}
+use Rattle.std.specs.Prelude.{ℕ, ◌≡◌, ◌≤◌, ◌+◌, ◌==◌, true, Some, IfSome, length}
 use Rattle.sp_base.specs.declared.id.NodeId.{NodeId}
 use Rattle.sp_msg.specs.declared.body.Body.{Body}
 use Rattle.sp_msg.specs.declared.body.Body.TheVariants as bodies
@@ -25,4 +25,5 @@ pub record UpdateHolds (k : Sizes) (index row : ℕ) (o : Kept) : Type 0 where
 
 pub record WeightsHold (k : Sizes) (index : ℕ) (w : WeightState) : Type 0 where
   pub edges : w.edges ≡ k.edges
+  pub least : length w.least ≡ length k.edges
   pub rows : (row : ℕ) → IfSome (held_in w.rows row) (UpdateHolds k index row)

@@ -47,7 +47,7 @@ flow = record { src = node 1; dst = node 2 }
 
 -- without a window for any node
 abbrev pub blind : PrioState
-blind = record { me = 2; nodes = both; inbox = empty_store 4; peers = []; windows = []; next = 1 }
+blind = record { me = 2; nodes = both; removed = []; inbox = empty_store 4; peers = []; windows = []; next = 1 }
 
 -- priority message 1 from 1 to 2
 abbrev pub urgent : Kept

@@ -23,9 +23,10 @@ pub use priority_laws::{
     what_is_marked_is_seen, what_is_seen_stays_seen,
 };
 pub use step_laws::{
+    a_document_is_offered_and_taken, a_replacement_is_worked_out,
     an_epoch_object_that_is_new_begins_another_life, each_entry_of_a_place_has_an_id_of_its_own,
     no_step_changes_who_a_node_is_nor_its_bounds_nor_its_rows, tables_without_rows_forget,
-    the_objects_of_a_frame_are_answered_in_their_order,
+    the_administrator_alone_changes_a_topology, the_objects_of_a_frame_are_answered_in_their_order,
     what_a_step_tells_determines_what_it_leaves, what_is_kept_was_answered_as_new_or_signed_here,
 };
 pub use weight_laws::{

@@ -4,7 +4,10 @@ ghost use Rattle.laws_node.specs.Determined.{StepsAreDetermined};
 ghost use Rattle.laws_node.specs.Epochs.{BootsNeverFall, EpochTaken, OwnBootStays};
 ghost use Rattle.laws_node.specs.Ids.{IdsStayOwn};
 ghost use Rattle.laws_node.specs.Objects.{ObjectsAreAnswered};
+ghost use Rattle.laws_node.specs.Replaced.{IsReplaced};
 ghost use Rattle.laws_node.specs.Shapes.{ShapesBegin, ShapesStart, ShapesStay};
+ghost use Rattle.laws_node.specs.Spreading.{OffersAreTaken, OlderIsOffered, VersionsAreHeard};
+ghost use Rattle.laws_node.specs.Withdrawals.{EachStepObeys, OnlyTheAdministratorChanges, StartObeys, VersionsRise};
 ghost use Rattle.laws_node.specs.WithoutRows.{RowsAreNeeded};
 
 /// A law: no step changes who a node is, its bounds, its keys, and what it has rows for. At the start of its life, with epochs or without,
@@ -49,4 +52,27 @@ pub fn what_a_step_tells_determines_what_it_leaves()
 /// An example: what tables without rows would do, and that no node has them.
 pub fn tables_without_rows_forget()
     ensures { RowsAreNeeded }
+{}
+
+/// A law: a node runs under a topology that the administrator signed: one of the same nodes, keys and edges that follows the one before. No step lets
+/// its version fall or a removed node return. Its parts know of it what it is now: nothing waits for a withdrawn edge or has a removed end, and no flow
+/// with a removed end is active.
+pub fn the_administrator_alone_changes_a_topology()
+    ensures changes { OnlyTheAdministratorChanges }
+    ensures rise { VersionsRise }
+    ensures start { StartObeys }
+    ensures obey { EachStepObeys }
+{}
+
+/// A law: a document goes on from node to node. A node keeps the version of the last frames of a neighbour; whose kept version is older is offered the own
+/// document, over a withdrawn edge too; and who meets one that the administrator signed runs under the greater version of both.
+pub fn a_document_is_offered_and_taken()
+    ensures heard { VersionsAreHeard }
+    ensures offered { OlderIsOffered }
+    ensures taken { OffersAreTaken }
+{}
+
+/// An example: a worked replacement of a topology is computed: what it tells, whose flows end, and each answer that refuses one.
+pub fn a_replacement_is_worked_out()
+    ensures { IsReplaced }
 {}

@@ -1,4 +1,5 @@
 -- What one event makes of each node that runs after it: it stays as it was, it makes a step, or it has just started.
+use Rattle.laws_progress.proofs.Versions.{UnderFirst}
 use Rattle.std.proofs.Common.{◌≡◌, ◌⊎◌, ℕ, ◌==◌, true, false, List, [], ◌∷◌, ◌++◌, Some, None, refl, sym, ap, subst, ◌∙◌, inl, inr}
 use Rattle.std.specs.List.{list_any}
 use Rattle.std.proofs.lemmas.Bool.{cases_Bool, eqb-false, eqb-true, ne_eqb}
@@ -7,7 +8,7 @@ use Rattle.sp_base.specs.declared.id.NodeId.{NodeId}
 use Rattle.sp_rules.specs.Arts.{Arts}
 use Rattle.sp_rules.specs.Node.{NodeState, extended}
 use Rattle.sp_rules.specs.Parts.{Fixed}
-use Rattle.sp_runs.specs.Forgery.{forged_object, has_forged_tag}
+use Rattle.sp_runs.specs.Forgery.{forged_document, forged_object, has_forged_tag}
 use Rattle.sp_runs.specs.Inputs.{acting}
 use Rattle.sp_runs.specs.Lives.{IsOther, IsStart, comes_to_nobody, is_missing, next_start, ready}
 use Rattle.sp_runs.specs.Runs.{Clean, InRange, IsCraftOf, Lives, Move, Moves, Stays, Turn, forged_in}
@@ -18,7 +19,7 @@ use Rattle.sp_schedule_events.specs.declared.event.Event.{Event}
 use Rattle.sp_schedule_events.specs.declared.event.Event.TheVariants as events
 use Rattle.laws_runs.specs.KeyFiles.{KeysStand}
 use Rattle.laws_runs.specs.Premises.{Carries}
-use Rattle.laws_runs.proofs.Goods.{unforged_tag}
+use Rattle.laws_runs.proofs.Goods.{unforged_both}
 use Rattle.laws_runs.proofs.KeyFiles.{key_files_stand, ready_once, started_before}
 use Rattle.laws_runs.proofs.LifeCases.{Exhausts, LifeCase, Nobody, Starts_now, Stops, life_case}
 use Rattle.laws_runs.proofs.Lives.{step_stays}
@@ -45,6 +46,10 @@ pub data Becomes (arts : Arts) (x : Setting) (old : World) (e : Event) (j : Entr
 pub readied_keeps : (x : Setting) (w : World) (b n : NodeState) (P : NodeState → Type 0) → ((upto : ℕ) → P b → P (extended b upto)) → Readied x w b n → P b → P n
 readied_keeps x w b n P more (As_was same) h = subst P (sym same) h
 readied_keeps x w b n P more (Extended on short same) h = subst P (sym same) (more _ h)
+
+-- where nothing is published, a node acts under the version that it ran under
+pub keeps_version : (x : Setting) (w : World) (b n m : NodeState) → UnderFirst x b → Readied x w b n → UnderFirst x m → m.live.version ≡ n.live.version
+keeps_version x w b n m was readied is = is.0 ∙ sym (readied_keeps x w b n (λ q. q.live.version ≡ x.topology.version) (λ upto same. same) readied was.0)
 
 -- who it is, as it starts
 pub start_fixed : (arts : Arts) (x : Setting) (u : NodeId) (w : World) → x.epochs ≡ true
@@ -116,7 +121,8 @@ module _ (arts : Arts) (x : Setting) (es : List Event) (js : List Entry) (old : 
   pub becomes : (turn : Turn arts x old e j new) → forged_in arts x es js old e j new turn ≡ None → (u : NodeId) (n : NodeState) → node_in new.nodes u ≡ Some n
       → Becomes arts x old e j new u n
   becomes (Moves m) unforged u n at =
-      moved m (unforged_tag (has_forged_tag arts x (ready x old e) m.node m.input) (forged_object arts x es js m.output.answered) unforged).0 u n at
+      moved m (unforged_both (has_forged_tag arts x (ready x old e) m.node m.input) (forged_object arts x es js m.output.answered)
+      (forged_document arts es m.output.adopted) unforged).0 u n at
   becomes (Stays s) unforged u n at = stays_so u n (subst (λ (w : World). node_in w.nodes u ≡ Some n) s.world at) (inr (inl (s.key, s.is_craft)))
   becomes (Lives on life) unforged u n at = lived on (life_case arts x old e j new life) u n at
 

@@ -118,6 +118,7 @@ module _ (arts : Arts) (x : Setting) (all : List Event) (era : Era) (fits : Sett
   watched_before : (z : State arts x all) (e : Event) (y : Watched arts x all era) → Follows arts x all z e y.at → Watched arts x all era
   watched_before z e y (Follow j events journal range turn unforged) = record {
     at = z;
+    stays = y.stays;
     latest = λ v on. let up = last_rises arts x z.world e j y.at.world turn v in let top = y.latest v on in omega (arith, up, top);
     runs = λ v on last.
         let up = last_rises arts x z.world e j y.at.world turn v in

@@ -1,6 +1,10 @@
 -- An interval in which no watched node starts or stops, and each holds the boots that count: each step in it.
+use Rattle.laws_runs.specs.Flows.{has_ended}
+use Rattle.laws_runs.specs.Signs.{Good}
+use Rattle.laws_progress.proofs.Versions.{always_served, not_ended}
 use Rattle.laws_progress.proofs.Becomes.{MovesNobody, readied_keeps}
-use Rattle.laws_progress.proofs.Changes.{Acted, Away, Born, Course, Rests, Steps, Unmoved, course, dark, era_is, holds_both, lit, same_read}
+use Rattle.laws_progress.proofs.Changes.{Acted, Away, Born, Course, Rests, Steps, Unmoved, acted_first, acted_is, course, dark, era_is, holds_both, lit}
+use Rattle.laws_progress.proofs.Changes.{same_read}
 use Rattle.laws_progress.proofs.Hears.{boot_goes, top_now}
 use Rattle.laws_progress.proofs.Lasts.{no_poll, step_last}
 use Rattle.laws_progress.proofs.LinkRuns.{idle_poll}
@@ -10,7 +14,7 @@ use Rattle.laws_progress.proofs.Polls.{answered, between_back, poll_is, polled_r
 use Rattle.laws_progress.proofs.Room.{room_at, take_is}
 use Rattle.laws_progress.proofs.Rows.{RowsAre, peer_there, rows_are}
 use Rattle.laws_progress.proofs.Standing.{rel_of, seen_stands}
-use Rattle.laws_progress.proofs.States.{Era, IsBetween, IsEra, Leads, Watched, actives_of, flow_of, flow_seen, in_era, in_life, knows_life, sight}
+use Rattle.laws_progress.proofs.States.{Era, IsBetween, IsEra, Leads, Watched, actives_of, flow_of, flow_seen, in_era, in_life, knows_life, sight, stays_at}
 use Rattle.laws_runs.proofs.FlowRuns.{flows_are_kept_over_lives}
 use Rattle.laws_runs.proofs.Lists.{both}
 use Rattle.laws_runs.specs.LifeFlows.{LifeFlowClaims, acknowledged_under}
@@ -73,13 +77,19 @@ module _ (arts : Arts) (x : Setting) (all : List Event) (era : Era) (flow : Flow
   claims : (w : Watched arts x all era) → LifeFlowClaims arts x flow.src flow.dst w.at.events w.at.journal (past arts x w.at.events w.at.journal w.at.world w.at.run) w.at.world
   claims w = flows_are_kept_over_lives arts x w.at.events w.at.journal w.at.world fits reads.carries w.at.run flow.src flow.dst (both _ _ is_era.right.from).0 is_era.right.to is_era.right.different
 
+  -- the flow has not ended
+  goes_on : (w : Watched arts x all era) (u : NodeId) (p : Up arts x all era flow w u) → has_ended p.node flow.src flow.dst ≡ false
+  goes_on w u p =
+      not_ended arts x w.at.events w.at.journal w.at.world fits reads.carries w.at.run (stays_at arts x all w.at w.stays) u p.node p.there flow.src
+      flow.dst
+
   under_up : {X : Type 0} (w : Watched arts x all era) (u : NodeId) (p : Up arts x all era flow w u) (says : ℕ → ℕ → X) → under p.node flow.src flow.dst says ≡ says era.sboot era.dboot
   under_up w u p says = let h = held_up w u p in ap (λ a. says a (held_boot p.node.parts.lives flow.dst)) h.0 ∙ ap (says era.sboot) h.1
 
   pub acked_up : (w : Watched arts x all era) (p : Up arts x all era flow w flow.dst)
       → (sight arts x all era flow).base w flow.dst ≡ acknowledged_under arts w.at.events w.at.journal flow.src era.sboot flow.dst era.dboot
   acked_up w p =
-      ap (λ (f : FlowState). f.at.base) (flow_up w flow.dst p) ∙ (claims w).base_at_end p.node p.there
+      ap (λ (f : FlowState). f.at.base) (flow_up w flow.dst p) ∙ (claims w).base_at_end p.node p.there (goes_on w flow.dst p)
       ∙ under_up w flow.dst p (λ a b. acknowledged_under arts w.at.events w.at.journal flow.src a flow.dst b)
 
   pub acknowledged : (w : Watched arts x all era) → AreUp arts x all era flow w → (u : NodeId) → (sight arts x all era flow).base w u ≤ (sight arts x all era flow).base w flow.dst
@@ -97,13 +107,13 @@ module _ (arts : Arts) (x : Setting) (all : List Event) (era : Era) (flow : Flow
   pub sent_up : (w : Watched arts x all era) (p : Up arts x all era flow w flow.src)
       → (sight arts x all era flow).have w flow.src ≡ length (sent_under (past arts x w.at.events w.at.journal w.at.world w.at.run) flow.src era.sboot flow.dst era.dboot)
   sent_up w p =
-      ap (λ (f : FlowState). f.at.have) (flow_up w flow.src p) ∙ (claims w).have_at_source is_era.right.from p.node p.there
+      ap (λ (f : FlowState). f.at.have) (flow_up w flow.src p) ∙ (claims w).have_at_source is_era.right.from p.node p.there (goes_on w flow.src p)
       ∙ ap length (under_up w flow.src p (λ a b. sent_under (past arts x w.at.events w.at.journal w.at.world w.at.run) flow.src a flow.dst b))
 
   pub delivered_up : (w : Watched arts x all era) (p : Up arts x all era flow w flow.dst)
       → (sight arts x all era flow).have w flow.dst ≡ length (delivered_under (past arts x w.at.events w.at.journal w.at.world w.at.run) flow.src era.sboot flow.dst era.dboot)
   delivered_up w p =
-      ap (λ (f : FlowState). f.at.have) (flow_up w flow.dst p) ∙ (claims w).have_at_end p.node p.there
+      ap (λ (f : FlowState). f.at.have) (flow_up w flow.dst p) ∙ (claims w).have_at_end p.node p.there (goes_on w flow.dst p)
       ∙ ap length (under_up w flow.dst p (λ a b. delivered_under (past arts x w.at.events w.at.journal w.at.world w.at.run) flow.src a flow.dst b))
 
   pub sent_most : (w : Watched arts x all era) → AreUp arts x all era flow w → (u : NodeId) → (sight arts x all era flow).have w u ≤ (sight arts x all era flow).have w flow.src
@@ -171,7 +181,9 @@ module _ (arts : Arts) (x : Setting) (all : List Event) (era : Era) (flow : Flow
         let step : NodeStep arts a.node (Poll v) a.output a.after = subst (λ i. NodeStep arts a.node i a.output a.after) input a.step in
         let word = ap (λ (o : Output). reply_word x (runs.next_frame (ready x w.at.world e) e) o.reply) (sym step.0) ∙ a.journal.reply in
         let free = answered x (runs.next_frame (ready x w.at.world e) e) (call_refusal a.node v) _ a.entry.reply word in
-        let rel = ap (λ (n : NodeState). n.parts.rel) step.1 ∙ polled_rel a.node v free in
+        let rel = ap (λ (n : NodeState). n.parts.rel) step.1 ∙ polled_rel a.node v free
+        (always_served arts x fits (Good arts x w.at.events w.at.journal) u a.node (acted_is arts x all era fits reads.carries w y e u a)
+        (acted_first arts x all era fits reads.carries w y e u a) v hop.hop.joined) in
         let rows : RowsAre x u a.node = readied_keeps x w.at.world a.before a.node (RowsAre x u) (λ upto h. record { peers = h.peers; links = h.links }) a.readied
         (rows_are arts x w.at.events w.at.journal w.at.world fits reads.carries w.at.run u a.before a.there) in
         let there = peer_there x u v a.node rows hop.hop.joined in

@@ -1,4 +1,7 @@
 -- What one event makes of a node that is watched: nothing of its life, its start, rest, or one step of it. And what it makes of a flow there.
+use Rattle.laws_runs.proofs.KeyFiles.{key_files_stand}
+use Rattle.laws_runs.proofs.Signed.{signs}
+use Rattle.laws_runs.specs.Signs.{Good, NodeIs}
 use Rattle.std.proofs.Common.{◌≡◌, ◌≤◌, ◌⊎◌, ℕ, ◌==◌, ◌&&◌, true, false, List, Option, None, Some, refl, sym, ap, subst, ◌∙◌, inl, inr, arith}
 use Rattle.std.proofs.lemmas.Bool.{cases_Bool, eq-eqb, eqb-true}
 use Rattle.std.proofs.lemmas.Option.{same_Some}
@@ -23,12 +26,13 @@ use Rattle.sp_schedule_events.specs.declared.event.Event.{Event}
 use Rattle.laws_runs.specs.Past.{holds}
 use Rattle.laws_runs.specs.Premises.{Carries}
 use Rattle.laws_runs.proofs.Lives.{step_stays}
-use Rattle.laws_runs.proofs.Ready.{Readied}
+use Rattle.laws_runs.proofs.Ready.{Readied, readied_is}
 use Rattle.laws_runs.proofs.Running.{found_there}
-use Rattle.laws_progress.proofs.Becomes.{Acts, Becomes, Begins, MovesNobody, Remains, becomes, readied_keeps}
+use Rattle.laws_progress.proofs.Becomes.{Acts, Becomes, Begins, MovesNobody, Remains, becomes, readied_keeps, keeps_version}
 use Rattle.laws_progress.proofs.LastBoots.{held_below, last_boot, last_rises, running_boot, held_none}
 use Rattle.laws_progress.proofs.Rises.{Begins_anew, FlowLater, Goes_on, PartsGo, same_later, step_go}
-use Rattle.laws_progress.proofs.States.{Era, Follow, IsEra, Leads, Watched, flow_of, flow_seen, in_era, in_life, seen_at}
+use Rattle.laws_progress.proofs.States.{Era, Follow, IsEra, Leads, Watched, flow_of, flow_seen, in_era, in_life, seen_at, stays_at}
+use Rattle.laws_progress.proofs.Versions.{UnderFirst, under_first}
 
 -- ---- reading nodes
 
@@ -89,6 +93,8 @@ pub record Acted (arts : Arts) (x : Setting) (all : List Event) (era : Era) (w y
   pub output : Output
   pub after : NodeState
   pub step : NodeStep arts node input output after
+  -- under the version that it ran under
+  pub keeps : after.live.version ≡ node.live.version
   pub entry : Entry
   pub journal : Says x (next_frame (ready x w.at.world e) e) output entry
   pub unforged : has_forged_tag arts x (ready x w.at.world e) node input ≡ false
@@ -117,6 +123,22 @@ module _ (arts : Arts) (x : Setting) (all : List Event) (era : Era) (fits : Sett
     (w y : Watched arts x all era) (e : Event) where
   boot_at : (z : Watched arts x all era) (u : NodeId) (n : NodeState) → node_in z.at.world.nodes u ≡ Some n → n.fixed.boot ≡ last_boot x z.at.world u
   boot_at z u n at = running_boot arts x z.at.events z.at.journal z.at.world fits reads z.at.run u n at
+
+  node_is_of : (z : Watched arts x all era) (u : NodeId) (n : NodeState) → node_in z.at.world.nodes u ≡ Some n
+      → NodeIs x (Good arts x z.at.events z.at.journal) u n
+  node_is_of z u n at = (signs arts x z.at.events z.at.journal z.at.world fits reads z.at.run).nodes u n at
+
+  first_of : (z : Watched arts x all era) (u : NodeId) (n : NodeState) → node_in z.at.world.nodes u ≡ Some n → UnderFirst x n
+  first_of z u n at = under_first arts x z.at.events z.at.journal z.at.world fits reads z.at.run (stays_at arts x all z.at z.stays) u n at
+
+  -- what a node is that acts
+  pub acted_is : (u : NodeId) (a : Acted arts x all era w y e u) → NodeIs x (Good arts x w.at.events w.at.journal) u a.node
+  acted_is u a =
+      readied_is x (Good arts x w.at.events w.at.journal) w.at.events w.at.world u a.before a.node
+      (key_files_stand arts x w.at.events w.at.journal w.at.world fits w.at.run) a.there a.readied (node_is_of w u a.before a.there)
+
+  pub acted_first : (u : NodeId) (a : Acted arts x all era w y e u) → UnderFirst x a.node
+  acted_first u a = readied_keeps x w.at.world a.before a.node (UnderFirst x) (λ upto on. on) a.readied (first_of w u a.before a.there)
 
   -- whoever is in its life goes on in it
   none_now : (j : Entry) → Turn arts x w.at.world e j y.at.world → (u : NodeId) → era.on u ≡ true → node_in y.at.world.nodes u ≡ None
@@ -156,6 +178,7 @@ module _ (arts : Arts) (x : Setting) (all : List Event) (era : Era) (fits : Sett
           output = mv.output;
           after = mv.after;
           step = mv.step;
+          keeps = keeps_version x w.at.world b mv.node mv.after (first_of w u b there) readied (subst (UnderFirst x) after (first_of y u m at));
           entry = j;
           journal = mv.journal;
           unforged = unforged;
@@ -241,4 +264,5 @@ module _ (arts : Arts) (x : Setting) (all : List Event) (era : Era) (fits : Sett
             let is = lit (no_flow flow) (flow_of era flow u) (node_in y.at.world.nodes u) a.after a.left in
             let same = same_read x w.at.world a.before a.node (flow_of era flow u) (λ upto. refl) a.readied in
             subst (λ f. FlowLater f (flow_seen arts x all era flow y u)) (same ∙ sym was)
-            (subst (FlowLater (flow_of era flow u a.node)) (sym is) (step_flow u a.node a.after a.left first second (step_go flow arts a.node a.input a.output a.after a.step)))
+            (subst (FlowLater (flow_of era flow u a.node)) (sym is) (step_flow u a.node a.after a.left first second
+            (step_go flow arts a.node a.input a.output a.after a.step a.keeps)))

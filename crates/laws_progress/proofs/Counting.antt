@@ -64,6 +64,8 @@ silent flow (events.Rel from to payload) (replies.Started q p) off = refl
 silent flow (events.Rel from to payload) (replies.Exhausted q) off = refl
 silent flow (events.Rel from to payload) replies.Stopped off = refl
 silent flow (events.Rel from to payload) replies.Down off = refl
+silent flow (events.Rel from to payload) (replies.Adopted q) off = refl
+silent flow (events.Rel from to payload) replies.DocumentOld off = refl
 silent flow (events.Prio a b c f g h) r off = refl
 silent flow (events.Take a b) r off = refl
 silent flow (events.TakePrio a) r off = refl
@@ -75,6 +77,8 @@ silent flow (events.Flip a b c f g) r off = refl
 silent flow (events.Inject a b c) r off = refl
 silent flow (events.Craft a b c f) r off = refl
 silent flow (events.CraftStatus a b c f g h) r off = refl
+silent flow (events.Publish a b) r off = refl
+silent flow (events.CraftDocument a b c f g) r off = refl
 silent flow (events.Start a) r off = refl
 silent flow (events.Stop a) r off = refl
 

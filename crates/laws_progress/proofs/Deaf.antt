@@ -1,4 +1,7 @@
 -- The view of a neighbour stays where nothing comes from it.
+use Rattle.sp_rules.specs.Link.{advanced}
+use Rattle.sp_rules.specs.Polls.{is_served, parts_after, polled}
+use Rattle.laws_node.proofs.Adopting.{publishing, reading}
 use Rattle.laws_progress.proofs.Slots.{one_same}
 use Rattle.laws_runs.proofs.NoStarts.{NoStart, pieces_at}
 use Rattle.sp_rules.specs.declared.node.NodeRefused.{NodeRefused}
@@ -12,7 +15,7 @@ use Rattle.sp_msg.specs.declared.kept.Kept.{Kept}
 use Rattle.sp_msg.specs.declared.refused.SendRefused.{SendRefused}
 use Rattle.sp_rules.specs.Answers.{ack_answer, is_new, prio_answer, rel_answer, weight_answer}
 use Rattle.sp_rules.specs.Arts.{Arts}
-use Rattle.sp_rules.specs.Arrivals.{handled, reply_at, arrival_at, parts_met, greeted, link_after, handled, has_risen, reply_at, sections_in}
+use Rattle.sp_rules.specs.Arrivals.{reply_at, arrival_at, parts_met, greeted, reply_at, sections_in, before_document, document_at, read_by, rises}
 use Rattle.sp_rules.specs.Handle.{Arrival, handle, handle_all, offer_to, prio_handled}
 use Rattle.sp_rules.specs.Lives.{are_held, is_dated, held_boot}
 use Rattle.sp_rules.specs.Node.{NodeState, call_refusal, kept_or, signed_now, called, with_link, link_in}
@@ -20,7 +23,7 @@ use Rattle.sp_rules.specs.Parts.{Parts, is_signed}
 use Rattle.sp_rules.specs.Pieces.{Piece, AckPiece, PrioAckPiece, PrioPiece, RelPiece, ReportPiece, WeightPiece, EpochPiece}
 use Rattle.sp_rules.specs.Rel.{RelState, admit_ack, admit_rel, due_place, flow_in, judge_ack_of, judge_rel_of, next_place, peer_in, reported, served, served_at, settled, settled_at, told, with_peer, no_views}
 use Rattle.sp_rules.specs.Sends.{rel_refusal, send_prio_refusal, signer_refusal, weight_refusal}
-use Rattle.sp_rules.specs.Steps.{Input, NodeStep, Output, Poll, Datagram, Tick, SendRel, SendPrio, SetWeight, TakeRel, TakePrio}
+use Rattle.sp_rules.specs.Steps.{Input, NodeStep, Output, Poll, Datagram, Tick, SendRel, SendPrio, SetWeight, TakeRel, TakePrio, Publish}
 use Rattle.sp_rules.specs.Ticks.{at_time, due_now, settled_by}
 use Rattle.sp_rules.specs.Prio.{judge_prio}
 use Rattle.sp_rules.specs.Weights.{held}
@@ -143,23 +146,35 @@ kept_view u flow w0 (Some x) n m old new = old
 pub step_view : (u : NodeId) (flow : Flow) (w0 : View) (arts : Arts) (n : NodeState) (input : Input) (output : Output) (new : NodeState) → NodeStep arts n input output new
     → held_boot new.parts.lives flow.src ≡ held_boot n.parts.lives flow.src → held_boot new.parts.lives flow.dst ≡ held_boot n.parts.lives flow.dst
     → list_any (is_peer u) n.parts.rel.peers ≡ true → NoHear u input → ViewIs u flow w0 n.parts.rel → ViewIs u flow w0 new.parts.rel
-step_view u flow w0 arts n (Poll v) output new s at_src at_dst there quiet h = subst (λ (m : NodeState). ViewIs u flow w0 m.parts.rel) (sym s.1) (kept_view u flow w0 (call_refusal n v) n _ h (served_view u flow w0 n.parts.rel v there h))
+step_view u flow w0 arts n (Poll v) output new s at_src at_dst there quiet h =
+    subst (λ (m : NodeState). ViewIs u flow w0 m.parts.rel) (sym s.1)
+    (kept_view u flow w0 (call_refusal n v) n (called n (with_link n v (advanced (link_in n v))) (parts_after n v)) h
+    (cond_either (λ (p : Parts). ViewIs u flow w0 p.rel) (is_served n v) (polled n.fixed n.parts v) n.parts (served_view u flow w0 n.parts.rel v there h) h))
 step_view u flow w0 arts n (Datagram v bytes) output new s at_src at_dst there quiet h =
     subst (λ (m : NodeState). ViewIs u flow w0 m.parts.rel) (sym s.1)
     (go (call_refusal n v) (ap (λ (m : NodeState). held_boot m.parts.lives flow.src) (sym s.1) ∙ at_src) (ap (λ (m : NodeState). held_boot m.parts.lives flow.dst) (sym s.1) ∙ at_dst))
   where
-    go : (r : Option NodeRefused)
-        → held_boot (kept_or r n (called n (with_link n v (link_after arts n v bytes)) (handled arts n v bytes).parts)).parts.lives flow.src ≡ held_boot n.parts.lives flow.src
-        → held_boot (kept_or r n (called n (with_link n v (link_after arts n v bytes)) (handled arts n v bytes).parts)).parts.lives flow.dst ≡ held_boot n.parts.lives flow.dst
-        → ViewIs u flow w0 (kept_or r n (called n (with_link n v (link_after arts n v bytes)) (handled arts n v bytes).parts)).parts.rel
-    go (Some refused) src dst = h
-    go None src dst =
-        let risen = has_risen (link_in n v) (link_after arts n v bytes) in
+    left : NodeState
+    left = before_document arts n v bytes
+
+    -- its document leaves the boots that are held and what is known of neighbours
+    Stays : NodeState → Type 0
+    Stays m =
+        held_boot m.parts.lives flow.src ≡ held_boot n.parts.lives flow.src → held_boot m.parts.lives flow.dst ≡ held_boot n.parts.lives flow.dst
+        → ViewIs u flow w0 m.parts.rel
+
+    first : Stays left
+    first src dst =
+        let risen = rises arts n v bytes in
         let lives = greeted_lives n.fixed.epochs risen v n.parts in
         pieces_view u flow w0 arts (arrival_at n v) (parts_met arts n v bytes) (pieces_at arts n v bytes)
         (last_where (reply_at arts n v bytes) n.fixed (sections_in arts n.fixed bytes)) quiet
         (src ∙ ap (λ ls. held_boot ls flow.src) (sym lives)) (dst ∙ ap (λ ls. held_boot ls flow.dst) (sym lives))
         (greeted_view u flow w0 n.fixed.epochs risen v n.parts quiet h)
+
+    go : (r : Option NodeRefused) → Stays (kept_or r n (read_by arts left (document_at arts n v bytes)))
+    go (Some refused) src dst = h
+    go None src dst = reading arts left (document_at arts n v bytes) (λ m told. Stays m) first (λ document d is reads by. first) src dst
 step_view u flow w0 arts n (Tick now) output new s at_src at_dst there quiet h = subst (λ (m : NodeState). ViewIs u flow w0 m.parts.rel) (sym s.1) (go (due_now n) refl (signer_refusal n.signer))
   where
     go : (o : Option Ack) → due_now n ≡ o → (r : Option SendRefused) → ViewIs u flow w0 (settled_by arts (at_time n now) o r).parts.rel
@@ -171,3 +186,5 @@ step_view u flow w0 arts n (SendPrio m) output new s at_src at_dst there quiet h
 step_view u flow w0 arts n (SetWeight v weight) output new s at_src at_dst there quiet h = subst (λ (m : NodeState). ViewIs u flow w0 m.parts.rel) (sym s.1) (kept_view u flow w0 (weight_refusal n v weight) n _ h h)
 step_view u flow w0 arts n (TakeRel src) output new s at_src at_dst there quiet h = subst (λ (m : NodeState). ViewIs u flow w0 m.parts.rel) (sym s.1) h
 step_view u flow w0 arts n TakePrio output new s at_src at_dst there quiet h = subst (λ (m : NodeState). ViewIs u flow w0 m.parts.rel) (sym s.1) h
+step_view u flow w0 arts n (Publish document) output new s at_src at_dst there quiet h =
+    subst (λ (m : NodeState). ViewIs u flow w0 m.parts.rel) (sym s.1) (publishing arts n document (λ m told. ViewIs u flow w0 m.parts.rel) h (λ d reads by. h))

@@ -1,4 +1,5 @@
 -- Counted delivery without epochs: no node starts or stops, all held boots are 0, so each interval is calm.
+use Rattle.laws_progress.proofs.Versions.{not_ended}
 use Rattle.std.proofs.Common.{[]}
 use Rattle.sp_runs.specs.Told.{delivered, sent}
 use Rattle.laws_runs.specs.Acknowledged.{acknowledged}
@@ -7,9 +8,10 @@ use Rattle.laws_progress.proofs.Changes.{both_held}
 use Rattle.laws_progress.proofs.LifeDelivery.{delivers, returns}
 use Rattle.laws_progress.proofs.LastBoots.{held_none}
 use Rattle.laws_progress.proofs.RunStates.{is_delivered, is_right, told_append}
-use Rattle.laws_progress.proofs.States.{IsRight}
+use Rattle.laws_progress.proofs.States.{IsRight, first_stays}
+use Rattle.laws_progress.proofs.UpStates.{off_first}
 use Rattle.laws_progress.specs.Calm.{IsCalm, IsCalmAt, is_life_of}
-use Rattle.laws_progress.specs.Delivery.{CountedDelivery, CountedReturn}
+use Rattle.laws_progress.specs.Delivery.{CountedDelivery, CountedReturn, TopologyStays}
 use Rattle.laws_runs.proofs.FlowPlain.{flows_are_kept}
 use Rattle.laws_runs.proofs.FlowRuns.{flows_are_kept_over_lives}
 use Rattle.laws_runs.proofs.Lists.{both}
@@ -33,7 +35,7 @@ use Rattle.sp_runs.specs.Told.{delivered}
 use Rattle.sp_runs.specs.Worlds.{World, node_in}
 use Rattle.sp_schedule_events.specs.Lives.{may_act}
 use Rattle.sp_schedule_events.specs.declared.event.Event.{Event}
-use Rattle.std.proofs.Common.{Bool, List, Some, ap, arith, false, length, refl, sym, true, ℕ, ◌++◌, ◌||◌, ◌∙◌, ◌∷◌, ◌≡◌, ◌≤◌}
+use Rattle.std.proofs.Common.{List, Some, ap, arith, false, length, refl, sym, true, ℕ, ◌++◌, ◌||◌, ◌∙◌, ◌∷◌, ◌≡◌, ◌≤◌}
 use Rattle.std.proofs.lemmas.Bool.{ne_eqb}
 use Rattle.std.proofs.lemmas.List.Elements.{All-weaker}
 use Rattle.std.proofs.lemmas.List.Folds.{list_any-append}
@@ -63,10 +65,8 @@ no_life arts x es js w off (Turned {es = es'} {js = js'} {old = old} {e = e} {j 
     other es (events.Inject a b c) may = refl
     other es (events.Craft a b c f) may = refl
     other es (events.CraftStatus a b c f g h) may = refl
-
-second_false : (a b : Bool) → (a || b) ≡ false → b ≡ false
-second_false true b e = absurd (let f : true ≡ false = e in cc)
-second_false false b e = e
+    other es (events.Publish a b) may = refl
+    other es (events.CraftDocument a b c f g) may = refl
 
 module _ (arts : Arts) (x : Setting) (fits : StaysUp arts x) (through : ComesThrough x.topology.format arts x.signature_len) (s d : NodeId) (path : List NodeId)
     (is : IsCorrectPath x s d path) where
@@ -88,8 +88,8 @@ module _ (arts : Arts) (x : Setting) (fits : StaysUp arts x) (through : ComesThr
             up = record {
               node = n.0;
               runs = n.1;
-              stays = second_false (list_any (is_life_of u) es) (list_any (is_life_of u) after)
-                  (sym (list_any-append (is_life_of u) es after) ∙ no_life arts x (es ++ after) (js ++ more) end fits.plain longer u);
+              stays = (off_first (list_any (is_life_of u) es) (list_any (is_life_of u) after)
+                  (sym (list_any-append (is_life_of u) es after) ∙ no_life arts x (es ++ after) (js ++ more) end fits.plain longer u)).1;
             };
             held = both_held n.0 s d 0 0 (none s) (none d);
           }
@@ -106,33 +106,41 @@ module _ (arts : Arts) (x : Setting) (fits : StaysUp arts x) (through : ComesThr
       let none = held_zero es js w run u n at in
       ap (λ k. says k (held_boot n.parts.lives d)) (none s) ∙ ap (says 0) (none d)
 
-  same_sent : (es : List Event) (js : List Entry) (w : World) (run : Clean arts x es js w) → length (sent es js s d) ≡ length (sent_under (past arts x es js w run) s 0 d 0)
-  same_sent es js w run =
+  same_sent : (es : List Event) (js : List Entry) (w : World) (run : Clean arts x es js w) → TopologyStays es
+      → length (sent es js s d) ≡ length (sent_under (past arts x es js w run) s 0 d 0)
+  same_sent es js w run stays =
       let n = is_there arts x es js w fits run s right.from in
-      sym ((plain_claims es js w run).have_at_source right.from n.0 n.1) ∙ (life_claims es js w run).have_at_source right.from n.0 n.1
+      let on = not_ended arts x es js w fits.fits through.carries run stays s n.0 n.1 s d in
+      sym ((plain_claims es js w run).have_at_source right.from n.0 n.1 on) ∙ (life_claims es js w run).have_at_source right.from n.0 n.1 on
       ∙ ap length (under_zero es js w run s n.0 n.1 (λ a b. sent_under (past arts x es js w run) s a d b))
 
-  same_delivered : (es : List Event) (js : List Entry) (w : World) (run : Clean arts x es js w) → length (delivered es js s d) ≡ length (delivered_under (past arts x es js w run) s 0 d 0)
-  same_delivered es js w run =
+  same_delivered : (es : List Event) (js : List Entry) (w : World) (run : Clean arts x es js w) → TopologyStays es
+      → length (delivered es js s d) ≡ length (delivered_under (past arts x es js w run) s 0 d 0)
+  same_delivered es js w run stays =
       let n = is_there arts x es js w fits run d right.to in
-      sym ((plain_claims es js w run).have_at_end n.0 n.1) ∙ (life_claims es js w run).have_at_end n.0 n.1
+      let on = not_ended arts x es js w fits.fits through.carries run stays d n.0 n.1 s d in
+      sym ((plain_claims es js w run).have_at_end n.0 n.1 on) ∙ (life_claims es js w run).have_at_end n.0 n.1 on
       ∙ ap length (under_zero es js w run d n.0 n.1 (λ a b. delivered_under (past arts x es js w run) s a d b))
 
-  same_acked : (es : List Event) (js : List Entry) (w : World) (run : Clean arts x es js w) → acknowledged arts es js s d ≡ acknowledged_under arts es js s 0 d 0
-  same_acked es js w run =
+  same_acked : (es : List Event) (js : List Entry) (w : World) (run : Clean arts x es js w) → TopologyStays es
+      → acknowledged arts es js s d ≡ acknowledged_under arts es js s 0 d 0
+  same_acked es js w run stays =
       let n = is_there arts x es js w fits run d right.to in
-      sym ((plain_claims es js w run).base_at_end n.0 n.1) ∙ (life_claims es js w run).base_at_end n.0 n.1
+      let on = not_ended arts x es js w fits.fits through.carries run stays d n.0 n.1 s d in
+      sym ((plain_claims es js w run).base_at_end n.0 n.1 on) ∙ (life_claims es js w run).base_at_end n.0 n.1 on
       ∙ under_zero es js w run d n.0 n.1 (λ a b. acknowledged_under arts es js s a d b)
 
 -- ---- the laws
 
 pub delivery_is_counted : CountedDelivery
-delivery_is_counted arts x fits through one es js w after more v early run s d path is n at q b some has near least enough rounds =
+delivery_is_counted arts x fits through one es js w after more v early run stays s d path is n at q b some has near least enough rounds =
     let right = is_right x s d path is in
     let calm = plain_calm arts x fits through s d path is es js w early after more v run in
-    let sent_is = same_sent arts x fits through s d path is es js w early in
-    let came_is = same_delivered arts x fits through s d path is (es ++ after) (js ++ more) v run in
-    let it = delivers arts x es js w after more v fits.fits through early run s d path is 0 0 calm one least enough n at q b (omega (arith, has, sent_is)) near rounds in
+    let sent_is = same_sent arts x fits through s d path is es js w early (first_stays es after stays) in
+    let came_is = same_delivered arts x fits through s d path is (es ++ after) (js ++ more) v run stays in
+    let it =
+    delivers arts x es js w after more v fits.fits through early run stays s d path is 0 0 calm one least enough n at q b (omega (arith, has, sent_is)) near
+    rounds in
     let ends = plain_claims arts x fits through s d path is (es ++ after) (js ++ more) v run in
     let prefix = ends.prefix right.from in
     let parts : sent (es ++ after) (js ++ more) s d ≡ sent es js s d ++ sent after more s d = told_append _ es after js more (even arts x es js w early) in
@@ -140,9 +148,9 @@ delivery_is_counted arts x fits through one es js w after more v early run s d p
     (omega (arith, it, came_is))
 
 pub acknowledgements_return : CountedReturn
-acknowledgements_return arts x fits through one es js w after more v early run s d path is n at least enough rounds =
+acknowledgements_return arts x fits through one es js w after more v early run stays s d path is n at least enough rounds =
     let calm = plain_calm arts x fits through s d path is es js w early after more v run in
-    let acked_is = same_acked arts x fits through s d path is es js w early in
-    let it = returns arts x es js w after more v fits.fits through early run s d path is 0 0 calm one least enough n at rounds in
+    let acked_is = same_acked arts x fits through s d path is es js w early (first_stays es after stays) in
+    let it = returns arts x es js w after more v fits.fits through early run stays s d path is 0 0 calm one least enough n at rounds in
     let base : acknowledged arts es js s d ≤ (flow_at n s d).at.base = omega (arith, it, acked_is) in
     record { base = base; room = λ low. ne_eqb _ _ (λ full. omega (arith, full, low, base, one)) }

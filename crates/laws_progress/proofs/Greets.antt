@@ -122,6 +122,13 @@ greeted_peer false risen u p there = there
 -- and so does all that a flow's messages are judged by
 pub greeted_ready : (nodes : List NodeId) (bound : ℕ) (v : NodeId) (flow : Flow) (epochs risen : Bool) (u : NodeId) (p : Parts) → Ready nodes bound v flow p.rel
     → Ready nodes bound v flow (greeted epochs risen u p).rel
-greeted_ready nodes bound v flow true true u p h = record { me = h.me; nodes_are = h.nodes_are; bound_is = h.bound_is; row = h.row; acks = h.acks }
+greeted_ready nodes bound v flow true true u p h = record {
+  me = h.me;
+  nodes_are = h.nodes_are;
+  bound_is = h.bound_is;
+  row = h.row;
+  acks = h.acks;
+  goes_on = h.goes_on;
+}
 greeted_ready nodes bound v flow true false u p h = h
 greeted_ready nodes bound v flow false risen u p h = h

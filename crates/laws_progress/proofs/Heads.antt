@@ -14,10 +14,10 @@ use Rattle.sp_frame.specs.declared.head.Head.{Head}
 use Rattle.sp_frame.specs.Sections.{Contents}
 use Rattle.sp_msg.specs.declared.kept.Kept.{Kept}
 use Rattle.sp_rules.specs.Arts.{Arts}
-use Rattle.sp_rules.specs.Link.{new_link, next_head}
+use Rattle.sp_rules.specs.Link.{new_link}
 use Rattle.sp_rules.specs.Node.{NodeState, is_link, link_in}
 use Rattle.sp_rules.specs.Parts.{Fixed}
-use Rattle.sp_rules.specs.Polls.{contents_to, frame_to}
+use Rattle.sp_rules.specs.Polls.{contents_at, frame_to, head_to}
 use Rattle.laws_node.specs.Nodes.{LinkHolds, NodeHolds}
 use Rattle.laws_runs.specs.Premises.{Carries}
 use Rattle.laws_runs.specs.Signs.{Good, sizes_at}
@@ -50,10 +50,10 @@ pub record HeadIs (u v : NodeId) (boot counter : ℕ) (h : Head) : Type 0 where
   pub counter_is : h.counter ≡ counter
 
 pub made_head : (arts : Arts) (n : NodeState) (u v : NodeId) → HeadsReadBack arts
-    → IsHead (next_head (link_in n v) n.fixed.topology.version n.fixed.topology.format) → LinkAt u n.fixed.boot (link_in n v)
+    → IsHead (head_to n v) → LinkAt u n.fixed.boot (link_in n v)
     → HeadIs u v n.fixed.boot ((link_in n v).sent + 1) (arts.head (frame_to arts n v))
 made_head arts n u v heads range l =
-    subst (HeadIs u v n.fixed.boot ((link_in n v).sent + 1)) (sym (heads (next_head (link_in n v) n.fixed.topology.version n.fixed.topology.format) (contents_to n.fixed n.parts v) (link_in n v).key range)) (record {
+    subst (HeadIs u v n.fixed.boot ((link_in n v).sent + 1)) (sym (heads (head_to n v) (contents_at n v) (link_in n v).key range)) (record {
       from = l.me;
       to = link_is n v;
       boot_is = l.boot_is;
@@ -72,7 +72,7 @@ small_format format (inl one) = omega (arith, one)
 small_format format (inr two) = omega (arith, two)
 
 pub head_range : (x : Setting) (P : Kept → Type 0) (u : NodeId) (n : NodeState) (v : NodeId) → NodeHolds (sizes_at x P u) n
-    → list_any (is_link v) n.links ≡ true → IsHead (next_head (link_in n v) n.fixed.topology.version n.fixed.topology.format)
+    → list_any (is_link v) n.links ≡ true → IsHead (head_to n v)
 head_range x P u n v h there =
     let l = first_there (LinkHolds n.calls) (is_link v) (new_link n.fixed.me v 0 []) n.links h.links there in
     record {
@@ -82,7 +82,7 @@ head_range x P u n v h there =
       boot = l.boot;
       echo = l.peer_boot;
       counter = let sent = l.sent in let calls = h.calls in omega (arith, sent, calls);
-      topology = h.fixed.topology.ranges.version;
+      topology = h.live.version;
     }
 
 -- ---- over a run

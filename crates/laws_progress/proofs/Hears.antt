@@ -1,8 +1,6 @@
 -- A node hears a neighbour by its fresh frames alone, and heeds what the slot of the flow says.
 use Rattle.laws_progress.proofs.LastBoots.{running_boot, without_epochs}
-use Rattle.laws_runs.proofs.KeyFiles.{key_files_stand}
 use Rattle.sp_rules.specs.Lives.{held_boot}
-use Rattle.laws_runs.proofs.Ready.{readied_is}
 use Rattle.laws_progress.proofs.Known.{known_rises, after_is, above_boot}
 use Rattle.laws_progress.proofs.Rises.{PartsGo, step_go, Goes_on, Begins_anew}
 use Rattle.laws_runs.proofs.StartPieces.{greeted_lives}
@@ -21,21 +19,20 @@ use Rattle.sp_frame.specs.Sections.{Contents}
 use Rattle.sp_frame.specs.Views.{as_list}
 use Rattle.sp_msg.specs.declared.kept.Kept.{Kept}
 use Rattle.sp_rules.specs.Arts.{Arts}
-use Rattle.sp_rules.specs.Arrivals.{arrival_at, handled, heeded, link_after, parts_met, pieces_in, pieces_where, reply_at, sections_in, has_risen}
+use Rattle.sp_rules.specs.Arrivals.{arrival_at, heeded, link_after, parts_met, pieces_in, pieces_where, reply_at, sections_in, has_risen, before_document}
 use Rattle.sp_rules.specs.Handle.{handle_all}
 use Rattle.sp_rules.specs.Link.{Link, is_above, pair_of}
-use Rattle.sp_rules.specs.Node.{NodeState, link_in, called, with_link, is_link}
+use Rattle.sp_rules.specs.Node.{NodeState, link_in, is_link}
 use Rattle.sp_rules.specs.Parts.{Fixed, Parts}
 use Rattle.sp_rules.specs.Pieces.{AckPiece, EpochPiece, Piece, PrioAckPiece, RelPiece, WeightPiece, pieces_of, prio_piece, slot_pieces}
 use Rattle.sp_rules.specs.Polls.{contents_to, dated}
 use Rattle.sp_rules.specs.Rel.{RelState, next_flow, slot_for, slot_of, is_peer, no_view, view_in, peer_in}
-use Rattle.sp_rules.specs.Steps.{Input, NodeStep, Poll, Datagram, Tick, SendRel, SendPrio, SetWeight, TakeRel, TakePrio}
+use Rattle.sp_rules.specs.Steps.{Input, NodeStep, Poll, Datagram, Tick, SendRel, SendPrio, SetWeight, TakeRel, TakePrio, Publish}
 use Rattle.sp_rules.specs.declared.lives.Life.{Life}
 use Rattle.laws_node.specs.Flows.{RelHolds}
 use Rattle.laws_node.specs.Sizes.{Sizes}
 use Rattle.laws_node.proofs.Carried.{AllKeep}
 use Rattle.laws_runs.proofs.NoStarts.{pieces_at}
-use Rattle.laws_runs.proofs.Signed.{signs}
 use Rattle.laws_runs.specs.Signs.{Good, NodeIs}
 use Rattle.laws_runs.proofs.Tables.{same_node}
 use Rattle.sp_runs.specs.Forgery.{has_forged_tag}
@@ -43,10 +40,10 @@ use Rattle.sp_runs.specs.Runs.{next_frame}
 use Rattle.sp_runs.specs.Settings.{Setting, SettingFits}
 use Rattle.sp_schedule_events.specs.declared.event.Event.{Event}
 use Rattle.laws_runs.specs.Premises.{ComesThrough}
-use Rattle.laws_progress.proofs.States.{Era, IsBetween, IsEra, IsHop, Watched, has_met, heard_of, in_era, in_life, knows_life, numbered, view_at}
+use Rattle.laws_progress.proofs.States.{Era, IsBetween, IsEra, IsHop, Watched, has_met, heard_of, in_era, in_life, knows_life, numbered, stays_at, view_at}
 use Rattle.laws_runs.proofs.Acks.{RelAck}
 use Rattle.laws_progress.proofs.Arrives.{Arrived, arrives}
-use Rattle.laws_progress.proofs.Changes.{Acted, both_held, era_goes, holds_both}
+use Rattle.laws_progress.proofs.Changes.{Acted, both_held, era_goes, holds_both, acted_is}
 use Rattle.laws_progress.proofs.Greets.{greet_view}
 use Rattle.laws_progress.proofs.Deaf.{NoHear, step_view}
 use Rattle.laws_progress.proofs.Framed.{Came, Learns, Too_late, Taken}
@@ -113,6 +110,7 @@ hears_or u (SendPrio m) = inl tt
 hears_or u (SetWeight v weight) = inl tt
 hears_or u (TakeRel src) = inl tt
 hears_or u TakePrio = inl tt
+hears_or u (Publish document) = inl tt
 
 -- what is seen of u at v is the same
 pub record SameHere (x : Setting) (era : Era) (flow : Flow) (u v : NodeId) (n m : NodeState) : Type 0 where
@@ -166,8 +164,7 @@ module _ (arts : Arts) (x : Setting) (all : List Event) (era : Era) (flow : Flow
   peer_row = peer_there x v u n rows back.joined
 
   pub is_of : NodeIs x (Good arts x w.at.events w.at.journal) v n
-  is_of = readied_is x (Good arts x w.at.events w.at.journal) w.at.events w.at.world v a.before n (key_files_stand arts x w.at.events w.at.journal w.at.world fits w.at.run)
-      a.there a.readied ((signs arts x w.at.events w.at.journal w.at.world fits reads.carries w.at.run).nodes v a.before a.there)
+  is_of = acted_is arts x all era fits reads.carries w y e v a
 
   pub knows : KnowsOf x w.at.world v u (link_in n u)
   knows = readied_keeps x w.at.world a.before a.node (λ q. KnowsOf x w.at.world v u (link_in q u)) (λ upto h. h) a.readied
@@ -177,7 +174,7 @@ module _ (arts : Arts) (x : Setting) (all : List Event) (era : Era) (flow : Flow
   knows_later = knows_of arts x y.at.events y.at.journal y.at.world fits reads.carries reads.heads y.at.run v u back m a.left
 
   boots_go : PartsGo flow n.parts m.parts
-  boots_go = step_go flow arts n a.input a.output m a.step
+  boots_go = step_go flow arts n a.input a.output m a.step a.keeps
 
   pub top_now : (link_in m u).peer_boot ≤ era.life u
   top_now = let low = knows_later.below in let top = y.latest u hop.first in omega (arith, low, top)
@@ -254,8 +251,10 @@ module _ (arts : Arts) (x : Setting) (all : List Event) (era : Era) (flow : Flow
 
   -- a datagram of u comes
   module _ (bytes : List ℕ) (came : a.input ≡ Datagram u bytes) where
-    left : m ≡ called n (with_link n u (link_after arts n u bytes)) (handled arts n u bytes).parts
-    left = datagram_after arts x n u bytes a.output m (next_frame (ready x w.at.world e) e) a.entry.reply (subst (λ i. NodeStep arts n i a.output m) came a.step) a.journal.reply
+    left : m ≡ before_document arts n u bytes
+    left =
+        datagram_after arts x n u bytes a.output m (next_frame (ready x w.at.world e) e) a.entry.reply
+        (subst (λ i. NodeStep arts n i a.output m) came a.step) a.journal.reply a.keeps
 
     link_is_now : link_in m u ≡ link_after arts n u bytes
     link_is_now = datagram_link arts n m u bytes link_row left
@@ -368,7 +367,8 @@ module _ (arts : Arts) (x : Setting) (all : List Event) (era : Era) (flow : Flow
 
     of_datagram : SameHere x era flow u v n m ⊎ ((k : ℕ) × TakenAt arts x all era w u v n m k)
     of_datagram =
-        elim (arrives arts x w.at.events w.at.journal w.at.world e fits reads w.at.run u v hop.hop a.before n a.there a.readied bytes
+        elim (arrives arts x w.at.events w.at.journal w.at.world e fits reads w.at.run (stays_at arts x all w.at w.stays) u v hop.hop a.before n a.there
+        a.readied bytes
         (subst (λ i. has_forged_tag arts x (ready x w.at.world e) n i ≡ false) came a.unforged)) [
           | inl untold ↦ inl (record {
             seen = same_seen (ap (λ (l : Link). l.peer_boot) (link_is_now ∙ untold.link)) (ap (λ (l : Link). l.seen) (link_is_now ∙ untold.link));

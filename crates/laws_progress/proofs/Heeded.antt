@@ -1,7 +1,7 @@
 -- What the slot of the flow leaves at the node that it comes to: its acknowledgement is acknowledged there, and its first message is had, or waits for
 -- room.
 use Rattle.std.proofs.Common.{◌≡◌, ◌≤◌, ◌<◌, ℕ, ◌+◌, ◌-◌, ◌==◌, ◌&&◌, Bool, true, false, cond, min, List, length, refl, sym, ap, ◌∙◌, inl, inr, arith}
-use Rattle.std.specs.Prelude.{not, nat_le, nat_lt}
+use Rattle.std.specs.Prelude.{not, nat_le, nat_lt, ◌||◌}
 use Rattle.std.specs.List.{list_any}
 use Rattle.std.proofs.lemmas.Bool.{cases_Bool, cases_lt, eqb-true, eq-eqb, ne_eqb}
 use Rattle.std.proofs.lemmas.Bool.Decides.{nat_tests}
@@ -17,7 +17,8 @@ use Rattle.sp_rules.specs.Arts.{Arts}
 use Rattle.sp_rules.specs.Flow.{FlowState, IsMessage, acknowledged_by, ends, flow_said, is_flow, is_full, no_flow, number_said, pushed, received}
 use Rattle.sp_rules.specs.Lives.{is_dated}
 use Rattle.sp_rules.specs.Parts.{Fixed, is_signed}
-use Rattle.sp_rules.specs.Rel.{RelState, admit_ack, admit_rel, are_ends, flow_in, is_from, is_to, judge_ack_of, judge_rel, judge_rel_of, with_flow}
+use Rattle.sp_rules.specs.Rel.{RelState, admit_ack, admit_rel, are_ends, flow_in, is_from, is_node, is_one_of, is_over, is_to, judge_ack_of, judge_rel}
+use Rattle.sp_rules.specs.Rel.{judge_rel_of, with_flow}
 use Rattle.sp_rules.specs.declared.answers.Item.TheVariants as items
 use Rattle.sp_rules.specs.declared.lives.Life.{Life}
 use Rattle.sp_rules.specs.declared.rel.AckJudged.TheVariants as acks
@@ -35,6 +36,8 @@ pub record Ready (nodes : List NodeId) (bound : ℕ) (v : NodeId) (flow : Flow) 
   pub bound_is : r.bound ≡ bound
   pub row : list_any (is_flow flow) r.flows ≡ true
   pub acks : RelAck r
+  -- neither of its ends is removed
+  pub goes_on : is_over r.removed flow ≡ false
 
 -- the ends of the flow are two nodes
 pub record AreNodes (nodes : List NodeId) (flow : Flow) : Type 0 where
@@ -46,10 +49,20 @@ are_its_ends : (nodes : List NodeId) (bound : ℕ) (v : NodeId) (flow : Flow) (r
 are_its_ends nodes bound v flow r ready are =
     let a : (flow.src.0 == flow.src.0) ≡ true = eq-eqb _ _ refl in
     let b : (flow.dst.0 == flow.dst.0) ≡ true = eq-eqb _ _ refl in
-    let s : list_any (λ x. x.0 == flow.src.0) r.nodes ≡ true = ap (list_any (λ x. x.0 == flow.src.0)) ready.nodes_are ∙ are.src in
-    let d : list_any (λ x. x.0 == flow.dst.0) r.nodes ≡ true = ap (list_any (λ x. x.0 == flow.dst.0)) ready.nodes_are ∙ are.dst in
+    let stay = neither (is_one_of r.removed flow.src) (is_one_of r.removed flow.dst) ready.goes_on in
+    let s : is_node r flow.src ≡ true =
+    there_still _ _ (ap (list_any (λ x. x.0 == flow.src.0)) ready.nodes_are ∙ are.src) stay.0 in
+    let d : is_node r flow.dst ≡ true =
+    there_still _ _ (ap (list_any (λ x. x.0 == flow.dst.0)) ready.nodes_are ∙ are.dst) stay.1 in
     all_five _ _ _ _ _ a b (ap not are.different) s d
   where
+    neither : (a b : Bool) → (a || b) ≡ false → (a ≡ false) × (b ≡ false)
+    neither true b e = absurd (let f : true ≡ false = e in cc)
+    neither false b e = (refl, e)
+
+    there_still : (a b : Bool) → a ≡ true → b ≡ false → (a && not b) ≡ true
+    there_still a b one two = rw (one, two) refl
+
     all_five : (a b c d e : Bool) → a ≡ true → b ≡ true → c ≡ true → d ≡ true → e ≡ true → (a && b && c && d && e) ≡ true
     all_five true true true true true p q s t z = refl
     all_five false b c d e p q s t z = absurd (let f : false ≡ true = p in cc)
@@ -134,7 +147,7 @@ rel_heard arts fx ls nodes bound v flow r o q ready are message signed dated nea
       let f = flow_in r.flows flow in
       let a = flow_ack r flow ready.acks in
       let sound = a.sound in
-      let few = a.inbox in
+      let few = a.inbox (ap (is_over r.removed) (found_ends r.flows flow) ∙ ready.goes_on) in
       let bound_is = ready.bound_is in
       let up = (rel_later arts fx ls r flow o flow).have in (
         λ inner. let new = go o.body refl message above (both_false (is_to r flow) (length f.inbox == r.bound) (λ t. absurd (let g : true ≡ false = sym t ∙ inner in cc))) in taken new above,

@@ -1,7 +1,8 @@
 -- In a calm interval a watched node heeds what the frames of its neighbours say, and a frame that is passed comes through.
+use Rattle.laws_progress.proofs.Versions.{never_over}
 use Rattle.laws_progress.proofs.Always.{deaf_here, deaf_rest, hearing_of}
 use Rattle.laws_progress.proofs.Calms.{Calmly, Moved, moves_or, sent_most}
-use Rattle.laws_progress.proofs.Changes.{Acted, era_is, holds_both, lit, same_read}
+use Rattle.laws_progress.proofs.Changes.{Acted, era_is, holds_both, lit, same_read, acted_first}
 use Rattle.laws_progress.proofs.Greets.{greeted_ready}
 use Rattle.laws_progress.proofs.Hears.{TakenAt, hearing, is_of, slot_parts}
 use Rattle.laws_progress.proofs.Heeded.{Ready}
@@ -79,6 +80,8 @@ module _ (arts : Arts) (x : Setting) (all : List Event) (era : Era) (flow : Flow
           bound_is = is_node.holds.parts.rel.bound;
           row = flow_row arts x all era flow fits reads is_era w y e u v hop mv.act first second k it;
           acks = is_node.acks;
+          goes_on = never_over arts x fits (Good arts x w.at.events w.at.journal) v mv.act.node is_node
+              (acted_first arts x all era fits reads.carries w y e v mv.act) flow;
         })
 
     met_flow : flow_in (parts_met arts mv.act.node u it.bytes).rel.flows flow ≡ flow_in mv.act.node.parts.rel.flows flow

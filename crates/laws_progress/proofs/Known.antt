@@ -1,6 +1,7 @@
 -- What a datagram leaves of what a node knows of a neighbour: its boot, and the boot and the counter of its last frame.
+use Rattle.sp_base.specs.Cursor.{or_else}
 use Rattle.std.proofs.Common.{◌≡◌, ◌≤◌, ℕ, suc, ◌==◌, ◌&&◌, Bool, true, false, List, [], ◌∷◌, Some, Result, Ok, Err, refl, ap, ◌∙◌, inl, inr, arith, Option, None, cond, sym, nat_lt, ltb-false, ltb-true, eqb-true}
-use Rattle.std.specs.Prelude.{max, nat_eq, not, option_map, slice_get, unwrap_or}
+use Rattle.std.specs.Prelude.{max, nat_eq, not, option_map, slice_get, unwrap_or, is_none}
 use Rattle.std.specs.Result.{result_err}
 use Rattle.std.specs.Cmp.Lexicographic.{pointwise}
 use Rattle.std.proofs.lemmas.Bool.{cases_Bool}
@@ -11,14 +12,13 @@ use Rattle.sp_frame.specs.declared.refused.FrameRefused.{FrameRefused}
 use Rattle.sp_frame.specs.declared.refused.SectionRefused.{SectionRefused}
 use Rattle.sp_rules.specs.Arts.{Arts, is_right}
 use Rattle.sp_rules.proofs.ArrivalLemmas.{link_stays, link_with, of_frame, of_fresh, of_link}
-use Rattle.sp_rules.specs.Arrivals.{link_after, reply_at, sections_in}
+use Rattle.sp_rules.specs.Arrivals.{link_after, reply_at, sections_in, document_in, not_open}
 use Rattle.sp_rules.specs.Link.{Link, after_answer, is_above, link_answer, pair_of}
-use Rattle.sp_rules.specs.Node.{NodeState, link_in}
+use Rattle.sp_rules.specs.Node.{NodeState, link_in, is_shut_to}
 use Rattle.sp_rules.specs.declared.link.LinkAnswer.{LinkAnswer}
 use Rattle.sp_rules.specs.declared.link.LinkAnswer.TheVariants as answers
 use Rattle.sp_rules.specs.declared.node.LinkReply.{LinkReply}
 use Rattle.sp_rules.specs.declared.node.LinkReply.TheVariants as replies
-use Rattle.laws_node.proofs.Tables.{cond_either}
 use Rattle.laws_runs.proofs.Lists.{are_same}
 use Rattle.sp_runs.specs.Forgery as forgery
 use Rattle.sp_runs.specs.Forgery.{has_forged_tag, is_tagged}
@@ -41,13 +41,20 @@ pub data LinkHeard (l k : Link) (h : Head) (reply : LinkReply) : Type 0 where
       → k.seen ≡ cond (nat_lt l.peer_boot (max l.peer_boot h.boot)) (max l.peer_boot h.boot, 0) l.seen → LinkHeard l k h reply
   Takes : is_tagged reply ≡ true → is_above (pair_of h) l.seen ≡ true → k.peer_boot ≡ h.boot → k.seen ≡ pair_of h → LinkHeard l k h reply
 
-pub tagged_fresh : (mine theirs : ℕ) (s : Result Contents SectionRefused) → is_tagged (of_fresh mine theirs s) ≡ true
-tagged_fresh mine theirs s =
-    cond_either (λ (r : Option LinkReply). is_tagged (unwrap_or r replies.Fresh) ≡ true) (not (theirs == mine)) (Some (replies.OtherTopology theirs)) (option_map replies.Section (result_err s)) refl (each s)
+pub tagged_fresh : (mine theirs : ℕ) (documents : Bool) (s : Result Contents SectionRefused) (shut : Bool)
+    → is_tagged (of_fresh mine theirs documents s shut) ≡ true
+tagged_fresh mine theirs documents s shut = go (not (theirs == mine) && not documents) s
   where
-    each : (s : Result Contents SectionRefused) → is_tagged (unwrap_or (option_map replies.Section (result_err s)) replies.Fresh) ≡ true
-    each (Ok contents) = refl
-    each (Err refused) = refl
+    shut_out : (t : Bool) → is_tagged (unwrap_or (cond t (Some replies.Withdrawn) None) replies.Fresh) ≡ true
+    shut_out true = refl
+    shut_out false = refl
+
+    go : (t : Bool) (s : Result Contents SectionRefused)
+        → is_tagged (unwrap_or (or_else (cond t (Some (replies.OtherTopology theirs)) (option_map replies.Section (result_err s)))
+        (not_open (document_in s) shut)) replies.Fresh) ≡ true
+    go true s = refl
+    go false (Ok contents) = shut_out (shut && is_none contents.document)
+    go false (Err refused) = refl
 
 learned_is : (l : Link) (h : Head) (right : Bool) (boot : ℕ) → link_answer l h right ≡ answers.Learned boot → boot ≡ max l.peer_boot h.boot
 learned_is l h right boot e = elim (cases_Bool (not ((h.from.0 == l.peer.0) && (h.to.0 == l.me.0)))) [
@@ -91,13 +98,14 @@ heard_link l h right answers.Fresh after e fresh = Takes fresh (fresh_is l h rig
 pub after_is : (arts : Arts) (n : NodeState) (v : NodeId) (bytes : List ℕ) → LinkHeard (link_in n v) (link_after arts n v bytes) (arts.head bytes) (reply_at arts n v bytes)
 after_is arts n v bytes = go (arts.opened bytes)
   where
-    go : (o : Result (List ℕ) FrameRefused) → LinkHeard (link_in n v) (link_with arts (link_in n v) bytes o) (arts.head bytes) (of_frame arts n.fixed (link_in n v) bytes o)
+    go : (o : Result (List ℕ) FrameRefused) → LinkHeard (link_in n v) (link_with arts (link_in n v) bytes o) (arts.head bytes)
+        (of_frame arts n.fixed n.live.version (is_shut_to n v) (link_in n v) bytes o)
     go (Err refused) = Nothing (ap (λ (l : Link). l.peer_boot) (link_stays arts (link_in n v) bytes refused)) (ap (λ (l : Link). l.seen) (link_stays arts (link_in n v) bytes refused))
     go (Ok frame) =
         let l = link_in n v in
         let right = is_right arts l.key bytes in
         heard_link l (arts.head bytes) right (link_answer l (arts.head bytes) right) _ refl
-        (tagged_fresh n.fixed.topology.version (arts.head bytes).topology (sections_in arts n.fixed bytes))
+        (tagged_fresh n.live.version (arts.head bytes).topology (arts.is_document bytes) (sections_in arts n.fixed bytes) (is_shut_to n v))
 
 -- the pair above which frames are fresh is of the boot that is known, which never falls
 pub above_boot : (h : Head) (l : Link) → l.seen.0 ≡ l.peer_boot → is_above (pair_of h) l.seen ≡ true → l.peer_boot ≤ h.boot

@@ -1,6 +1,9 @@
 -- The flow that was served last to a neighbour is another one after a poll of that neighbour alone.
+use Rattle.sp_rules.specs.Link.{advanced}
+use Rattle.sp_rules.specs.Polls.{is_served, parts_after, polled}
+use Rattle.laws_node.proofs.Adopting.{publishing, reading}
 use Rattle.std.proofs.Common.{◌≡◌, ℕ, ◌==◌, ◌&&◌, Bool, true, false, cond, eqb, List, [], ◌∷◌, Option, Some, None, refl, sym, ap, subst, ◌∙◌, inl, inr, map}
-use Rattle.std.specs.Prelude.{nat_lt, option_map}
+use Rattle.std.specs.Prelude.{unwrap_or, nat_lt, option_map}
 use Rattle.std.proofs.lemmas.Bool.{cases_Bool, eqb-true, eq-eqb, ne_eqb}
 use Rattle.sp_base.specs.declared.id.Flow.{Flow}
 use Rattle.sp_base.specs.declared.id.NodeId.{NodeId}
@@ -10,17 +13,17 @@ use Rattle.sp_msg.specs.declared.kept.Kept.{Kept}
 use Rattle.sp_msg.specs.declared.refused.SendRefused.{SendRefused}
 use Rattle.sp_rules.specs.Answers.{ack_answer, is_new, prio_answer, rel_answer, weight_answer, epoch_answer}
 use Rattle.sp_rules.specs.Arts.{Arts}
-use Rattle.sp_rules.specs.Arrivals.{arrival_at, parts_met, greeted, has_risen, link_after}
+use Rattle.sp_rules.specs.Arrivals.{arrival_at, parts_met, greeted, before_document, document_at, read_by, rises}
 use Rattle.sp_rules.specs.Handle.{Arrival, handle, handle_all, offer_to, prio_handled, met}
 use Rattle.sp_rules.specs.Lives.{are_held, is_dated, judge_epoch, origin_said}
-use Rattle.sp_rules.specs.Node.{NodeState, call_refusal, kept_or, signed_now, link_in}
+use Rattle.sp_rules.specs.Node.{NodeState, call_refusal, kept_or, signed_now, link_in, called, with_link}
 use Rattle.sp_rules.specs.Parts.{Parts, is_signed}
 use Rattle.sp_rules.specs.Pieces.{Piece, AckPiece, PrioAckPiece, PrioPiece, RelPiece, ReportPiece, WeightPiece, EpochPiece}
 use Rattle.sp_rules.specs.Prio as prio
 use Rattle.sp_rules.specs.Prio.{judge_prio}
 use Rattle.sp_rules.specs.Rel.{unheard, RelPeer, RelState, admit_ack, admit_rel, due_place, flow_in, is_peer, judge_ack_of, judge_rel_of, next_place, peer_in, put_peer, reported, served, served_at, settled, settled_at, told, with_peer, restarted, views_less, no_views}
 use Rattle.sp_rules.specs.Sends.{rel_refusal, send_prio_refusal, signer_refusal, weight_refusal}
-use Rattle.sp_rules.specs.Steps.{Input, NodeStep, Output, Poll, Datagram, Tick, SendRel, SendPrio, SetWeight, TakeRel, TakePrio}
+use Rattle.sp_rules.specs.Steps.{Input, NodeStep, Output, Poll, Datagram, Tick, SendRel, SendPrio, SetWeight, TakeRel, TakePrio, Publish}
 use Rattle.sp_rules.specs.Ticks.{at_time, due_now, settled_by}
 use Rattle.sp_rules.specs.Weights.{held}
 use Rattle.sp_rules.specs.declared.answers.Item.TheVariants as items
@@ -29,7 +32,8 @@ use Rattle.sp_rules.specs.declared.answers.PrioAnswer.TheVariants as prios
 use Rattle.laws_node.proofs.Tables.{cond_either}
 use Rattle.laws_runs.proofs.NoStarts.{pieces_at}
 use Rattle.laws_runs.proofs.Tables.{same_node}
-use Rattle.sp_runs.specs.Inputs.{acting, crafted_contents, crafted_frame, flipped, input_of}
+use Rattle.sp_frame.specs.Sections.{with_document}
+use Rattle.sp_runs.specs.Inputs.{acting, crafted_contents, crafted_document, crafted_frame, flipped, input_of, last_weights, may_sign}
 use Rattle.sp_runs.specs.Settings.{Setting}
 use Rattle.sp_runs.specs.Worlds.{World, crafts, frame_in}
 use Rattle.sp_schedule_crafts.specs.Objects.{body_of}
@@ -154,11 +158,15 @@ served_away v0 v r away = go (next_place r v)
 pub step_last : (v0 : NodeId) (arts : Arts) (n : NodeState) (input : Input) (output : Output) (new : NodeState) → NoPoll v0 input → NodeStep arts n input output new
     → NodeSame v0 n new
 step_last v0 arts n (Poll v) output new quiet s =
-    subst (NodeSame v0 n) (sym s.1) (kept_last v0 (call_refusal n v) n _ (served_away v0 v n.parts.rel quiet))
+    subst (NodeSame v0 n) (sym s.1) (kept_last v0 (call_refusal n v) n (called n (with_link n v (advanced (link_in n v))) (parts_after n v))
+    (cond_either (PartsSame v0 n.parts) (is_served n v) (polled n.fixed n.parts v) n.parts (served_away v0 v n.parts.rel quiet) refl))
 step_last v0 arts n (Datagram v bytes) output new quiet s =
-    subst (NodeSame v0 n) (sym s.1) (kept_last v0 (call_refusal n v) n _
-    (pieces_last v0 arts (arrival_at n v) (parts_met arts n v bytes) (pieces_at arts n v bytes)
-    ∙ greeted_last v0 n.fixed.epochs (has_risen (link_in n v) (link_after arts n v bytes)) v n.parts))
+    let left = before_document arts n v bytes in
+    let first : NodeSame v0 n left =
+    pieces_last v0 arts (arrival_at n v) (parts_met arts n v bytes) (pieces_at arts n v bytes)
+    ∙ greeted_last v0 n.fixed.epochs (rises arts n v bytes) v n.parts in
+    subst (NodeSame v0 n) (sym s.1) (kept_last v0 (call_refusal n v) n (read_by arts left (document_at arts n v bytes))
+    (reading arts left (document_at arts n v bytes) (λ m told. NodeSame v0 n m) first (λ document d is reads by. first)))
 step_last v0 arts n (Tick now) output new quiet s = subst (NodeSame v0 n) (sym s.1) (go (due_now n) (signer_refusal n.signer))
   where
     go : (o : Option Ack) (r : Option SendRefused) → NodeSame v0 n (settled_by arts (at_time n now) o r)
@@ -170,6 +178,8 @@ step_last v0 arts n (SendPrio m) output new quiet s = subst (NodeSame v0 n) (sym
 step_last v0 arts n (SetWeight v weight) output new quiet s = subst (NodeSame v0 n) (sym s.1) (kept_last v0 (weight_refusal n v weight) n _ refl)
 step_last v0 arts n (TakeRel src) output new quiet s = subst (NodeSame v0 n) (sym s.1) refl
 step_last v0 arts n TakePrio output new quiet s = subst (NodeSame v0 n) (sym s.1) refl
+step_last v0 arts n (Publish document) output new quiet s =
+    subst (NodeSame v0 n) (sym s.1) (publishing arts n document (λ m told. NodeSame v0 n m) refl (λ d reads by. refl))
 
 -- ---- in runs
 
@@ -199,5 +209,9 @@ no_poll arts x w n (events.Inject a b c) i u v acts off is = just v i _ tt is
 no_poll arts x w n (events.Craft a b c f) i u v acts off is =
     either_by v (nat_lt (crafts w.crafted c) x.total) i (Datagram a (crafted_frame arts n a (crafted_contents arts x w.crafted n c (body_of f)))) tt is
 no_poll arts x w n (events.CraftStatus a b c f g h) i u v acts off is = just v i _ tt is
+no_poll arts x w n (events.Publish a b) i u v acts off is = just v i _ tt is
+no_poll arts x w n (events.CraftDocument a b c f g) i u v acts off is =
+    either_by v (may_sign x w.crafted c) i
+    (Datagram a (crafted_frame arts n a (with_document (crafted_document arts x w.crafted c f (unwrap_or g (last_weights x w.published)))))) tt is
 no_poll arts x w n (events.Start a) i u v acts off is = absurd cc
 no_poll arts x w n (events.Stop a) i u v acts off is = absurd cc

@@ -16,6 +16,7 @@ pub mod Hops
 pub mod HopLemmas
 pub mod Heard
 -- ---- a node: what its steps leave of a flow, of a link and of what a neighbour reported
+pub mod Versions
 pub mod Becomes
 pub mod LastBoots
 pub mod States

@@ -1,6 +1,5 @@
 -- Counted delivery over starts and stops: what the rounds of a calm interval leave at both ends of a path.
 use Rattle.std.proofs.lemmas.List.Concat.{flat_map-append}
-use Rattle.laws_progress.specs.Delivery.{IsDelivered}
 use Rattle.laws_node.proofs.FreshLemmas.{one}
 use Rattle.laws_progress.proofs.Along.{AreCounted}
 use Rattle.laws_progress.proofs.Begins.{Lifted, lifted}
@@ -18,6 +17,7 @@ use Rattle.laws_progress.proofs.Watching.{AllUp, IsFree, are_up, calmly_on, up_o
 use Rattle.laws_progress.proofs.Whole.{steady}
 use Rattle.laws_progress.proofs.Wires.{wires}
 use Rattle.laws_progress.specs.Calm.{IsCalm, IsCalmAt}
+use Rattle.laws_progress.specs.Delivery.{IsDelivered, TopologyStays}
 use Rattle.laws_progress.specs.LifeDelivery.{CountedDeliveryInLives, CountedReturnInLives}
 use Rattle.laws_runs.proofs.Determined.{past_is_determined}
 use Rattle.laws_runs.proofs.FlowRuns.{flows_are_kept_over_lives}
@@ -105,7 +105,8 @@ past_grows arts x all fits reads (e ∷ es) w y (facts.Steps {x = m} (Follow j e
 
 module _ (arts : Arts) (x : Setting) (es : List Event) (js : List Entry) (w : World) (after : List Event) (more : List Entry) (end : World) (fits : SettingFits arts x)
     (reads : ComesThrough x.topology.format arts x.signature_len) (run : Clean arts x es js w) (longer : Clean arts x (es ++ after) (js ++ more) end)
-    (s d : NodeId) (path : List NodeId) (is : IsCorrectPath x s d path) (a b : ℕ) (calm : IsCalm w after s a d b path) where
+    (stays : TopologyStays (es ++ after)) (s d : NodeId) (path : List NodeId) (is : IsCorrectPath x s d path) (a b : ℕ)
+    (calm : IsCalm w after s a d b path) where
   abbrev flow : Flow
   flow = record { src = s; dst = d }
 
@@ -181,12 +182,12 @@ module _ (arts : Arts) (x : Setting) (es : List Event) (js : List Entry) (w : Wo
   early_is u v on n at = ap (λ k. polls (es ++ after) u v - k) (sent_is u v n at)
 
   watched_last : Watched arts x (es ++ after) era
-  watched_last = watch arts x (es ++ after) era flow fits reads.carries is_era reads.heads last up_last early_is
+  watched_last = watch arts x (es ++ after) era flow fits reads.carries is_era reads.heads stays last up_last early_is
       (λ u v on joined n at. sent_within arts x (es ++ after) (js ++ more) end fits reads.carries longer u v joined n at)
 
   last_at : watched_last.at ≡ last
   unfolding watched_last
-  last_at = watch_is arts x (es ++ after) era flow fits reads.carries is_era reads.heads last up_last early_is
+  last_at = watch_is arts x (es ++ after) era flow fits reads.carries is_era reads.heads stays last up_last early_is
       (λ u v on joined n at. sent_within arts x (es ++ after) (js ++ more) end fits reads.carries longer u v joined n at)
 
   lift : Lifted arts x (es ++ after) era fits reads.carries after start.mid watched_last
@@ -313,11 +314,11 @@ module _ (arts : Arts) (x : Setting) (es : List Event) (js : List Entry) (w : Wo
 -- ---- the laws
 
 pub delivery_is_counted_in_lives : CountedDeliveryInLives
-delivery_is_counted_in_lives arts x fits reads one es js w after more v run longer s d path is a b calm n at q k pos has near least enough rounds =
-    found arts x es js w after more v fits reads run longer s d path is a b calm q pos has
-    (delivers arts x es js w after more v fits reads run longer s d path is a b calm one least enough n at q k has near rounds)
+delivery_is_counted_in_lives arts x fits reads one es js w after more v run longer stays s d path is a b calm n at q k pos has near least enough rounds =
+    found arts x es js w after more v fits reads run longer stays s d path is a b calm q pos has
+    (delivers arts x es js w after more v fits reads run longer stays s d path is a b calm one least enough n at q k has near rounds)
 
 pub acknowledgements_return_in_lives : CountedReturnInLives
-acknowledgements_return_in_lives arts x fits reads one es js w after more v run longer s d path is a b calm n at least enough rounds =
-    let base = returns arts x es js w after more v fits reads run longer s d path is a b calm one least enough n at rounds in
+acknowledgements_return_in_lives arts x fits reads one es js w after more v run longer stays s d path is a b calm n at least enough rounds =
+    let base = returns arts x es js w after more v fits reads run longer stays s d path is a b calm one least enough n at rounds in
     record { base = base; room = λ low. ne_eqb _ _ (λ full. omega (arith, full, low, base, one)) }

@@ -8,7 +8,7 @@ use Rattle.sp_frame.specs.declared.refused.SectionRefused.{SectionRefused}
 use Rattle.sp_msg.specs.declared.body.Body.{Body}
 use Rattle.sp_msg.specs.declared.body.Body.TheVariants as bodies
 use Rattle.sp_msg.specs.declared.kept.Kept.{Kept}
-use Rattle.sp_rules.specs.Arrivals.{arrival_at, handled, parts_met, pieces_in, pieces_where, reply_at, sections_in}
+use Rattle.sp_rules.specs.Arrivals.{arrival_at, handled, parts_met, pieces_in, pieces_where, reply_at, sections_in, heeded, pieces_beside}
 use Rattle.sp_rules.specs.Arts.{Arts}
 use Rattle.sp_rules.specs.Handle.{handle, handle_all}
 use Rattle.sp_rules.specs.Lives.{boot_said, held_boot, is_life, next_row, origin_said}
@@ -72,25 +72,28 @@ origin_is v (bodies.Weight b) is = absurd is
 origin_is v (bodies.Krel b) is = absurd is
 origin_is v (bodies.Kack b) is = absurd is
 
--- with epochs all pieces of a fresh frame are handled
-taken_parts : (arts : Arts) (m : NodeState) (u : NodeId) (bytes : List ℕ) (s : Contents) → reply_at arts m u bytes ≡ replies.Fresh
+-- with epochs all pieces of a fresh frame without a document are handled
+taken_parts : (arts : Arts) (m : NodeState) (u : NodeId) (bytes : List ℕ) (s : Contents) → s.document ≡ None → reply_at arts m u bytes ≡ replies.Fresh
     → sections_in arts m.fixed bytes ≡ Ok s → m.fixed.epochs ≡ true
     → (handled arts m u bytes).parts ≡ (handle_all arts (arrival_at m u) (parts_met arts m u bytes) (pieces_of s)).parts
-taken_parts arts m u bytes s fresh sections on =
+taken_parts arts m u bytes s plain fresh sections on =
     let at = arrival_at m u in
     let p = parts_met arts m u bytes in
     ap (λ (r : LinkReply). (handle_all arts at p (pieces_where r (pieces_in m.fixed (sections_in arts m.fixed bytes)))).parts) fresh
     ∙ ap (λ (c : Result Contents SectionRefused). (handle_all arts at p (pieces_in m.fixed c)).parts) sections
+    ∙ ap (λ (o : Option (List ℕ)). (handle_all arts at p (pieces_beside o (pieces_of (heeded m.fixed s)))).parts) plain
     ∙ ap (λ (t : Bool). (handle_all arts at p (pieces_of (cond t s (record s { epoch = None })))).parts) on
 
-pub taken_told : (arts : Arts) (m : NodeState) (u o : NodeId) (bytes : List ℕ) (s : Contents) (object : Kept) → reply_at arts m u bytes ≡ replies.Fresh
+pub taken_told : (arts : Arts) (m : NodeState) (u o : NodeId) (bytes : List ℕ) (s : Contents) (object : Kept) → s.document ≡ None
+    → reply_at arts m u bytes ≡ replies.Fresh
     → sections_in arts m.fixed bytes ≡ Ok s → m.fixed.epochs ≡ true → s.epoch ≡ Some object → IsEpochOf o object.body → is_signed arts m.fixed object ≡ true
     → (o.0 == m.fixed.me.0) ≡ false → list_any (is_life o) (handled arts m u bytes).parts.lives ≡ true
     → boot_said object.body ≤ held_boot (handled arts m u bytes).parts.lives o
-taken_told arts m u o bytes s object fresh sections on carried kind right away known =
+taken_told arts m u o bytes s object plain fresh sections on carried kind right away known =
     let at = arrival_at m u in
     let last = last_piece arts at (parts_met arts m u bytes) s object carried in
-    let whole : (handled arts m u bytes).parts ≡ (handle arts at last.0 (EpochPiece object)).parts = taken_parts arts m u bytes s fresh sections on ∙ last.1 in
+    let whole : (handled arts m u bytes).parts ≡ (handle arts at last.0 (EpochPiece object)).parts =
+    taken_parts arts m u bytes s plain fresh sections on ∙ last.1 in
     let mine = origin_is o object.body kind in
     let end = (handle arts at last.0 (EpochPiece object)).parts.lives in
     let told : boot_said object.body ≤ held_boot end (origin_said object.body) =

@@ -1,5 +1,8 @@
 -- The last piece of a frame, what a node said of its start: who takes it holds the boot that it says, or a later one. And which row went last to a neighbour
 -- changes by polls of that neighbour alone.
+use Rattle.sp_rules.specs.Link.{advanced}
+use Rattle.sp_rules.specs.Polls.{is_served, parts_after, polled}
+use Rattle.laws_node.proofs.Adopting.{publishing, reading}
 use Rattle.std.proofs.Common.{◌≡◌, ◌≤◌, ◌⊎◌, ℕ, ◌==◌, nat_le, Bool, true, false, List, [], ◌∷◌, ◌++◌, map, Option, Some, None, refl, sym, ap}
 use Rattle.std.proofs.Common.{subst, ◌∙◌, inl, inr, arith}
 use Rattle.std.specs.List.{list_any}
@@ -14,17 +17,18 @@ use Rattle.sp_msg.specs.declared.body.Body.TheVariants as bodies
 use Rattle.sp_msg.specs.declared.kept.Kept.{Kept}
 use Rattle.sp_msg.specs.declared.refused.SendRefused.{SendRefused}
 use Rattle.sp_rules.specs.Answers.{ack_answer, epoch_answer, is_new, prio_answer, rel_answer, weight_answer}
-use Rattle.sp_rules.specs.Arrivals.{arrival_at, greeted, has_risen, link_after, parts_met, pieces_in, pieces_where, reply_at, sections_in}
+use Rattle.sp_rules.specs.Arrivals.{arrival_at, before_document, document_at, greeted, parts_met, pieces_in, pieces_where, read_by, reply_at, rises}
+use Rattle.sp_rules.specs.Arrivals.{sections_in}
 use Rattle.sp_rules.specs.Arts.{Arts}
 use Rattle.sp_rules.specs.Handle.{Arrival, handle, handle_all, met, offer_to, prio_handled}
 use Rattle.sp_rules.specs.Lives.{are_held, boot_said, held_boot, is_dated, is_known, judge_epoch, last_to, origin_said}
-use Rattle.sp_rules.specs.Node.{NodeState, call_refusal, kept_or, link_in}
+use Rattle.sp_rules.specs.Node.{NodeState, call_refusal, kept_or, link_in, called, with_link}
 use Rattle.sp_rules.specs.Parts.{Parts, is_signed, place_of}
 use Rattle.sp_rules.specs.Pieces.{Piece, AckPiece, EpochPiece, PrioAckPiece, PrioPiece, RelPiece, ReportPiece, WeightPiece, pieces_of, prio_piece, slot_pieces}
 use Rattle.sp_rules.specs.Prio.{judge_prio}
 use Rattle.sp_rules.specs.Rel.{admit_ack, admit_rel, judge_ack_of, judge_rel_of, reported}
 use Rattle.sp_rules.specs.Sends.{rel_refusal, send_prio_refusal, signer_refusal, weight_refusal}
-use Rattle.sp_rules.specs.Steps.{Input, NodeStep, Output, Poll, Datagram, Tick, SendRel, SendPrio, SetWeight, TakeRel, TakePrio}
+use Rattle.sp_rules.specs.Steps.{Input, NodeStep, Output, Poll, Datagram, Tick, SendRel, SendPrio, SetWeight, TakeRel, TakePrio, Publish}
 use Rattle.sp_rules.specs.Ticks.{at_time, due_now, settled_by}
 use Rattle.sp_rules.specs.Weights.{held}
 use Rattle.sp_rules.specs.declared.answers.EpochAnswer.{EpochAnswer}
@@ -154,14 +158,19 @@ kept_cycles v (Some x) n m same = refl
 pub last_stays : (arts : Arts) (n : NodeState) (input : Input) (output : Output) (new : NodeState) (v : NodeId)
     → list_any (λ k. k.id.0 == v.0) n.fixed.topology.nodes ≡ true → NoPoll v input → NodeStep arts n input output new → LastStays v n new
 last_stays arts n (Poll u) output new v there quiet s =
-    subst (LastStays v n) (sym s.1) (kept_cycles v (call_refusal n u) n _
+    subst (LastStays v n) (sym s.1) (kept_cycles v (call_refusal n u) n (called n (with_link n u (advanced (link_in n u))) (parts_after n u))
+    (cond_either (λ (p : Parts). last_to p.origins (place_of n.fixed v) ≡ last_to n.parts.origins (place_of n.fixed v)) (is_served n u)
+    (polled n.fixed n.parts u) n.parts
     (moved_there n.parts.lives n.parts.origins (place_of n.fixed u) (place_of n.fixed v)
-    (λ same. quiet (ap (λ (k : ℕ). record { 0 = k }) (place_apart n.fixed.topology.nodes u v there same)))))
+    (λ same. quiet (ap (λ (k : ℕ). record { 0 = k }) (place_apart n.fixed.topology.nodes u v there same)))) refl))
 last_stays arts n (Datagram u bytes) output new v there quiet s =
-    subst (LastStays v n) (sym s.1) (kept_cycles v (call_refusal n u) n _
-    (ap (λ (os : List (Option ℕ)). last_to os (place_of n.fixed v))
+    let left = before_document arts n u bytes in
+    let first : LastStays v n left =
+    ap (λ (os : List (Option ℕ)). last_to os (place_of n.fixed v))
     (all_cycles arts (arrival_at n u) (parts_met arts n u bytes) (pieces_where (reply_at arts n u bytes) (pieces_in n.fixed (sections_in arts n.fixed bytes)))
-    ∙ greeted_cycles n.fixed.epochs (has_risen (link_in n u) (link_after arts n u bytes)) u n.parts)))
+    ∙ greeted_cycles n.fixed.epochs (rises arts n u bytes) u n.parts) in
+    subst (LastStays v n) (sym s.1) (kept_cycles v (call_refusal n u) n (read_by arts left (document_at arts n u bytes))
+    (reading arts left (document_at arts n u bytes) (λ m told. LastStays v n m) first (λ document d is reads by. first)))
 last_stays arts n (Tick now) output new v there quiet s = subst (LastStays v n) (sym s.1) (go (due_now n) (signer_refusal n.signer))
   where
     go : (o : Option Ack) (r : Option SendRefused) → LastStays v n (settled_by arts (at_time n now) o r)
@@ -173,3 +182,5 @@ last_stays arts n (SendPrio m) output new v there quiet s = subst (LastStays v n
 last_stays arts n (SetWeight u weight) output new v there quiet s = subst (LastStays v n) (sym s.1) (kept_cycles v (weight_refusal n u weight) n _ refl)
 last_stays arts n (TakeRel src) output new v there quiet s = subst (LastStays v n) (sym s.1) refl
 last_stays arts n TakePrio output new v there quiet s = subst (LastStays v n) (sym s.1) refl
+last_stays arts n (Publish document) output new v there quiet s =
+    subst (LastStays v n) (sym s.1) (publishing arts n document (λ m told. LastStays v n m) refl (λ d reads by. refl))

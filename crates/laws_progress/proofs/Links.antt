@@ -1,4 +1,5 @@
 -- What a step does to the link of a neighbour, and what a link is in each state: its frames are counted by the polls.
+use Rattle.laws_node.proofs.Adopting.{publishing, reading}
 use Rattle.std.proofs.Common.{◌≡◌, ℕ, true, List, [], Option, Some, None, refl, sym, ap, subst, ◌∙◌, inl, inr}
 use Rattle.std.specs.List.{list_any}
 use Rattle.std.proofs.lemmas.Bool.{cases_eq, eqb-true, eq-eqb, ne_eqb}
@@ -7,13 +8,13 @@ use Rattle.sp_base.specs.declared.id.NodeId.{NodeId}
 use Rattle.sp_msg.specs.declared.body.Ack.{Ack}
 use Rattle.sp_msg.specs.declared.refused.SendRefused.{SendRefused}
 use Rattle.sp_rules.specs.Arts.{Arts}
-use Rattle.sp_rules.specs.Arrivals.{handled, link_after}
+use Rattle.sp_rules.specs.Arrivals.{link_after, before_document, document_at, read_by}
 use Rattle.sp_rules.specs.Link.{Link, advanced, new_link}
 use Rattle.sp_rules.specs.Node.{NodeState, call_refusal, called, is_link, kept_or, link_in, with_link}
 use Rattle.sp_rules.specs.Parts.{Fixed}
-use Rattle.sp_rules.specs.Polls.{polled}
+use Rattle.sp_rules.specs.Polls.{parts_after}
 use Rattle.sp_rules.specs.Sends.{rel_refusal, send_prio_refusal, signer_refusal, weight_refusal}
-use Rattle.sp_rules.specs.Steps.{Input, NodeStep, Output, Poll, Datagram, Tick, SendRel, SendPrio, SetWeight, TakeRel, TakePrio}
+use Rattle.sp_rules.specs.Steps.{Input, NodeStep, Output, Poll, Datagram, Tick, SendRel, SendPrio, SetWeight, TakeRel, TakePrio, Publish}
 use Rattle.sp_rules.specs.Ticks.{at_time, due_now, settled_by}
 use Rattle.sp_rules.specs.declared.node.NodeRefused.{NodeRefused}
 use Rattle.laws_runs.proofs.FlowFacts.{first_replaced, other_replaced}
@@ -51,7 +52,7 @@ pub link_step : (arts : Arts) (x : Setting) (n : NodeState) (i : Input) (o : Out
     → NodeStep arts n i o m → reply_word x k o.reply ≡ Some reply → LinkAfter arts n i m v
 link_step arts x n (Poll u) o m v k reply there s says =
     let free = answered x k (call_refusal n u) _ reply (ap (λ (p : Output). reply_word x k p.reply) (sym s.0) ∙ says) in
-    let made = called n (with_link n u (advanced (link_in n u))) (polled n.fixed n.parts u) in
+    let made = called n (with_link n u (advanced (link_in n u))) (parts_after n u) in
     let after : m ≡ made = s.1 ∙ ap (λ (r : Option NodeRefused). kept_or r n made) free in
     elim (cases_eq u.0 v.0) [
       | inl z ↦
@@ -64,16 +65,21 @@ link_step arts x n (Poll u) o m v k reply there s says =
     ]
 link_step arts x n (Datagram u bytes) o m v k reply there s says =
     let free = answered x k (call_refusal n u) _ reply (ap (λ (p : Output). reply_word x k p.reply) (sym s.0) ∙ says) in
-    let made = called n (with_link n u (link_after arts n u bytes)) (handled arts n u bytes).parts in
+    let left = before_document arts n u bytes in
+    let made = read_by arts left (document_at arts n u bytes) in
+    let same : link_in made v ≡ link_in left v =
+    reading arts left (document_at arts n u bytes) (λ q told. link_in q v ≡ link_in left v) refl (λ document d is reads by. refl) in
     let after : m ≡ made = s.1 ∙ ap (λ (r : Option NodeRefused). kept_or r n made) free in
     elim (cases_eq u.0 v.0) [
       | inl z ↦
           let is : u ≡ v = same_node u v z in
-          Hears bytes (ap (λ w. Datagram w bytes) is) (ap (λ (q : NodeState). link_in q v) after ∙ ap (λ w. first_where (is_link v) (new_link n.fixed.me v 0 []) (with_link n w (link_after arts n w bytes))) is
+          Hears bytes (ap (λ w. Datagram w bytes) is)
+          (ap (λ (q : NodeState). link_in q v) after ∙ same
+          ∙ ap (λ w. first_where (is_link v) (new_link n.fixed.me v 0 []) (with_link n w (link_after arts n w bytes))) is
           ∙ put_link n v (link_after arts n v bytes) (after_peer arts n v bytes) there)
       | inr z ↦
           let away : u ≡ v → ⊥ = λ e. z (ap (λ (w : NodeId). w.0) e) in
-          Rests tt (ap (λ (q : NodeState). link_in q v) after ∙ other_link n u v (link_after arts n u bytes) (after_peer arts n u bytes) away)
+          Rests tt (ap (λ (q : NodeState). link_in q v) after ∙ same ∙ other_link n u v (link_after arts n u bytes) (after_peer arts n u bytes) away)
     ]
 link_step arts x n (Tick now) o m v k reply there s says = subst (λ q. LinkAfter arts n (Tick now) q v) (sym s.1) (go (due_now n) (signer_refusal n.signer))
   where
@@ -86,3 +92,5 @@ link_step arts x n (SendPrio q) o m v k reply there s says = subst (λ z. LinkAf
 link_step arts x n (SetWeight u weight) o m v k reply there s says = subst (λ q. LinkAfter arts n (SetWeight u weight) q v) (sym s.1) (kept_link arts (weight_refusal n u weight) n _ _ v tt refl refl)
 link_step arts x n (TakeRel src) o m v k reply there s says = subst (λ q. LinkAfter arts n (TakeRel src) q v) (sym s.1) (same_link arts n _ _ v tt refl refl)
 link_step arts x n TakePrio o m v k reply there s says = subst (λ q. LinkAfter arts n TakePrio q v) (sym s.1) (same_link arts n _ _ v tt refl refl)
+link_step arts x n (Publish document) o m v k reply there s says =
+    Rests tt (ap (λ (q : NodeState). link_in q v) s.1 ∙ publishing arts n document (λ q told. link_in q v ≡ link_in n v) refl (λ d reads by. refl))

@@ -90,6 +90,8 @@ frames_step arts x w n (events.Inject a b c) i o m j u v reaches step says = inr
 frames_step arts x w n (events.Craft a b c f) i o m j u v reaches step says = inr (refl, refl)
 frames_step arts x w n (events.CraftStatus a b c f g h) i o m j u v reaches step says = inr (refl, refl)
 frames_step arts x w n (events.Start a) i o m j u v reaches step says = inr (refl, refl)
+frames_step arts x w n (events.Publish a b) i o m j u v reaches step says = inr (refl, refl)
+frames_step arts x w n (events.CraftDocument a b c f g) i o m j u v reaches step says = inr (refl, refl)
 frames_step arts x w n (events.Stop a) i o m j u v reaches step says = inr (refl, refl)
 
 -- ---- an event
@@ -141,6 +143,8 @@ missed arts old new e u v nobody after = elim (cases_Bool (is_poll u v e)) [
     others (events.Inject a b c) off = refl
     others (events.Craft a b c f) off = refl
     others (events.CraftStatus a b c f g h) off = refl
+    others (events.Publish a b) off = refl
+    others (events.CraftDocument a b c f g) off = refl
     others (events.Start a) off = refl
     others (events.Stop a) off = refl
 

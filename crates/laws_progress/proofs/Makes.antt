@@ -71,8 +71,9 @@ record AckMade (flow : Flow) (low base : ℕ) (o : Option Kept) : Type 0 where
   none : has_ack o ≡ false → base ≤ low
   is : SlotAck flow base o
 
-ack_made : (flow : Flow) (f : FlowState) (low : ℕ) → FlowAck f → ((o : Kept) → f.ack ≡ Some o → IsAckOf flow o.body) → AckMade flow low f.at.base (cond (nat_lt low f.at.base) f.ack None)
-ack_made flow f low acks kinds = go (nat_lt low f.at.base) refl
+ack_made : (gone : List NodeId) (flow : Flow) (f : FlowState) (low : ℕ) → FlowAck gone f → ((o : Kept) → f.ack ≡ Some o → IsAckOf flow o.body)
+    → AckMade flow low f.at.base (cond (nat_lt low f.at.base) f.ack None)
+ack_made gone flow f low acks kinds = go (nat_lt low f.at.base) refl
   where
     go : (t : Bool) → nat_lt low f.at.base ≡ t → AckMade flow low f.at.base (cond t f.ack None)
     go false e = record { none = λ z. ltb-false low f.at.base e; is = No_ack }
@@ -182,7 +183,7 @@ slot_made k index r v flow h acks =
     let w = view_in (peer_in r.peers v).views flow in
     let s = flow_sound k index r flow h in
     let found = found_ends r.flows flow in
-    let a = ack_made flow f w.base (flow_ack r flow acks) (λ o e. subst (λ fl. IsAckOf fl o.body) found (s.kinds o e)) in
+    let a = ack_made r.removed flow f w.base (flow_ack r flow acks) (λ o e. subst (λ fl. IsAckOf fl o.body) found (s.kinds o e)) in
     let messages : AreMessages flow f.at.base f.at.list = subst (λ fl. AreMessages fl f.at.base f.at.list) found s.messages in
     let go : (t : Bool) → is_to r flow ≡ t → RelsMade flow t f (max w.have f.at.base) (cond t [] (messages_after f.at (max w.have f.at.base))) =
     λ t. elim (cases_Bool t) [

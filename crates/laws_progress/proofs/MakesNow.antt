@@ -3,7 +3,8 @@
 use Rattle.laws_node.specs.Story.{journal}
 use Rattle.laws_progress.proofs.Changes.{life_is, lit, era_is}
 use Rattle.laws_progress.proofs.Hops.{IsServed, IsMade, Told}
-use Rattle.laws_progress.proofs.States.{actives_of, knows_life, Era, Follow, IsBetween, Leads, Watched, flow_of, flow_seen, has_met, in_era, sight, view_at, view_seen}
+use Rattle.laws_progress.proofs.States.{Era, Follow, IsBetween, Leads, Watched, actives_of, flow_of, flow_seen, has_met, in_era, knows_life, sight}
+use Rattle.laws_progress.proofs.States.{stays_at, view_at, view_seen}
 use Rattle.laws_runs.proofs.Running.{found_there}
 use Rattle.laws_runs.specs.Past.{holds}
 use Rattle.std.proofs.lemmas.Option.{same_Some}
@@ -188,7 +189,7 @@ module _ (arts : Arts) (x : Setting) (all : List Event) (era : Era) (flow : Flow
         b,
         record {
           there = there;
-          framed = frame_at arts x w.at.events w.at.journal w.at.world fits reads w.at.run u v hop.hop.joined b there;
+          framed = frame_at arts x w.at.events w.at.journal w.at.world fits reads w.at.run (stays_at arts x all w.at w.stays) u v hop.hop.joined b there;
           at = last_place (Some (frame_to arts b v)) frames;
         },
       )

@@ -1,12 +1,13 @@
 -- A frame that is passed comes through: the node that it reaches knows the sender's boot, and, where the frame echoes its own, has seen the frame or a later one.
+use Rattle.laws_progress.proofs.Versions.{datagram_same}
 use Rattle.std.proofs.Common.{◌≡◌, ℕ, true, false, List, Option, Some, None, sym, ap, ◌∙◌}
 use Rattle.std.specs.Prelude.{option_and_then}
 use Rattle.std.specs.List.{list_any}
 use Rattle.std.proofs.lemmas.Bool.{eqb-true}
 use Rattle.sp_base.specs.declared.id.NodeId.{NodeId}
 use Rattle.sp_rules.specs.Arts.{Arts}
-use Rattle.sp_rules.specs.Arrivals.{handled, link_after}
-use Rattle.sp_rules.specs.Node.{NodeState, call_refusal, called, is_link, kept_or, link_in, with_link}
+use Rattle.sp_rules.specs.Arrivals.{link_after, before_document}
+use Rattle.sp_rules.specs.Node.{NodeState, call_refusal, is_link, kept_or, link_in}
 use Rattle.sp_rules.specs.Steps.{Datagram, NodeStep, Output}
 use Rattle.sp_rules.specs.declared.node.NodeRefused.{NodeRefused}
 use Rattle.laws_runs.proofs.Lists.{both}
@@ -38,6 +39,8 @@ pass_is u v k (events.Inject a b c) is = absurd (let e : false ≡ true = is in 
 pass_is u v k (events.Craft a b c f) is = absurd (let e : false ≡ true = is in cc)
 pass_is u v k (events.CraftStatus a b c f g h) is = absurd (let e : false ≡ true = is in cc)
 pass_is u v k (events.Start a) is = absurd (let e : false ≡ true = is in cc)
+pass_is u v k (events.Publish a b) is = absurd (let e : false ≡ true = is in cc)
+pass_is u v k (events.CraftDocument a b c f g) is = absurd (let e : false ≡ true = is in cc)
 pass_is u v k (events.Stop a) is = absurd (let e : false ≡ true = is in cc)
 
 -- a frame that is in its place
@@ -45,13 +48,13 @@ pub in_place : (o : Option (Option (List ℕ))) (bytes : List ℕ) → option_an
 in_place None bytes e = absurd (let f : None ≡ Some bytes = e in cc)
 in_place (Some frame) bytes e = ap Some e
 
--- a datagram that was answered leaves its link and its parts
+-- a datagram that was answered, and left the version of its node, leaves its link and its parts
 pub datagram_after : (arts : Arts) (x : Setting) (n : NodeState) (u : NodeId) (bytes : List ℕ) (o : Output) (m : NodeState) (k : ℕ) (reply : Reply) → NodeStep arts n (Datagram u bytes) o m → reply_word x k o.reply ≡ Some reply
-    → m ≡ called n (with_link n u (link_after arts n u bytes)) (handled arts n u bytes).parts
-datagram_after arts x n u bytes o m k reply s says =
+    → m.live.version ≡ n.live.version → m ≡ before_document arts n u bytes
+datagram_after arts x n u bytes o m k reply s says same =
     let free = answered x k (call_refusal n u) _ reply (ap (λ (p : Output). reply_word x k p.reply) (sym s.0) ∙ says) in
-    s.1 ∙ ap (λ (r : Option NodeRefused). kept_or r n (called n (with_link n u (link_after arts n u bytes)) (handled arts n u bytes).parts)) free
+    datagram_same arts n u bytes m s.1 same ∙ ap (λ (r : Option NodeRefused). kept_or r n (before_document arts n u bytes)) free
 
-pub datagram_link : (arts : Arts) (n m : NodeState) (u : NodeId) (bytes : List ℕ) → list_any (is_link u) n.links ≡ true → m ≡ called n (with_link n u (link_after arts n u bytes)) (handled arts n u bytes).parts
+pub datagram_link : (arts : Arts) (n m : NodeState) (u : NodeId) (bytes : List ℕ) → list_any (is_link u) n.links ≡ true → m ≡ before_document arts n u bytes
     → link_in m u ≡ link_after arts n u bytes
 datagram_link arts n m u bytes there is = ap (λ (q : NodeState). link_in q u) is ∙ put_link n u (link_after arts n u bytes) (after_peer arts n u bytes) there

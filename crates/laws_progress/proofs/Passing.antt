@@ -8,7 +8,7 @@ use Rattle.laws_progress.proofs.Hears.{knows, link_row, top_now}
 use Rattle.laws_progress.proofs.KnownRuns.{KnowsOf}
 use Rattle.laws_progress.proofs.MakesNow.{slot_echo}
 use Rattle.laws_progress.proofs.Passes.{datagram_after, datagram_link, in_place, pass_is}
-use Rattle.laws_progress.proofs.States.{Era, IsBetween, IsEra, Watched, heard_of, in_life, knows_life, numbered, sight}
+use Rattle.laws_progress.proofs.States.{Era, IsBetween, IsEra, Watched, heard_of, in_life, knows_life, numbered, sight, stays_at}
 use Rattle.laws_progress.proofs.Wires.{nothing_told, slot_in, told_of, wires}
 use Rattle.laws_runs.proofs.Reaches.{came}
 use Rattle.laws_runs.proofs.Ready.{ready_frames}
@@ -101,7 +101,7 @@ module _ (arts : Arts) (x : Setting) (all : List Event) (era : Era) (flow : Flow
         let a = mv.act in
         datagram_link arts a.node a.after u bytes (link_row arts x all era flow fits reads is_era w y e u v hop a first second)
         (datagram_after arts x a.node u bytes a.output a.after (next_frame (ready x w.at.world e) e) a.entry.reply
-        (subst (λ i. NodeStep arts a.node i a.output a.after) input_is a.step) a.journal.reply)
+        (subst (λ i. NodeStep arts a.node i a.output a.after) input_is a.step) a.journal.reply a.keeps)
 
     done_by : (j : ℕ) → k ≡ suc j → Arrived arts x w.at.events w.at.world u v mv.act.before bytes j → Came arts mv.act.node u bytes → PassDone ((arts.head bytes).echo == era.life v)
     done_by j k_is it came = go came
@@ -177,7 +177,9 @@ module _ (arts : Arts) (x : Setting) (all : List Event) (era : Era) (flow : Flow
     done_at : (j : ℕ) → k ≡ suc j → slice_get (frames_in w.at.world.directions u v) j ≡ Some (Some bytes) → PassDone ((arts.head bytes).echo == era.life v)
     done_at j k_is there =
         let a = mv.act in
-        let it = frame_arrived arts x w.at.events w.at.journal w.at.world fits reads w.at.run u v hop.hop a.before a.there j bytes there in
+        let it =
+        frame_arrived arts x w.at.events w.at.journal w.at.world fits reads w.at.run (stays_at arts x all w.at w.stays) u v hop.hop a.before a.there j bytes
+        there in
         done_by j k_is it (readied_keeps x w.at.world a.before a.node (λ q. Came arts q u bytes) (λ upto h. extended_came arts a.before upto u bytes h) a.readied it.came)
 
     done : PassDone ((arts.head bytes).echo == era.life v)

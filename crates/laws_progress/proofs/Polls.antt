@@ -1,5 +1,5 @@
 -- Polls: how many, and which flow each serves.
-use Rattle.std.proofs.Common.{◌≡◌, ℕ, ◌+◌, true, false, cond, List, [], ◌∷◌, ◌++◌, Option, Some, None, refl, ap, ◌∙◌, arith, ◌≤◌}
+use Rattle.std.proofs.Common.{◌≡◌, ℕ, ◌+◌, true, false, cond, List, [], ◌∷◌, ◌++◌, Option, Some, None, refl, ap, ◌∙◌, arith, ◌≤◌, Bool}
 use Rattle.std.specs.List.{list_any}
 use Rattle.std.proofs.lemmas.Bool.{eqb-true, eq-eqb}
 use Rattle.std.proofs.lemmas.List.Sums.{sum_by_push}
@@ -7,10 +7,10 @@ use Rattle.sp_base.specs.declared.id.NodeId.{NodeId}
 use Rattle.sp_rules.specs.Arts.{Arts}
 use Rattle.sp_rules.specs.Node.{NodeState, call_refusal, called, kept_or, link_in, with_link}
 use Rattle.sp_rules.specs.Link.{advanced}
-use Rattle.sp_rules.specs.Polls.{after_poll, polled}
+use Rattle.sp_rules.specs.Polls.{after_poll, polled, is_served, parts_after}
 use Rattle.sp_rules.specs.Rel.{RelPeer, RelState, is_peer, new_peer, next_place, peer_in, served, served_at}
 use Rattle.sp_rules.specs.Steps as steps
-use Rattle.sp_rules.specs.Steps.{Input, NodeStep, Output, Poll, poll_output}
+use Rattle.sp_rules.specs.Steps.{Output, Poll}
 use Rattle.sp_rules.specs.declared.node.NodeRefused.{NodeRefused}
 use Rattle.laws_runs.proofs.FlowFacts.{first_replaced}
 use Rattle.laws_runs.proofs.Lists.{both}
@@ -43,6 +43,8 @@ poll_is u v (events.Inject a b c) is = absurd (let e : false ≡ true = is in cc
 poll_is u v (events.Craft a b c f) is = absurd (let e : false ≡ true = is in cc)
 poll_is u v (events.CraftStatus a b c f g h) is = absurd (let e : false ≡ true = is in cc)
 poll_is u v (events.Start a) is = absurd (let e : false ≡ true = is in cc)
+poll_is u v (events.Publish a b) is = absurd (let e : false ≡ true = is in cc)
+poll_is u v (events.CraftDocument a b c f g) is = absurd (let e : false ≡ true = is in cc)
 poll_is u v (events.Stop a) is = absurd (let e : false ≡ true = is in cc)
 
 pub counted : (u v : NodeId) (es : List Event) (e : Event) → polls (es ++ e ∷ []) u v ≡ polls es u v + cond (is_poll u v e) 1 0
@@ -85,5 +87,7 @@ served_last r v place there next =
     ap (λ o. (peer_in (served_at r v o).peers v).last) next
     ∙ ap (λ (p : RelPeer). p.last) (first_replaced (is_peer v) (new_peer [] v) (record (peer_in r.peers v) { last = Some place }) r.peers (eq-eqb _ _ (ap (λ (n : NodeId). n.0) (peer_is r v))) there)
 
-pub polled_rel : (n : NodeState) (v : NodeId) → call_refusal n v ≡ None → (after_poll n v).parts.rel ≡ served n.parts.rel v
-polled_rel n v e = ap (λ (r : Option NodeRefused). (kept_or r n (called n (with_link n v (advanced (link_in n v))) (polled n.fixed n.parts v))).parts.rel) e
+pub polled_rel : (n : NodeState) (v : NodeId) → call_refusal n v ≡ None → is_served n v ≡ true → (after_poll n v).parts.rel ≡ served n.parts.rel v
+polled_rel n v e on =
+    ap (λ (r : Option NodeRefused). (kept_or r n (called n (with_link n v (advanced (link_in n v))) (parts_after n v))).parts.rel) e
+    ∙ ap (λ (t : Bool). (cond t (polled n.fixed n.parts v) n.parts).rel) on

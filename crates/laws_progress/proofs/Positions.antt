@@ -1,4 +1,5 @@
 -- The law: positions, lists and views are in order in every state, and each active flow is counted.
+use Rattle.laws_progress.proofs.Versions.{not_ended}
 use Rattle.laws_node.proofs.FreshLemmas.{one}
 use Rattle.laws_progress.proofs.Always.{always}
 use Rattle.laws_progress.proofs.Changes.{both_held, life_of}
@@ -30,13 +31,14 @@ use Rattle.sp_runs.specs.Settings.{Setting, StaysUp, is_correct}
 use Rattle.sp_runs.specs.Worlds.{World, node_in}
 use Rattle.sp_journal.specs.declared.entry.Entry.{Entry}
 use Rattle.sp_schedule_events.specs.declared.event.Event.{Event}
-use Rattle.laws_runs.specs.Flows.{FlowClaims, flow_at}
+use Rattle.laws_runs.specs.Flows.{FlowClaims, flow_at, has_ended}
 use Rattle.laws_runs.specs.Premises.{ComesThrough}
 use Rattle.laws_runs.specs.Signs.{Good, sizes_at}
 use Rattle.laws_runs.proofs.FlowPlain.{flows_are_kept}
 use Rattle.laws_runs.proofs.Lists.{both}
 use Rattle.laws_runs.proofs.Signed.{signs}
 use Rattle.laws_runs.proofs.Tables.{same_node}
+use Rattle.laws_progress.specs.Delivery.{TopologyStays}
 use Rattle.laws_progress.specs.Positions.{PositionClaims, PositionsAreInOrder, view_at}
 use Rattle.laws_progress.proofs.Counting.{asked_at, few_at}
 use Rattle.laws_progress.proofs.Places.{counts_one}
@@ -58,7 +60,8 @@ counted_is false false h = refl
 plain_met : (x : Setting) (t : Bool) → x.epochs ≡ false → (not x.epochs || t) ≡ true
 plain_met x t off = rw off refl
 
-module _ (arts : Arts) (x : Setting) (es : List Event) (js : List Entry) (w : World) (fits : StaysUp arts x) (through : ComesThrough x.topology.format arts x.signature_len) (one : 1 ≤ x.buffer) (run : Clean arts x es js w) where
+module _ (arts : Arts) (x : Setting) (es : List Event) (js : List Entry) (w : World) (fits : StaysUp arts x)
+    (through : ComesThrough x.topology.format arts x.signature_len) (one : 1 ≤ x.buffer) (run : Clean arts x es js w) (stays : TopologyStays es) where
   correct_at : (u : NodeId) (n : NodeState) → node_in w.nodes u ≡ Some n → is_correct x u ≡ true
   correct_at u n at = ((signs arts x es js w fits.fits through.carries run).nodes u n at).correct
 
@@ -114,12 +117,16 @@ module _ (arts : Arts) (x : Setting) (es : List Event) (js : List Entry) (w : Wo
     early_is u v on n at = ap (λ o. polls es u v - seen_at 0 (λ (q : NodeState). (link_in q v).sent) o) at
 
     watched : Watched arts x es era
-    watched = watch arts x es era (record { src = s; dst = d }) fits.fits through.carries is_era through.heads (last_state arts x es js w run) up_now early_is
+    watched =
+        watch arts x es era (record { src = s; dst = d }) fits.fits through.carries is_era through.heads stays (last_state arts x es js w run) up_now
+        early_is
         (λ u v on joined n at. sent_within arts x es js w fits.fits through.carries run u v joined n at)
 
     watched_at : watched.at ≡ last_state arts x es js w run
     unfolding watched
-    watched_at = watch_is arts x es era (record { src = s; dst = d }) fits.fits through.carries is_era through.heads (last_state arts x es js w run) up_now early_is
+    watched_at =
+        watch_is arts x es era (record { src = s; dst = d }) fits.fits through.carries is_era through.heads stays (last_state arts x es js w run) up_now
+        early_is
         (λ u v on joined n at. sent_within arts x es js w fits.fits through.carries run u v joined n at)
 
     hop : (u v : NodeId) (n m : NodeState) → IsTrue (is_hop x u v) → node_in w.nodes u ≡ Some n → node_in w.nodes v ≡ Some m
@@ -150,15 +157,19 @@ module _ (arts : Arts) (x : Setting) (es : List Event) (js : List Entry) (w : Wo
             let held = both_held n s d 0 0 (none s) (none d) in
             rw (life, held) refl
 
+    goes_on : (u : NodeId) (n : NodeState) → node_in w.nodes u ≡ Some n → has_ended n s d ≡ false
+    goes_on u n at = not_ended arts x es js w fits.fits through.carries run stays u n at s d
+
     positions : PositionClaims arts x s d es js w
     positions = record {
-      base = λ u n end at there. let low = claims.base u n at in let top = claims.base_at_end end there in omega (arith, low, top);
+      base = λ u n end at there. let low = claims.base u n at in let top = claims.base_at_end end there (goes_on d end there) in omega (arith, low, top);
       base_at_end = λ end there.
-          let acked = claims.base_at_end end there in
+          let acked = claims.base_at_end end there (goes_on d end there) in
           let most = claims.acknowledged in
-          let has = claims.have_at_end end there in
+          let has = claims.have_at_end end there (goes_on d end there) in
           omega (arith, acked, most, has);
-      have = λ u n source at there. let low = claims.have from u n at in let top = claims.have_at_source from source there in omega (arith, low, top);
+      have = λ u n source at there.
+          let low = claims.have from u n at in let top = claims.have_at_source from source there (goes_on s source there) in omega (arith, low, top);
       list = λ u n at other. (position_at u n at other, claims.lists from u n at);
       vouched = claims.vouched;
       view = hop;
@@ -167,8 +178,8 @@ module _ (arts : Arts) (x : Setting) (es : List Event) (js : List Entry) (w : Wo
 -- ---- the law
 
 pub positions_are_in_order : PositionsAreInOrder
-positions_are_in_order arts x es js w fits through one run = record {
-  positions = λ s d from to different. positions arts x es js w fits through one run s d from to different;
+positions_are_in_order arts x es js w fits through one run stays = record {
+  positions = λ s d from to different. positions arts x es js w fits through one run stays s d from to different;
   counted = λ u n at k none inside on.
       let there = slice_get-get_or n.parts.rel.flows k none inside in
       counted_is _ _ (asked_at arts x es js w fits.fits through.carries run u n at k _ there on);

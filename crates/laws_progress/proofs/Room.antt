@@ -29,6 +29,8 @@ take_is d s (events.Inject a b c) is = absurd (let e : false ≡ true = is in cc
 take_is d s (events.Craft a b c f) is = absurd (let e : false ≡ true = is in cc)
 take_is d s (events.CraftStatus a b c f g h) is = absurd (let e : false ≡ true = is in cc)
 take_is d s (events.Start a) is = absurd (let e : false ≡ true = is in cc)
+take_is d s (events.Publish a b) is = absurd (let e : false ≡ true = is in cc)
+take_is d s (events.CraftDocument a b c f g) is = absurd (let e : false ≡ true = is in cc)
 take_is d s (events.Stop a) is = absurd (let e : false ≡ true = is in cc)
 
 put_or : (P : FlowState → Type 0) (flow : Flow) (g : FlowState) (fs : List FlowState) → is_flow flow g ≡ true → P g → (flow_in fs flow ≡ no_flow flow → P (no_flow flow)) → P (flow_in (put_flow fs flow g) flow)

@@ -15,7 +15,8 @@ use Rattle.sp_rules.specs.Arts.{Arts}
 use Rattle.sp_rules.specs.Flow.{FlowState, acknowledged_by, ends, flow_said, is_flow}
 use Rattle.sp_rules.specs.Lives.{are_held, is_dated, held_boot}
 use Rattle.sp_rules.specs.Parts.{Fixed, is_signed}
-use Rattle.sp_rules.specs.Rel.{RelPeer, RelState, View, admit_ack, admit_rel, flow_in, is_from, is_peer, is_to, is_view, judge_ack_of, judge_rel_of, new_peer, no_view, pairs_of, peer_in, reported, told, view_in, with_peer}
+use Rattle.sp_rules.specs.Rel.{RelPeer, RelState, View, admit_ack, admit_rel, flow_in, is_from, is_over, is_peer, is_to, is_view, judge_ack_of}
+use Rattle.sp_rules.specs.Rel.{judge_rel_of, new_peer, no_view, pairs_of, peer_in, reported, told, view_in, with_peer}
 use Rattle.sp_rules.specs.declared.answers.Item.TheVariants as items
 use Rattle.sp_rules.specs.declared.lives.Life.{Life}
 use Rattle.laws_node.proofs.Tables.{cond_either}
@@ -38,7 +39,7 @@ use Rattle.laws_progress.proofs.Wires.{has_ack, is_mine, number_in, told_slot, i
 ready_reported : (nodes : List NodeId) (bound : ℕ) (v : NodeId) (flow : Flow) (r : RelState) (u : NodeId) (fl : Flow) (base have : ℕ) → Ready nodes bound v flow r → Ready nodes bound v flow (reported r u fl base have)
 ready_reported nodes bound v flow r u fl base have h =
     cond_either (Ready nodes bound v flow) (flow_in r.flows fl).active (with_peer r u (told (peer_in r.peers u) fl base have)) r
-    (record { me = h.me; nodes_are = h.nodes_are; bound_is = h.bound_is; row = h.row; acks = h.acks }) h
+    (record { me = h.me; nodes_are = h.nodes_are; bound_is = h.bound_is; row = h.row; acks = h.acks; goes_on = h.goes_on }) h
 
 reported_flows : (r : RelState) (u : NodeId) (fl : Flow) (base have : ℕ) → (reported r u fl base have).flows ≡ r.flows
 reported_flows r u fl base have = cond_either (λ (z : RelState). z.flows ≡ r.flows) (flow_in r.flows fl).active (with_peer r u (told (peer_in r.peers u) fl base have)) r refl refl
@@ -75,6 +76,7 @@ ready_ack arts fx ls nodes bound v flow r o h =
       bound_is = cond_either (λ (z : RelState). z.bound ≡ bound) t (admit_ack r o) r h.bound_is h.bound_is;
       row = cond_either (λ (z : RelState). list_any (is_flow flow) z.flows ≡ true) t (admit_ack r o) r (admit_row r flow o h.row) h.row;
       acks = ack_ack (is_signed arts fx o) (is_dated ls o.body) r flow o h.acks;
+      goes_on = cond_either (λ (z : RelState). is_over z.removed flow ≡ false) t (admit_ack r o) r h.goes_on h.goes_on;
     }
 
 ready_acks : (arts : Arts) (fx : Fixed) (ls : List Life) (nodes : List NodeId) (bound : ℕ) (v : NodeId) (flow : Flow) (r : RelState) (o : Option Kept)

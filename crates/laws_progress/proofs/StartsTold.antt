@@ -13,6 +13,7 @@ use Rattle.sp_runs.specs.Settings.{Setting, SettingFits, is_correct}
 use Rattle.sp_runs.specs.Worlds.{World, node_in}
 use Rattle.sp_schedule_events.specs.declared.event.Event.{Event}
 use Rattle.laws_progress.specs.Calm.{StaysUpIn}
+use Rattle.laws_progress.specs.Delivery.{TopologyStays}
 use Rattle.laws_progress.specs.LifeDelivery.{CountedStarts}
 use Rattle.laws_progress.specs.Telling.{TellingRounds}
 use Rattle.laws_runs.proofs.HeldBoots.{held_boots_are_born}
@@ -34,8 +35,8 @@ On path u = (i : ℕ) × (slice_get path i ≡ Some u)
 
 -- they stay up in an interval, with hops between neighbours
 abbrev pub interval : (arts : Arts) (x : Setting) (all : List Event) → SettingFits arts x → ComesThrough x.topology.format arts x.signature_len → x.epochs ≡ true
-    → (s d : NodeId) (path : List NodeId) → IsCorrectPath x s d path → Interval
-interval arts x all fits reads epochs s d path is = record {
+    → TopologyStays all → (s d : NodeId) (path : List NodeId) → IsCorrectPath x s d path → Interval
+interval arts x all fits reads epochs stays s d path is = record {
   arts = arts;
   x = x;
   all = all;
@@ -43,13 +44,14 @@ interval arts x all fits reads epochs s d path is = record {
   fits = fits;
   reads = reads;
   epochs = epochs;
+  stays = stays;
   correct = λ u up. all_get (λ n. IsTrue (is_correct x n)) path up.0 u is.correct up.1;
 }
 
 on_hops : (arts : Arts) (x : Setting) (all : List Event) (fits : SettingFits arts x) (reads : ComesThrough x.topology.format arts x.signature_len)
-    (epochs : x.epochs ≡ true)
-    → (s d : NodeId) (path : List NodeId) (is : IsCorrectPath x s d path) → AreHops (UpHop (interval arts x all fits reads epochs s d path is)) path
-on_hops arts x all fits reads epochs s d path is i u v a b =
+    (epochs : x.epochs ≡ true) (stays : TopologyStays all)
+    → (s d : NodeId) (path : List NodeId) (is : IsCorrectPath x s d path) → AreHops (UpHop (interval arts x all fits reads epochs stays s d path is)) path
+on_hops arts x all fits reads epochs stays s d path is i u v a b =
     let both = are_hops x s d path is i u v a b in
     (record { near = (i, a); far = (suc i, b); joined = both.0.joined }, record { near = (suc i, b); far = (i, a); joined = both.1.joined })
 
@@ -67,9 +69,10 @@ at_place path i none low =
     (there, get_or_from_slice_get path i (get_or path i none) nobody there)
 
 pub starts_are_told : CountedStarts
-starts_are_told arts x fits reads epochs es js w after more v early run s d path is ups least enough rounds i one_none low j other_none close n m at_n at_m =
+starts_are_told arts x fits reads epochs es js w after more v early run stays s d path is ups least enough rounds i one_none low j other_none close n m
+    at_n at_m =
     let all = es ++ after in
-    let c = interval arts x all fits reads epochs s d path is in
+    let c = interval arts x all fits reads epochs stays s d path is in
     let ends = ends_are x s d path is in
     let long = ends.long in
     let y = last_state arts x all (js ++ more) v run in
@@ -91,7 +94,7 @@ starts_are_told arts x fits reads epochs es js w after more v early run s d path
     let up_o : On path o = (j, at_o.0) in
     let count : hops path + 1 ≡ suc (hops path) = omega arith in
     let spread =
-    all_told r least (omega (arith, begin_there, enough)) (omega (arith, rows, enough)) path (on_hops arts x all fits reads epochs s d path is)
+    all_told r least (omega (arith, begin_there, enough)) (omega (arith, rows, enough)) path (on_hops arts x all fits reads epochs stays s d path is)
     (λ k z at. (k, at)) (hops path) long
     es after first last to.goes (λ a b hop. ap (λ zs. polls zs a b) parts.events) (subst (λ k. TellingRounds least path k es after) count rounds)
     o i j (omega (arith, low, long)) (omega (arith, close, long)) in

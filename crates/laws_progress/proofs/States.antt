@@ -1,5 +1,5 @@
 -- The states of a run, and what is seen of a flow there.
-use Rattle.std.proofs.Common.{sym}
+use Rattle.std.proofs.Common.{refl, subst, sym}
 use Rattle.std.proofs.lemmas.List.{append-nil}
 use Rattle.std.specs.Prelude.{ℕ, zero, suc, ◌≡◌, ◌≤◌, ◌+◌, ◌-◌, ◌==◌, ◌&&◌, ◌||◌, Bool, true, false, not, IsTrue, List, [], ◌∷◌, ◌++◌, length, map, slice_get, Option, Some, None, if◌then◌else◌}
 use Rattle.sp_base.specs.declared.id.Flow.{Flow}
@@ -8,6 +8,9 @@ use Rattle.sp_rules.specs.Arts.{Arts}
 use Rattle.sp_rules.specs.Flow.{FlowState, no_flow}
 use Rattle.sp_rules.specs.Node.{NodeState, link_in}
 use Rattle.sp_rules.specs.Rel.{View, flow_in, no_view, peer_in, view_in}
+use Rattle.laws_progress.specs.Delivery.{TopologyStays}
+use Rattle.sp_runs.specs.Forgery.{lists_in, with_published}
+use Rattle.sp_schedule_events.specs.Documents.{list_in}
 use Rattle.sp_runs.specs.Runs.{Clean, InRange, Turn, forged_in, is_hop, polls}
 use Rattle.sp_runs.specs.Settings.{Setting, is_correct}
 use Rattle.sp_runs.specs.Worlds.{World, frames_in, node_in}
@@ -32,6 +35,19 @@ pub record State (arts : Arts) (x : Setting) (all : List Event) : Type 0 where
 abbrev pub last_state : (arts : Arts) (x : Setting) (es : List Event) (js : List Entry) (w : World) → Clean arts x es js w → State arts x es
 last_state arts x es js w run = record { events = es; journal = js; world = w; run = run; rest = []; whole = sym (append-nil es) }
 
+-- what stays over all events stays over the first of them
+pub first_stays : (es after : List Event) → TopologyStays (es ++ after) → TopologyStays es
+first_stays [] after stays = refl
+first_stays (e ∷ es) after stays = go (list_in e) (first_stays es after) stays
+  where
+    go : (weights : Option (List ℕ)) → (TopologyStays (es ++ after) → TopologyStays es) → with_published weights (lists_in (es ++ after)) ≡ []
+        → with_published weights (lists_in es) ≡ []
+    go None rest is = rest is
+    go (Some weights) rest is = absurd (let some : weights ∷ lists_in (es ++ after) ≡ [] = is in cc)
+
+pub stays_at : (arts : Arts) (x : Setting) (all : List Event) (w : State arts x all) → TopologyStays all → TopologyStays w.events
+stays_at arts x all w stays = first_stays w.events w.rest (subst TopologyStays w.whole stays)
+
 -- one more event leads from one to the next
 pub data Follows (arts : Arts) (x : Setting) (all : List Event) (w : State arts x all) (e : Event) (y : State arts x all) : Type 0 where
   Follow : (j : Entry) → y.events ≡ w.events ++ e ∷ [] → y.journal ≡ w.journal ++ j ∷ [] → InRange x w.events e
@@ -48,9 +64,10 @@ pub record Era : Type 0 where
   pub early : NodeId → NodeId → ℕ
 
 -- a state that comes no later than the era ends: the lives that are watched are the last ones, and who began its life runs. So whatever a watched node made
--- in its life stands in its place
+-- in its life stands in its place. And nothing is published
 pub record Watched (arts : Arts) (x : Setting) (all : List Event) (era : Era) : Type 0 where
   pub at : State arts x all
+  pub stays : TopologyStays all
   pub latest : (v : NodeId) → era.on v ≡ true → last_boot x at.world v ≤ era.life v
   pub runs : (v : NodeId) → era.on v ≡ true → last_boot x at.world v ≡ era.life v → (n : NodeState) × (node_in at.world.nodes v ≡ Some n)
   pub placed : (u v : NodeId) → era.on u ≡ true → is_hop x u v ≡ true → (k : ℕ) (bytes : List ℕ) → slice_get (frames_in at.world.directions u v) k ≡ Some (Some bytes)

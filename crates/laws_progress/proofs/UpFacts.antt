@@ -1,5 +1,7 @@
 -- What is seen of the nodes that stay up in an interval: the boots that they hold, the rows of what they hold of starts, and the cycles of their neighbours.
-use Rattle.std.proofs.Common.{◌≡◌, ◌<◌, ◌≤◌, ℕ, ◌==◌, true, false, List, [], ◌∷◌, length, map, Option, Some, None, refl, sym, ap, subst, ◌∙◌}
+use Rattle.laws_progress.proofs.Becomes.{readied_keeps}
+use Rattle.laws_progress.proofs.Versions.{served_at}
+use Rattle.std.proofs.Common.{◌≡◌, ◌<◌, ◌≤◌, ℕ, ◌==◌, true, false, List, [], ◌∷◌, length, map, Option, Some, None, refl, sym, ap, subst, ◌∙◌, Bool, cond}
 use Rattle.std.proofs.Common.{inl, inr, arith}
 use Rattle.std.specs.List.{list_any}
 use Rattle.std.proofs.lemmas.Bool.{cases_Bool}
@@ -11,14 +13,14 @@ use Rattle.sp_rules.specs.Link.{advanced}
 use Rattle.sp_rules.specs.Lives.{held_boot, last_to, moved, next_row}
 use Rattle.sp_rules.specs.Node.{NodeState, call_refusal, called, kept_or, link_in, with_link}
 use Rattle.sp_rules.specs.Parts.{Fixed, Parts, place_in}
-use Rattle.sp_rules.specs.Polls.{polled}
+use Rattle.sp_rules.specs.Polls.{polled, is_served, parts_after}
 use Rattle.sp_rules.specs.Steps.{NodeStep, Output, Poll}
 use Rattle.sp_rules.specs.declared.node.NodeRefused.{NodeRefused}
 use Rattle.laws_node.specs.Shapes.{Shape}
 use Rattle.laws_node.proofs.Epochs.{boots_never_fall}
 use Rattle.sp_runs.specs.Journals.{reply_word}
 use Rattle.sp_runs.specs.Lives.{ready}
-use Rattle.sp_runs.specs.Runs.{is_poll, next_frame, polls}
+use Rattle.sp_runs.specs.Runs.{is_poll, next_frame, polls, is_hop}
 use Rattle.sp_runs.specs.Settings.{Setting, is_correct, is_node, is_one_of}
 use Rattle.sp_runs.specs.Worlds.{World, node_in}
 use Rattle.sp_schedule_events.specs.declared.event.Event.{Event}
@@ -34,7 +36,7 @@ use Rattle.laws_progress.proofs.LinkRuns.{idle_poll, poll_input}
 use Rattle.laws_progress.proofs.Polls.{answered}
 use Rattle.laws_progress.proofs.Service.{IsWithin, is_on}
 use Rattle.laws_progress.proofs.SpreadFacts.{IsCarried, Sees}
-use Rattle.laws_progress.proofs.States.{seen_at}
+use Rattle.laws_progress.proofs.States.{seen_at, stays_at}
 use Rattle.laws_progress.proofs.UpStates.{Interval, UpNext, UpState, took}
 
 -- where a node stands among all
@@ -126,9 +128,10 @@ module _ (c : Interval) where
   next_of w u v p n there carried =
       subst (λ (z : Option NodeState). next_after (seen_at None (last_of x v) z) (seen_at [] (λ m. rows_held m.parts.lives) z) ≡ Some p) there carried
 
-  pub carries : (w y : W) (e : Event) (u v : NodeId) (p : ℕ) → c.Up u → c.Up v → UpNext c w e y → is_poll u v e ≡ true → IsCarried W at p w u v
+  pub carries : (w y : W) (e : Event) (u v : NodeId) (p : ℕ) → c.Up u → c.Up v → is_hop x u v ≡ true → UpNext c w e y
+      → is_poll u v e ≡ true → IsCarried W at p w u v
       → at.last y u v ≡ Some p
-  carries w y e u v p up near next is carried =
+  carries w y e u v p up near hop next is carried =
       let t = took c w y e next u up in
       elim t.how [
         | inl still ↦ absurd (let wrong : true ≡ false = sym is ∙ idle_poll w.state.world e u v still.1 in cc)
@@ -150,9 +153,14 @@ module _ (c : Interval) where
             let went : last_to (polled t.node.fixed t.node.parts v).origins (place x v) ≡ Some p =
             subst (λ (k : ℕ). last_to (moved t.node.parts.lives t.node.parts.origins k) (place x v) ≡ Some p) (sym where_is)
             (moved_here t.node.parts.lives t.node.parts.origins (place x v) p (omega (arith, many, low)) row_now) in
-            let done = called t.node (with_link t.node v (advanced (link_in t.node v))) (polled t.node.fixed t.node.parts v) in
+            let done = called t.node (with_link t.node v (advanced (link_in t.node v))) (parts_after t.node v) in
+            let served : is_served t.node v ≡ true =
+            readied_keeps x w.state.world t.before t.node (λ m. is_served m v ≡ true) (λ upto on. on) t.readied
+            (served_at arts x w.state.events w.state.journal w.state.world c.fits c.reads.carries w.state.run (stays_at arts x c.all w.state c.stays) u
+            t.before t.there v hop) in
             ap (seen_at None (last_of x v)) t.left ∙ ap (last_of x v) step.1
             ∙ ap (λ (r : Option NodeRefused). last_of x v (kept_or r t.node done)) free
+            ∙ ap (λ (b : Bool). last_to (cond b (polled t.node.fixed t.node.parts v) t.node.parts).origins (place x v)) served
             ∙ went
       ]
 

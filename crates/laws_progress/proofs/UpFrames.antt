@@ -10,11 +10,11 @@ use Rattle.sp_base.proofs.ListLemmas.{get_push}
 use Rattle.sp_base.specs.declared.id.NodeId.{NodeId}
 use Rattle.sp_frame.specs.declared.head.Head.{Head}
 use Rattle.sp_topology.specs.declared.topology.NodeKey.{NodeKey}
-use Rattle.sp_rules.specs.Arrivals.{handled, link_after, reply_at, sections_in}
+use Rattle.sp_rules.specs.Arrivals.{handled, link_after, reply_at, sections_in, before_document}
 use Rattle.sp_rules.specs.Arts.{Arts}
 use Rattle.sp_rules.specs.Link.{Link, after_answer, is_above, pair_of}
 use Rattle.sp_rules.specs.Lives.{held_boot, is_life, next_row}
-use Rattle.sp_rules.specs.Node.{NodeState, called, is_link, link_in, with_link}
+use Rattle.sp_rules.specs.Node.{NodeState, is_link, link_in}
 use Rattle.sp_rules.specs.Parts.{Fixed, Parts, is_signed, place_in}
 use Rattle.sp_rules.specs.Polls.{contents_to, frame_to}
 use Rattle.sp_rules.specs.Steps.{Datagram, NodeStep}
@@ -46,7 +46,7 @@ use Rattle.laws_progress.proofs.Passes.{datagram_after}
 use Rattle.laws_progress.proofs.Polls.{both_ways}
 use Rattle.laws_progress.proofs.Rows.{link_there, rows_are}
 use Rattle.laws_progress.proofs.SpreadFacts.{IsCarried, IsTold, Sees}
-use Rattle.laws_progress.proofs.States.{Follow, Follows, IsHop, seen_at}
+use Rattle.laws_progress.proofs.States.{Follow, Follows, IsHop, seen_at, stays_at}
 use Rattle.laws_progress.proofs.UpFacts.{held_rises, is_node_of, next_of, place, rows_of, sees, topology_of}
 use Rattle.laws_progress.proofs.UpStates.{Interval, StepOf, Took, UpNext, UpState, took}
 
@@ -218,7 +218,9 @@ module _ (c : Interval) where
     Awaits y = (m : NodeState) → node_in y.state.world.nodes v ≡ Some m → is_above pair (link_in m u).seen ≡ true
 
     pub framed_is : Framed arts x u v n frame
-    framed_is = frame_at arts x w.state.events w.state.journal w.state.world c.fits c.reads w.state.run u v f.hop.joined n f.there
+    framed_is =
+        frame_at arts x w.state.events w.state.journal w.state.world c.fits c.reads w.state.run (stays_at arts x c.all w.state c.stays) u v f.hop.joined n
+        f.there
 
     pub lasts_on : (y z : W) (e : Event) → UpNext c y e z → is_poll u v e ≡ false → Lasts y → Lasts z
     lasts_on y z e next off l = record {
@@ -250,10 +252,10 @@ module _ (c : Interval) where
     -- the state of v after it took the frame
     pub taken_at : (y z : W) (e : Event) (t : Took arts x y.state.world z.state.world e v) → (s : StepOf arts x y.state.world e v t.node t.after)
         → s.input ≡ Datagram u frame
-        → t.after ≡ called t.node (with_link t.node u (link_after arts t.node u frame)) (handled arts t.node u frame).parts
+        → t.after ≡ before_document arts t.node u frame
     taken_at y z e t s is =
         datagram_after arts x t.node u frame s.output t.after (next_frame (ready x y.state.world e) e) s.entry.reply
-        (subst (λ i. NodeStep arts t.node i s.output t.after) is s.step) s.journal.reply
+        (subst (λ i. NodeStep arts t.node i s.output t.after) is s.step) s.journal.reply s.keeps
 
     told_of : (y z : W) (e : Event) → UpNext c y e z → Lasts z → (t : Took arts x y.state.world z.state.world e v)
         → (s : StepOf arts x y.state.world e v t.node t.after) → s.input ≡ Datagram u frame → reply_at arts t.node u frame ≡ replies.Fresh
@@ -300,7 +302,7 @@ module _ (c : Interval) where
             let parts : t.after.parts ≡ (handled arts t.node u frame).parts = ap (λ (m : NodeState). m.parts) (taken_at y z e t s is) in
             let row = has_row x.topology.nodes t.after.parts.lives o (rows_of c z v t.after t.left) sent.there in
             let took_it =
-            taken_told arts t.node u o frame (contents_to n.fixed n.parts v) sent.object fresh sections
+            taken_told arts t.node u o frame (contents_to n.fixed n.parts v) sent.object refl fresh sections
             (ap (λ (g : Fixed). g.epochs) fixed_is ∙ c.epochs) sent.carried sent.kind right
             (ap (λ (g : Fixed). o.0 == g.me.0) fixed_is ∙ away) (ap (λ (q : Parts). list_any (is_life o) q.lives) (sym parts) ∙ row) in
             let end = ap (λ (q : Parts). held_boot q.lives o) parts in
@@ -357,7 +359,7 @@ module _ (c : Interval) where
             → LinkGoes y z e v u t → Awaits z ⊎ Done z
         go t before low later (Quiet same seen) = inl (stays_above y z e t (ap (is_above pair) seen ∙ before))
         go t before low later (Comes s bytes is link) =
-            elim (arrives arts x y.state.events y.state.journal y.state.world e c.fits c.reads y.state.run u v
+            elim (arrives arts x y.state.events y.state.journal y.state.world e c.fits c.reads y.state.run (stays_at arts x c.all y.state c.stays) u v
             (hop_of u v f.hop) t.before t.node t.there t.readied bytes
             (subst (λ i. has_forged_tag arts x (ready x y.state.world e) t.node i ≡ false) is s.unforged)) [
               | inl quiet ↦ inl (stays_above y z e t (ap (λ (k : Link). is_above pair k.seen) (link ∙ quiet.link) ∙ before))

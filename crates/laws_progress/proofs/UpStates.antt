@@ -1,5 +1,5 @@
 -- The states of an interval of a run in which some nodes stay up, and what each event makes of one of them: it stays, or makes a step.
-use Rattle.std.proofs.Common.{◌≡◌, ◌⊎◌, ◌||◌, Bool, true, false, List, [], ◌∷◌, Some, refl, sym, ap, ◌∙◌, inl, inr}
+use Rattle.std.proofs.Common.{◌≡◌, ◌⊎◌, ◌||◌, Bool, true, false, List, [], ◌∷◌, Some, refl, sym, ap, ◌∙◌, inl, inr, subst}
 use Rattle.std.specs.Prelude.{IsTrue}
 use Rattle.std.specs.List.{list_any}
 use Rattle.std.proofs.lemmas.Bool.{eq-eqb}
@@ -16,14 +16,38 @@ use Rattle.sp_runs.specs.Settings.{Setting, SettingFits, is_correct}
 use Rattle.sp_runs.specs.Worlds.{World, node_in}
 use Rattle.sp_journal.specs.declared.entry.Entry.{Entry}
 use Rattle.sp_schedule_events.specs.declared.event.Event.{Event}
-use Rattle.laws_runs.specs.Premises.{ComesThrough}
+use Rattle.laws_runs.specs.Premises.{Carries, ComesThrough}
 use Rattle.laws_runs.proofs.Ready.{Readied}
 use Rattle.laws_progress.specs.Calm.{is_life_of}
-use Rattle.laws_progress.proofs.Becomes.{Acts, Becomes, Begins, MovesNobody, Remains, becomes, runs_on}
+use Rattle.laws_progress.specs.Delivery.{TopologyStays}
+use Rattle.laws_progress.proofs.Becomes.{Acts, Becomes, Begins, MovesNobody, Remains, becomes, runs_on, keeps_version}
 use Rattle.laws_progress.proofs.Facts.{Goes, Stays, Steps}
-use Rattle.laws_progress.proofs.States.{Follow, Follows, State}
+use Rattle.laws_progress.proofs.States.{Follow, Follows, State, stays_at}
+use Rattle.laws_progress.proofs.Versions.{UnderFirst, under_first}
 
--- a run with epochs, of these events, and correct nodes that stay up in an interval of it
+-- ---- a node that no event starts or stops runs on
+
+pub off_first : (a b : Bool) → (a || b) ≡ false → (a ≡ false) × (b ≡ false)
+off_first true b off = absurd (let f : true ≡ false = off in cc)
+off_first false b off = (refl, off)
+
+run_on : (arts : Arts) (x : Setting) (all : List Event) → SettingFits arts x → Carries x.topology.format arts → (w y : State arts x all) (e : Event)
+    → Follows arts x all w e y → (u : NodeId) → is_life_of u e ≡ false → (n : NodeState) × (node_in w.world.nodes u ≡ Some n)
+    → (n : NodeState) × (node_in y.world.nodes u ≡ Some n)
+run_on arts x all fits carries w y e (Follow j events journal range turn unforged) u quiet n =
+    runs_on arts x w.events w.journal w.world e j y.world fits carries w.run turn u quiet n.0 n.1
+
+pub runs_through : (arts : Arts) (x : Setting) (all : List Event) → SettingFits arts x → Carries x.topology.format arts → (es : List Event)
+    (w y : State arts x all) → Goes (State arts x all) (Follows arts x all) w es y → (u : NodeId) → list_any (is_life_of u) es ≡ false
+    → (n : NodeState) × (node_in w.world.nodes u ≡ Some n) → (n : NodeState) × (node_in y.world.nodes u ≡ Some n)
+runs_through arts x all fits carries [] w y Stays u quiet n = n
+runs_through arts x all fits carries (e ∷ es) w y (Steps {x = m} step g) u quiet n =
+    let off = off_first (is_life_of u e) (list_any (is_life_of u) es) quiet in
+    runs_through arts x all fits carries es m y g u off.1 (run_on arts x all fits carries w m e step u off.0 n)
+
+-- ---- the states of an interval
+
+-- a run with epochs, of these events, which publish nothing, and correct nodes that stay up in an interval of it
 pub record Interval : Type 1 where
   pub arts : Arts
   pub x : Setting
@@ -32,6 +56,7 @@ pub record Interval : Type 1 where
   pub fits : SettingFits arts x
   pub reads : ComesThrough x.topology.format arts x.signature_len
   pub epochs : x.epochs ≡ true
+  pub stays : TopologyStays all
   pub correct : (u : NodeId) → Up u → IsTrue (is_correct x u)
 
 -- a state in which each of these nodes runs
@@ -50,25 +75,16 @@ pub record UpTo (c : Interval) (w : UpState c) (es : List Event) (y : State c.ar
   pub runs : (u : NodeId) → c.Up u → (n : NodeState) × (node_in y.world.nodes u ≡ Some n)
   pub goes : Goes (UpState c) (UpNext c) w es (record { state = y; runs = runs })
 
-pub off_first : (a b : Bool) → (a || b) ≡ false → (a ≡ false) × (b ≡ false)
-off_first true b off = absurd (let f : true ≡ false = off in cc)
-off_first false b off = (refl, off)
-
 pub up_to : (c : Interval) (es : List Event) (w : UpState c) (y : State c.arts c.x c.all)
     → Goes (State c.arts c.x c.all) (Follows c.arts c.x c.all) w.state es y
     → ((u : NodeId) → c.Up u → list_any (is_life_of u) es ≡ false) → UpTo c w es y
 up_to c [] w y Stays calm = record { runs = w.runs; goes = Stays }
 up_to c (e ∷ es) w y (Steps {x = m} step g) calm =
     let off = λ (u : NodeId) (up : c.Up u). off_first (is_life_of u e) (list_any (is_life_of u) es) (calm u up) in
-    let mid : UpState c = record { state = m; runs = λ u up. run_on step u (off u up).0 (w.runs u up) } in
+    let mid : UpState c = record { state = m; runs = λ u up. run_on c.arts c.x c.all c.fits c.reads.carries w.state m e step u (off u up).0 (w.runs u up) } in
     let rest = up_to c es mid y g (λ u up. (off u up).1) in
     let next : UpNext c w e mid = record { follows = step; calm = λ u up. (off u up).0 } in
     record { runs = rest.runs; goes = Steps {x = mid} next rest.goes }
-  where
-    run_on : Follows c.arts c.x c.all w.state e m → (u : NodeId) → is_life_of u e ≡ false → (n : NodeState) × (node_in w.state.world.nodes u ≡ Some n)
-        → (n : NodeState) × (node_in m.world.nodes u ≡ Some n)
-    run_on (Follow j events journal range turn unforged) u quiet n =
-        runs_on c.arts c.x w.state.events w.state.journal w.state.world e j m.world c.fits c.reads.carries w.state.run turn u quiet n.0 n.1
 
 -- ---- what an event makes of one of them
 
@@ -79,6 +95,8 @@ pub record StepOf (arts : Arts) (x : Setting) (w : World) (e : Event) (u : NodeI
   pub reaches : input_of arts x (ready x w e) n e ≡ Some input
   pub output : Output
   pub step : NodeStep arts n input output m
+  -- under the version that it ran under
+  pub keeps : m.live.version ≡ n.live.version
   pub entry : Entry
   pub journal : Says x (next_frame (ready x w e) e) output entry
   pub unforged : has_forged_tag arts x (ready x w e) n input ≡ false
@@ -92,6 +110,10 @@ pub record Took (arts : Arts) (x : Setting) (w y : World) (e : Event) (u : NodeI
   pub after : NodeState
   pub left : node_in y.nodes u ≡ Some after
   pub how : ((after ≡ node) × ((acting e ≡ u → ⊥) ⊎ MovesNobody w e)) ⊎ StepOf arts x w e u node after
+
+pub first_at : (c : Interval) (w : UpState c) (u : NodeId) (n : NodeState) → node_in w.state.world.nodes u ≡ Some n → UnderFirst c.x n
+first_at c w u n at =
+    under_first c.arts c.x w.state.events w.state.journal w.state.world c.fits c.reads.carries w.state.run (stays_at c.arts c.x c.all w.state c.stays) u n at
 
 pub took : (c : Interval) (w y : UpState c) (e : Event) → UpNext c w e y → (u : NodeId) → c.Up u → Took c.arts c.x w.state.world y.state.world e u
 took c w y e next u up = go next.follows
@@ -113,6 +135,7 @@ took c w y e next u up = go next.follows
         reaches = q.reaches;
         output = q.output;
         step = q.step;
+        keeps = keeps_version c.x w.state.world b q.node q.after (first_at c w u b there) readied (subst (UnderFirst c.x) is (first_at c y u m at));
         entry = j;
         journal = q.journal;
         unforged = unforged;

@@ -34,11 +34,11 @@ use Rattle.laws_progress.proofs.Passes.{datagram_link, pass_is}
 use Rattle.laws_progress.proofs.Places.{get_last}
 use Rattle.laws_progress.proofs.Polls.{none_polled, one_polled}
 use Rattle.laws_progress.proofs.SpreadFacts.{IsTold, Spreading}
-use Rattle.laws_progress.proofs.States.{Follow, Follows, seen_at}
+use Rattle.laws_progress.proofs.States.{Follow, Follows, seen_at, stays_at}
 use Rattle.laws_progress.proofs.UpFacts.{carries, carries_none, held_rises, place, row_there, sees, within}
 use Rattle.laws_progress.proofs.UpFrames.{Awaits, Comes, Done, Frame, Lasts, LinkGoes, Quiet, UpHop, above_is, boot_of, boot_stays, done_now, done_on, frame}
 use Rattle.laws_progress.proofs.UpFrames.{framed_is, has_link, head_is, hop_of, known, lasts_on, link_goes, of_link, pair, taken_at, turned, waits_more}
-use Rattle.laws_progress.proofs.UpStates.{Interval, StepOf, Took, UpNext, UpState, took}
+use Rattle.laws_progress.proofs.UpStates.{Interval, StepOf, Took, UpNext, UpState, first_at, took}
 
 module _ (c : Interval) where
   abbrev arts : Arts
@@ -152,8 +152,8 @@ module _ (c : Interval) where
               let left = taken_at c f y z p t s input in
               let link = datagram_link arts t.node t.after u (frame c f) (has_link c y z p v u back t) left in
               let comes =
-              came arts x y.state.events y.state.journal y.state.world c.fits c.reads y.state.run u v (hop_of c u v f.hop) t.before t.there n (frame c f)
-              (framed_is c f) in
+              came arts x y.state.events y.state.journal y.state.world c.fits c.reads y.state.run (stays_at arts x c.all y.state c.stays) u v
+              (hop_of c u v f.hop) t.before t.there n (frame c f) (framed_is c f) ((first_at c w u n f.there).0 ∙ sym (first_at c y v t.before t.there).0) in
               let comes_now =
               readied_keeps x y.state.world t.before t.node (λ q. Came arts q u (frame c f))
               (λ upto h. extended_came arts t.before upto u (frame c f) h) t.readied comes in
@@ -233,7 +233,7 @@ module _ (c : Interval) where
     known = known c;
     one_polled = λ w y e u v hop next is. one_polled arts x c.all w.state y.state e u v next.follows is;
     none_polled = λ w y e u v hop next off. none_polled arts x c.all w.state y.state e u v next.follows off;
-    carries = λ w y e u v row hop next is carried. carries c w y e u v row hop.near hop.far next is carried;
+    carries = λ w y e u v row hop next is carried. carries c w y e u v row hop.near hop.far hop.joined next is carried;
     carries_none = λ w y e u v hop next off. carries_none c w y e u v hop.near hop.far next off;
     row_there = row_there c;
     within = within c;

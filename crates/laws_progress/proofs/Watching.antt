@@ -9,6 +9,7 @@ use Rattle.laws_progress.proofs.Heads.{HeadsReadBack, heads_are}
 use Rattle.laws_progress.proofs.LastBoots.{held_below, held_none, last_boot, running_boot}
 use Rattle.laws_progress.proofs.States.{Era, Follow, Follows, IsEra, Leads, State, Watched}
 use Rattle.laws_progress.specs.Calm.{is_life_of}
+use Rattle.laws_progress.specs.Delivery.{TopologyStays}
 use Rattle.laws_runs.proofs.Lives.{step_stays}
 use Rattle.laws_runs.proofs.Running.{found_there}
 use Rattle.laws_runs.specs.Past.{holds}
@@ -24,11 +25,12 @@ use Rattle.sp_runs.specs.Runs.{InRange, Turn, forged_in, is_hop, polls}
 use Rattle.sp_runs.specs.Settings.{Setting, SettingFits, is_correct}
 use Rattle.sp_runs.specs.Worlds.{World, node_in}
 use Rattle.sp_schedule_events.specs.declared.event.Event.{Event}
-use Rattle.std.proofs.Common.{[], Bool, List, None, Some, ap, arith, false, inl, inr, refl, subst, sym, true, ℕ, ◌-◌, ◌||◌, ◌∙◌, ◌∷◌, ◌≡◌, ◌≤◌}
+use Rattle.std.proofs.Common.{[], List, None, Some, ap, arith, false, inl, inr, refl, subst, sym, true, ℕ, ◌-◌, ◌∙◌, ◌∷◌, ◌≡◌, ◌≤◌}
 use Rattle.std.proofs.lemmas.Bool.{cases_Bool}
 use Rattle.std.proofs.lemmas.Option.{same_Some}
 use Rattle.std.specs.List.{list_any}
 use Rattle.laws_progress.proofs.Facts as facts
+use Rattle.laws_progress.proofs.UpStates.{off_first}
 
 -- ---- a state of the interval, by nodes, lives and boots alone
 
@@ -44,10 +46,6 @@ AllUp arts x all era flow w = (v : NodeId) → era.on v ≡ true → UpAt arts x
 -- no watched node starts or stops
 abbrev pub IsFree : Era → List Event → Type 0
 IsFree era es = (v : NodeId) → era.on v ≡ true → list_any (is_life_of v) es ≡ false
-
-none_of : (a b : Bool) → (a || b) ≡ false → (a ≡ false) × (b ≡ false)
-none_of true b e = absurd (let f : true ≡ false = e in cc)
-none_of false b e = (refl, e)
 
 module _ (arts : Arts) (x : Setting) (all : List Event) (era : Era) (flow : Flow) (fits : SettingFits arts x) (reads : Carries x.topology.format arts) (is_era : IsEra x flow era) where
   boots_of : (old new : World) (e : Event) (j : Entry) (v : NodeId) (b n : NodeState) → node_in old.nodes v ≡ Some b → Becomes arts x old e j new v n
@@ -112,8 +110,8 @@ module _ (arts : Arts) (x : Setting) (all : List Event) (era : Era) (flow : Flow
   pub up_on : (es : List Event) (w y : State arts x all) → Goes (State arts x all) (Follows arts x all) w es y → IsFree era es → AllUp arts x all era flow w → AllUp arts x all era flow y
   up_on [] w y facts.Stays idle up = up
   up_on (e ∷ es) w y (facts.Steps {x = m} step g) idle up =
-      up_on es m y g (λ v on. (none_of (is_life_of v e) (list_any (is_life_of v) es) (idle v on)).1)
-      (up_step w m e step (λ v on. (none_of (is_life_of v e) (list_any (is_life_of v) es) (idle v on)).0) up)
+      up_on es m y g (λ v on. (off_first (is_life_of v e) (list_any (is_life_of v) es) (idle v on)).1)
+      (up_step w m e step (λ v on. (off_first (is_life_of v e) (list_any (is_life_of v) es) (idle v on)).0) up)
 
   -- ---- as watched states
 
@@ -128,17 +126,18 @@ module _ (arts : Arts) (x : Setting) (all : List Event) (era : Era) (flow : Flow
       → Goes (Watched arts x all era) (Calmly arts x all era flow) w es y
   calmly_on [] w y facts.Stays idle up = facts.Stays
   calmly_on (e ∷ es) w y (facts.Steps {x = m} step g) idle up =
-      let now = up_step w.at m.at e step (λ v on. (none_of (is_life_of v e) (list_any (is_life_of v) es) (idle v on)).0) up in
+      let now = up_step w.at m.at e step (λ v on. (off_first (is_life_of v e) (list_any (is_life_of v) es) (idle v on)).0) up in
       facts.Steps (record { leads = step; before = are_up w up; after = are_up m now })
-      (calmly_on es m y g (λ v on. (none_of (is_life_of v e) (list_any (is_life_of v) es) (idle v on)).1) now)
+      (calmly_on es m y g (λ v on. (off_first (is_life_of v e) (list_any (is_life_of v) es) (idle v on)).1) now)
 
   -- the last state is watched, where the frames of each life are counted by its end
-  pub watch : HeadsReadBack arts → (y : State arts x all) → AllUp arts x all era flow y
+  pub watch : HeadsReadBack arts → TopologyStays all → (y : State arts x all) → AllUp arts x all era flow y
       → ((u v : NodeId) → era.on u ≡ true → (n : NodeState) → node_in y.world.nodes u ≡ Some n → era.early u v ≡ polls y.events u v - (link_in n v).sent)
       → ((u v : NodeId) → era.on u ≡ true → is_hop x u v ≡ true → (n : NodeState) → node_in y.world.nodes u ≡ Some n → (link_in n v).sent ≤ polls y.events u v)
       → Watched arts x all era
-  watch heads y up early within = record {
+  watch heads stays y up early within = record {
     at = y;
+    stays = stays;
     latest = λ v on. let p = up v on in let last = running_boot arts x y.events y.journal y.world fits reads y.run v p.node p.there in let boot = p.boot in omega (arith, last, boot);
     runs = λ v on last. let p = up v on in (p.node, p.there);
     placed = λ u v on joined k bytes at life.
@@ -151,9 +150,9 @@ module _ (arts : Arts) (x : Setting) (all : List Event) (era : Era) (flow : Flow
         omega (arith, counter, number, is, most);
   }
 
-  pub watch_is : (heads : HeadsReadBack arts) (y : State arts x all) (up : AllUp arts x all era flow y)
+  pub watch_is : (heads : HeadsReadBack arts) (stays : TopologyStays all) (y : State arts x all) (up : AllUp arts x all era flow y)
       (early : (u v : NodeId) → era.on u ≡ true → (n : NodeState) → node_in y.world.nodes u ≡ Some n → era.early u v ≡ polls y.events u v - (link_in n v).sent)
       (within : (u v : NodeId) → era.on u ≡ true → is_hop x u v ≡ true → (n : NodeState) → node_in y.world.nodes u ≡ Some n → (link_in n v).sent ≤ polls y.events u v)
-      → (watch heads y up early within).at ≡ y
+      → (watch heads stays y up early within).at ≡ y
   unfolding watch
-  watch_is heads y up early within = refl
+  watch_is heads stays y up early within = refl

@@ -111,12 +111,14 @@ first_message = record {
   one_flow = refl;
   there = first_are;
   is_delivered = λ arts js more w v n promise early run at has.
-      let it = promise send js w first_rounds more v early run (node 1) (node 3) line_path line_is_path n at 1 1 (omega arith) has (omega arith) 1 (omega arith) first_are in
+      let it =
+      promise send js w first_rounds more v early run refl (node 1) (node 3) line_path line_is_path n at 1 1 (omega arith) has (omega arith) 1 (omega arith)
+      first_are in
       (it.payload, it.sent.there, it.delivered.there);
   back = later_are;
   has_returned = λ arts js more w v n promise early run at is.
       let before = send ++ (first_rounds ++ tick) in
-      let it = promise before js w later_rounds more v early run (node 1) (node 3) line_path line_is_path n at 1 (omega arith) later_are in
+      let it = promise before js w later_rounds more v early run refl (node 1) (node 3) line_path line_is_path n at 1 (omega arith) later_are in
       (omega (arith, it.base, is), λ low. it.room (omega (arith, low, is)));
 }
 
@@ -170,9 +172,22 @@ rounds_are_counted = record {
     seven_flows = refl;
     rounds = four_are;
     is_delivered = λ arts js more w v n promise early run at has.
-        let it = promise send js w four_rounds more v early run (node 1) (node 3) square_path square_is_path n at 1 1 (omega arith) has (omega arith) 7 (omega arith) four_are in
+        let it =
+        promise send js w four_rounds more v early run refl (node 1) (node 3) square_path square_is_path n at 1 1 (omega arith) has (omega arith) 7
+        (omega arith) four_are in
         (it.payload, it.sent.there, it.delivered.there);
     events = refl;
     frames = refl;
   };
+  stays = record {
+    rounds = refl;
+    crafted = refl;
+    handed = refl;
+    published = λ stays. some stays;
+    published_late = λ stays. some stays;
+    published_between = λ stays. some stays;
+  };
 }
+  where
+    some : {X : Type 0} {z : X} {zs : List X} → z ∷ zs ≡ [] → ⊥
+    some e = cc

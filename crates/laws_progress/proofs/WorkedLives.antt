@@ -48,7 +48,7 @@ lives_are_counted = record {
       let boots = boots_at told four_rounds a b (node 1) (holding 1 1 1) refl (All-head At (node 1) (node 2 ∷ node 3 ∷ []) calm) in
       (sym boots.0, sym boots.1);
   is_delivered = λ arts js more w v n promise run longer calm at has.
-      let it = promise sent_by js w four_rounds more v run longer (node 1) (node 3) line_path
+      let it = promise sent_by js w four_rounds more v run longer refl (node 1) (node 3) line_path
       (three_path restless 1 2 3 (λ e. omega (arith, e)) (λ e. omega (arith, e)) (λ e. omega (arith, e)) refl refl refl refl refl) 1 1 calm n at 1 1 (omega arith) has (omega arith) 1
       (omega arith) rounds_are in
       (it.payload, it.sent.there, it.delivered.there);

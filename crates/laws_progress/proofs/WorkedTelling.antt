@@ -133,7 +133,7 @@ telling_is_worked = record {
       let ups = All-cons Up (node 1) (node 2 ∷ node 3 ∷ []) (record { node = one; runs = at_one; stays = refl })
       (All-cons Up (node 2) (node 3 ∷ []) (record { node = two; runs = at_two; stays = refl })
       (All-cons Up (node 3) [] (record { node = three; runs = at_three; stays = refl }) (All-nil Up))) in
-      let known = promise starts js w three_rounds more v early run (node 1) (node 3) line_path row_path ups 3 (omega arith) rounds_are in
+      let known = promise starts js w three_rounds more v early run refl (node 1) (node 3) line_path row_path ups 3 (omega arith) rounds_are in
       (at_place v known 2 0 (omega arith) (omega arith) m n at_m at_n, at_place v known 0 2 (omega arith) (omega arith) n m at_n at_m);
   short = λ round.
       let sweeps = All-head (Serves starts short_round) (node 1, node 2) ((node 2, node 3) ∷ []) round in

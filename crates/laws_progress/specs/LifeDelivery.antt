@@ -13,7 +13,7 @@ use Rattle.sp_runs.specs.Worlds.{World, node_in}
 use Rattle.sp_journal.specs.declared.entry.Entry.{Entry}
 use Rattle.sp_schedule_events.specs.declared.event.Event.{Event}
 use Rattle.laws_progress.specs.Calm.{IsCalm, KnowEachOther, StaysUpIn}
-use Rattle.laws_progress.specs.Delivery.{HasReturned, IsDelivered}
+use Rattle.laws_progress.specs.Delivery.{HasReturned, IsDelivered, TopologyStays}
 use Rattle.laws_progress.specs.Telling.{TellingRounds}
 use Rattle.laws_runs.specs.Flows.{flow_at}
 use Rattle.laws_runs.specs.LifeFlows.{acknowledged_under}
@@ -26,7 +26,7 @@ abbrev pub DeliversInLives : Arts → Setting → Type 0
 DeliversInLives arts x =
     -- a run without forgery, and how it went on
     (es : List Event) (js : List Entry) (w : World) (after : List Event) (more : List Entry) (v : World)
-    → (run : Clean arts x es js w) → (longer : Clean arts x (es ++ after) (js ++ more) v)
+    → (run : Clean arts x es js w) → (longer : Clean arts x (es ++ after) (js ++ more) v) → TopologyStays (es ++ after)
     → (s d : NodeId) (path : List NodeId) → IsCorrectPath x s d path
     → (a b : ℕ) → IsCalm w after s a d b path
     → (n : NodeState) → node_in w.nodes s ≡ Some n
@@ -39,7 +39,7 @@ DeliversInLives arts x =
 abbrev pub ReturnsInLives : Arts → Setting → Type 0
 ReturnsInLives arts x =
     (es : List Event) (js : List Entry) (w : World) (after : List Event) (more : List Entry) (v : World)
-    → Clean arts x es js w → Clean arts x (es ++ after) (js ++ more) v
+    → Clean arts x es js w → Clean arts x (es ++ after) (js ++ more) v → TopologyStays (es ++ after)
     → (s d : NodeId) (path : List NodeId) → IsCorrectPath x s d path
     → (a b : ℕ) → IsCalm w after s a d b path
     → (n : NodeState) → node_in v.nodes s ≡ Some n
@@ -50,7 +50,7 @@ ReturnsInLives arts x =
 abbrev pub StartsAreTold : Arts → Setting → Type 0
 StartsAreTold arts x =
     (es : List Event) (js : List Entry) (w : World) (after : List Event) (more : List Entry) (v : World)
-    → Clean arts x es js w → Clean arts x (es ++ after) (js ++ more) v
+    → Clean arts x es js w → Clean arts x (es ++ after) (js ++ more) v → TopologyStays (es ++ after)
     → (s d : NodeId) (path : List NodeId) → IsCorrectPath x s d path → All (StaysUpIn w after) path
     -- a sweep has at least as many polls as there are nodes
     → (least : ℕ) → length x.topology.nodes ≤ least → TellingRounds least path (hops path + 1) es after

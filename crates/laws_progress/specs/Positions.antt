@@ -16,6 +16,7 @@ use Rattle.sp_runs.specs.Told.{sent}
 use Rattle.sp_runs.specs.Worlds.{World, node_in}
 use Rattle.sp_journal.specs.declared.entry.Entry.{Entry}
 use Rattle.sp_schedule_events.specs.declared.event.Event.{Event}
+use Rattle.laws_progress.specs.Delivery.{TopologyStays}
 use Rattle.laws_runs.specs.Flows.{AreSent, IsVouchedFor, flow_at}
 use Rattle.laws_runs.specs.Premises.{ComesThrough}
 
@@ -53,4 +54,4 @@ pub record ProgressClaims (arts : Arts) (x : Setting) (es : List Event) (js : Li
 abbrev pub PositionsAreInOrder : Type 0
 PositionsAreInOrder = (arts : Arts) (x : Setting) (es : List Event) (js : List Entry) (w : World) → StaysUp arts x
     → ComesThrough x.topology.format arts x.signature_len
-    → 1 ≤ x.buffer → Clean arts x es js w → ProgressClaims arts x es js w
+    → 1 ≤ x.buffer → Clean arts x es js w → TopologyStays es → ProgressClaims arts x es js w

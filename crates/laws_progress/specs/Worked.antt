@@ -1,6 +1,6 @@
 -- Two worked examples of complete rounds, along three nodes in a row, and along a path round a compromised node: the first message is delivered by the end
--- of four, and its acknowledgement is back by the end of three more.
-use Rattle.std.specs.Prelude.{ℕ, zero, suc, ◌≡◌, ◌+◌, ◌*◌, ◌<◌, ◌≤◌, false, List, [], ◌∷◌, ◌++◌, length, map, slice_get, Some}
+-- of four, and its acknowledgement is back by the end of three more. And events in which nothing is published, as both are, and others in which something is.
+use Rattle.std.specs.Prelude.{ℕ, zero, suc, ◌≡◌, ◌+◌, ◌*◌, ◌<◌, ◌≤◌, false, List, [], ◌∷◌, ◌++◌, length, map, slice_get, None, Some}
 use Rattle.sp_base.specs.declared.id.NodeId.{NodeId}
 use Rattle.sp_topology.specs.declared.topology.Edge.{Edge}
 use Rattle.sp_topology.specs.declared.topology.LmsHeight.TheVariants.{Five}
@@ -19,7 +19,7 @@ use Rattle.sp_schedule_events.specs.declared.event.Event.{Event}
 use Rattle.sp_schedule_events.specs.declared.event.Event.TheVariants as events
 use Rattle.laws_runs.specs.Acknowledged.{acknowledged}
 use Rattle.laws_runs.specs.Flows.{flow_at}
-use Rattle.laws_progress.specs.Delivery.{DeliversInRounds, ReturnsInRounds}
+use Rattle.laws_progress.specs.Delivery.{DeliversInRounds, ReturnsInRounds, TopologyStays}
 
 abbrev pub node : ℕ → NodeId
 node u = record { 0 = u }
@@ -43,6 +43,10 @@ setting ids edges bad = record {
   link_key = λ e. [];
   digest = λ bytes. bytes;
   epochs = false;
+  admin = [];
+  admin_total = 0;
+  document = λ version weights. [];
+  unsigned = λ version weights. [];
 }
 
 -- so many frames of u for v after so many before, each passed as soon as it is made
@@ -136,7 +140,32 @@ pub record RoundACompromisedNode : Type 0 where
   pub events : length four_rounds ≡ 4 * (4 * 7 * 2 + 1)
   pub frames : polls four_rounds (node 4) (node 3) ≡ 28
 
--- both
+-- ---- where the topology stays
+
+-- the administrator publishes version 2, and hands it to 1
+abbrev pub publish_it : List Event
+publish_it = events.Publish (node 1) (Some (20 ∷ 10 ∷ [])) ∷ []
+
+-- and hands the last version to 3
+abbrev pub hand_it : List Event
+hand_it = events.Publish (node 3) None ∷ []
+
+-- 2 sends 1 a document of version 2 in the administrator's name
+abbrev pub craft_it : List Event
+craft_it = events.CraftDocument (node 2) (node 1) 0 2 (Some (20 ∷ 10 ∷ [])) ∷ []
+
+pub record WhereItStays : Type 0 where
+  pub rounds : TopologyStays (send ++ (first_rounds ++ (tick ++ later_rounds)))
+  -- who only crafts publishes nothing, and what is handed out again is no version more
+  pub crafted : TopologyStays (send ++ (craft_it ++ first_rounds))
+  pub handed : TopologyStays (send ++ (hand_it ++ first_rounds))
+  -- a list of weights is a version more, after whatever events it comes
+  pub published : TopologyStays publish_it → ⊥
+  pub published_late : TopologyStays (send ++ (first_rounds ++ publish_it)) → ⊥
+  pub published_between : TopologyStays (craft_it ++ (publish_it ++ hand_it)) → ⊥
+
+-- all of them
 pub record RoundsAreCounted : Type 0 where
   pub first_message : FirstMessage
   pub compromised : RoundACompromisedNode
+  pub stays : WhereItStays

@@ -11,6 +11,7 @@ use Rattle.sp_runs.specs.Runs.{Clean}
 use Rattle.sp_runs.specs.Settings.{Setting, node_at_boot}
 use Rattle.sp_runs.specs.Worlds.{World, node_in}
 use Rattle.sp_journal.specs.declared.entry.Entry.{Entry}
+use Rattle.sp_schedule_events.specs.Documents.{none_published}
 use Rattle.sp_schedule_events.specs.declared.event.Event.{Event}
 use Rattle.sp_schedule_events.specs.declared.event.Event.TheVariants as events
 use Rattle.laws_progress.specs.Calm.{IsCalm}
@@ -53,7 +54,7 @@ holding u one three =
     let n = node_at_boot restless (node u) in record n { parts = record n.parts { lives = heard 1 one ∷ heard 2 1 ∷ heard 3 three ∷ [] } }
 
 abbrev pub world : (one two three : NodeState) → World
-world one two three = record { keys = []; nodes = one ∷ two ∷ three ∷ []; directions = []; crafted = [] }
+world one two three = record { keys = []; nodes = one ∷ two ∷ three ∷ []; directions = []; crafted = []; published = none_published }
 
 -- all starts are told
 abbrev pub told : World

@@ -14,6 +14,7 @@ use Rattle.sp_journal.specs.declared.entry.Entry.{Entry}
 use Rattle.sp_journal.specs.declared.entry.Reply.TheVariants as replies
 use Rattle.laws_progress.specs.Positions.{ProgressClaims}
 use Rattle.laws_progress.specs.Worked.{line, node, send}
+use Rattle.sp_schedule_events.specs.Documents.{none_published}
 
 -- ---- worlds
 
@@ -58,7 +59,7 @@ abbrev pub source : NodeState
 source = standing 1 0 1 (sent_message ∷ [])
 
 abbrev pub world : (one two three : NodeState) → World
-world one two three = record { keys = []; nodes = one ∷ two ∷ three ∷ []; directions = []; crafted = [] }
+world one two three = record { keys = []; nodes = one ∷ two ∷ three ∷ []; directions = []; crafted = []; published = none_published }
 
 -- ---- what is claimed
 

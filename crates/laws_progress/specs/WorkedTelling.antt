@@ -10,6 +10,7 @@ use Rattle.sp_runs.specs.Runs.{Clean, polls}
 use Rattle.sp_runs.specs.Settings.{Setting, first_signer, fixed_at, link_keys}
 use Rattle.sp_runs.specs.Worlds.{World, node_in}
 use Rattle.sp_journal.specs.declared.entry.Entry.{Entry}
+use Rattle.sp_schedule_events.specs.Documents.{none_published}
 use Rattle.sp_schedule_events.specs.declared.event.Event.{Event}
 use Rattle.sp_schedule_events.specs.declared.event.Event.TheVariants as events
 use Rattle.laws_progress.specs.Calm.{KnowEachOther, StaysUpIn}
@@ -64,7 +65,7 @@ abbrev pub booted_at : (u boot : ℕ) → NodeState
 booted_at u boot = booted (fixed_at row (node u) boot) (first_signer row (node u)) (link_keys row (node u)) 2 4
 
 abbrev pub untold : World
-untold = record { keys = []; nodes = booted_at 1 1 ∷ booted_at 2 2 ∷ booted_at 3 1 ∷ []; directions = []; crafted = [] }
+untold = record { keys = []; nodes = booted_at 1 1 ∷ booted_at 2 2 ∷ booted_at 3 1 ∷ []; directions = []; crafted = []; published = none_published }
 
 pub record TellingIsWorked : Type 0 where
   pub path : IsCorrectPath row (node 1) (node 3) line_path

@@ -1,8 +1,17 @@
 -- Where something is acknowledged, the node keeps the acknowledgement of exactly that number, and each step keeps it so.
+use Rattle.laws_node.proofs.Adopting.{publishing, reading}
+use Rattle.laws_node.proofs.Changing.{still_removed}
+use Rattle.laws_node.proofs.Priority.{all_map}
+use Rattle.laws_node.proofs.Withdrawing.{left_obeys}
+use Rattle.laws_node.specs.Withdrawals.{Obeys}
+use Rattle.sp_rules.specs.Topologies.{removed_of}
+use Rattle.sp_rules.specs.Link.{advanced}
+use Rattle.sp_rules.specs.Polls.{is_served, parts_after, polled}
 use Rattle.std.proofs.Common.{◌≡◌, ◌≤◌, ◌<◌, ℕ, Bool, true, false, cond, List, [], ◌∷◌, length, drop, map, Option, Some, None, refl, sym, subst, ◌∙◌, arith}
-use Rattle.std.specs.Prelude.{All, not, nat_le}
+use Rattle.std.proofs.Common.{◌&&◌, ap}
+use Rattle.std.specs.Prelude.{All, not, nat_le, ◌||◌}
 use Rattle.std.specs.Option.{option_and_then, option_map}
-use Rattle.std.proofs.lemmas.List.Elements.{All-cons, All-head, All-nil, All-tail}
+use Rattle.std.proofs.lemmas.List.Elements.{All-cons, All-nil}
 use Rattle.std.proofs.lemmas.Bool.{leb-false}
 use Rattle.std.proofs.lemmas.List.{length-append}
 use Rattle.sp_base.specs.declared.id.Flow.{Flow}
@@ -16,16 +25,19 @@ use Rattle.sp_msg.specs.declared.refused.SendRefused.{SendRefused}
 use Rattle.sp_rules.proofs.FlowJudged.{new_ack, same_flow}
 use Rattle.sp_rules.specs.Answers.{ack_answer, epoch_answer, is_new, prio_answer, rel_answer, weight_answer}
 use Rattle.sp_rules.specs.Arts.{Arts}
-use Rattle.sp_rules.specs.Arrivals.{arrival_at, greeted, has_risen, link_after, parts_met, pieces_in, pieces_where, reply_at, sections_in}
-use Rattle.sp_rules.specs.Flow.{FlowState, acknowledged_by, after_take, concluded, ends, flow_said, is_flow, no_flow, number_said, pushed, received}
+use Rattle.sp_rules.specs.Arrivals.{arrival_at, before_document, document_at, greeted, parts_met, pieces_in, pieces_where, read_by, reply_at, rises}
+use Rattle.sp_rules.specs.Arrivals.{sections_in}
+use Rattle.sp_rules.specs.Flow.{FlowState, acknowledged_by, after_take, concluded, ended, ends, flow_said, is_flow, no_flow, number_said, pushed, received}
 use Rattle.sp_rules.specs.Handle.{Arrival, handle, handle_all, met, offer_to, prio_handled}
 use Rattle.sp_rules.specs.Lives.{are_held, is_dated, judge_epoch, origin_said}
-use Rattle.sp_rules.specs.Node.{NodeState, call_refusal, kept_or, link_in, signed_now}
-use Rattle.sp_rules.specs.Parts.{Parts, is_signed}
+use Rattle.sp_rules.specs.Node.{NodeState, call_refusal, called, kept_or, link_in, signed_now, with_link}
+use Rattle.sp_rules.specs.Parts.{Parts, is_signed, nodes_of}
 use Rattle.sp_rules.specs.Pieces.{Piece, AckPiece, PrioAckPiece, PrioPiece, RelPiece, ReportPiece, WeightPiece, EpochPiece}
-use Rattle.sp_rules.specs.Rel.{RelState, admit_ack, admit_rel, ack_of, are_ends, due_place, flow_at, flow_in, flow_less, flow_to_me, is_end, is_to, judge_ack, judge_ack_of, judge_rel_of, next_place, peer_in, plain_ack, pushed_in, reported, served, served_at, settled, settled_at, told, took, with_flow, with_peer}
+use Rattle.sp_rules.specs.Rel.{closed, ended_where, is_one_of, is_over, RelState, admit_ack, admit_rel, ack_of, are_ends, due_place, flow_at, flow_in}
+use Rattle.sp_rules.specs.Rel.{flow_less, flow_to_me, is_end, is_to, judge_ack, judge_ack_of, judge_rel_of, next_place, peer_in, plain_ack, pushed_in, reported}
+use Rattle.sp_rules.specs.Rel.{served, served_at, settled, settled_at, told, took, with_flow, with_peer}
 use Rattle.sp_rules.specs.Sends.{rel_body, rel_refusal, send_prio_refusal, signer_refusal, weight_refusal}
-use Rattle.sp_rules.specs.Steps.{Input, NodeStep, Output, Poll, Datagram, Tick, SendRel, SendPrio, SetWeight, TakeRel, TakePrio}
+use Rattle.sp_rules.specs.Steps.{Input, NodeStep, Output, Poll, Datagram, Tick, SendRel, SendPrio, SetWeight, TakeRel, TakePrio, Publish}
 use Rattle.sp_rules.specs.Ticks.{at_time, due_now, settled_by}
 use Rattle.sp_rules.specs.Prio.{judge_prio}
 use Rattle.sp_rules.specs.Weights.{held}
@@ -40,28 +52,29 @@ use Rattle.laws_node.proofs.Reliable.{dated_due}
 use Rattle.laws_node.proofs.Tables.{all_first, all_replace, cond_either, cond_where}
 
 abbrev pub RelAck : RelState → Type 0
-RelAck r = All FlowAck r.flows
+RelAck r = All (FlowAck r.removed) r.flows
 
-pub none_ack : (flow : Flow) → FlowAck (no_flow flow)
-none_ack flow = record { sound = omega arith; ack = λ some. absurd (omega (arith, some)); inbox = omega arith }
+pub none_ack : (removed : List NodeId) (flow : Flow) → FlowAck removed (no_flow flow)
+none_ack removed flow = record { sound = omega arith; ack = λ some. absurd (omega (arith, some)); inbox = λ on. omega arith }
 
-pub flow_ack : (r : RelState) (flow : Flow) → RelAck r → FlowAck (flow_in r.flows flow)
-flow_ack r flow h = all_first FlowAck (is_flow flow) (no_flow flow) r.flows h (none_ack flow)
+pub flow_ack : (r : RelState) (flow : Flow) → RelAck r → FlowAck r.removed (flow_in r.flows flow)
+flow_ack r flow h = all_first (FlowAck r.removed) (is_flow flow) (no_flow flow) r.flows h (none_ack r.removed flow)
 
 -- ---- one flow
 
-same_ack : (f g : FlowState) → g.ack ≡ f.ack → g.at.base ≡ f.at.base → f.at.have ≤ g.at.have → (length f.inbox ≤ f.at.have → length g.inbox ≤ g.at.have) → FlowAck f → FlowAck g
-same_ack f g ack base have inbox h = record {
-  inbox = inbox h.inbox;
+same_ack : (gone : List NodeId) (f g : FlowState) → ends g ≡ ends f → g.ack ≡ f.ack → g.at.base ≡ f.at.base → f.at.have ≤ g.at.have → (length f.inbox ≤ f.at.have → length g.inbox ≤ g.at.have) → FlowAck gone f
+    → FlowAck gone g
+same_ack gone f g same ack base have inbox h = record {
+  inbox = λ on. inbox (h.inbox (sym (ap (is_over gone) same) ∙ on));
   sound = let s = h.sound in omega (arith, s, base, have);
   ack = λ some. let n = h.ack (omega (arith, some, base)) in record { ack = n.ack; kept = ack ∙ n.kept; number = n.number ∙ sym base };
 }
 
-acked_ack : (f : FlowState) (o : Kept) → f.at.base < number_said o.body → FlowAck f → FlowAck (acknowledged_by f o)
-acked_ack f o above h = record { sound = let s = h.sound in omega (arith, s); ack = λ some. record { ack = o; kept = refl; number = omega (arith, above) }; inbox = let i = h.inbox in omega (arith, i) }
+acked_ack : (gone : List NodeId) (f : FlowState) (o : Kept) → f.at.base < number_said o.body → FlowAck gone f → FlowAck gone (acknowledged_by f o)
+acked_ack gone f o above h = record { sound = let s = h.sound in omega (arith, s); ack = λ some. record { ack = o; kept = refl; number = omega (arith, above) }; inbox = λ on. let i = h.inbox on in omega (arith, i) }
 
-concluded_ack : (f : FlowState) (o : Kept) → number_said o.body ≡ f.at.have → FlowAck f → FlowAck (concluded f o)
-concluded_ack f o is h = record { sound = let s = h.sound in omega (arith, s); ack = λ some. record { ack = o; kept = refl; number = let s = h.sound in omega (arith, s, is) }; inbox = let i = h.inbox in omega (arith, i) }
+concluded_ack : (gone : List NodeId) (f : FlowState) (o : Kept) → number_said o.body ≡ f.at.have → FlowAck gone f → FlowAck gone (concluded f o)
+concluded_ack gone f o is h = record { sound = let s = h.sound in omega (arith, s); ack = λ some. record { ack = o; kept = refl; number = let s = h.sound in omega (arith, s, is) }; inbox = λ on. let i = h.inbox on in omega (arith, i) }
 
 shorter : (xs : List (List ℕ)) → length (drop 1 xs) ≤ length xs
 shorter [] = omega arith
@@ -69,16 +82,16 @@ shorter (y ∷ xs) = omega arith
 
 -- ---- the part
 
-with_ack : (r : RelState) (flow : Flow) (g : FlowState) → RelAck r → FlowAck g → RelAck (with_flow r flow g)
-with_ack r flow g h one = all_replace FlowAck (is_flow flow) g r.flows h one
+with_ack : (r : RelState) (flow : Flow) (g : FlowState) → RelAck r → FlowAck r.removed g → RelAck (with_flow r flow g)
+with_ack r flow g h one = all_replace (FlowAck r.removed) (is_flow flow) g r.flows h one
 
 admit_rel_ack : (r : RelState) (o : Kept) → RelAck r → RelAck (admit_rel r o)
 admit_rel_ack r o h =
     let flow = flow_said o.body in
     let f = flow_in r.flows flow in
     cond_either (λ (g : FlowState). RelAck (with_flow r flow g)) (is_to r flow) (received f (payload_of o.body)) (pushed f o)
-    (with_ack r flow (received f (payload_of o.body)) h (same_ack f (received f (payload_of o.body)) refl refl (omega arith) (λ i. omega (arith, i, length-append f.inbox (payload_of o.body ∷ []))) (flow_ack r flow h)))
-    (with_ack r flow (pushed f o) h (same_ack f (pushed f o) refl refl (omega arith) (λ i. omega (arith, i)) (flow_ack r flow h)))
+    (with_ack r flow (received f (payload_of o.body)) h (same_ack r.removed f (received f (payload_of o.body)) refl refl refl (omega arith) (λ i. omega (arith, i, length-append f.inbox (payload_of o.body ∷ []))) (flow_ack r flow h)))
+    (with_ack r flow (pushed f o) h (same_ack r.removed f (pushed f o) refl refl refl (omega arith) (λ i. omega (arith, i)) (flow_ack r flow h)))
 
 passes_old : (e t : Bool) (x : AckJudged) → e ≡ true → cond (not e) acks.BadEnd (cond t acks.Old x) ≡ acks.New → t ≡ false
 passes_old true false x is new = refl
@@ -109,7 +122,7 @@ ack_ack right dated r flow o h =
     (λ new.
     let said = flow_said o.body in
     let f = flow_in r.flows said in
-    with_ack r said (acknowledged_by f o) h (acked_ack f o (above_new r flow o.body (judged.new_ack right dated (judge_ack_of r flow o.body) new).1) (flow_ack r said h)))
+    with_ack r said (acknowledged_by f o) h (acked_ack r.removed f o (above_new r flow o.body (judged.new_ack right dated (judge_ack_of r flow o.body) new).1) (flow_ack r said h)))
     (λ old. h)
 
 pub reported_ack : (r : RelState) (v : NodeId) (flow : Flow) (base have : ℕ) → RelAck r → RelAck (reported r v flow base have)
@@ -127,22 +140,20 @@ settled_ack r o is h = go (due_place r)
   where
     go : (place : Option ℕ) → RelAck (settled_at r o place)
     go None = h
-    go (Some place) = let flow = flow_said o.body in let f = flow_in r.flows flow in with_ack r flow (concluded f o) h (concluded_ack f o is (flow_ack r flow h))
+    go (Some place) = let flow = flow_said o.body in let f = flow_in r.flows flow in with_ack r flow (concluded f o) h (concluded_ack r.removed f o is (flow_ack r flow h))
 
 took_ack : (r : RelState) (src : NodeId) → RelAck r → RelAck (took r src)
-took_ack r src h = let flow = flow_to_me r src in let f = flow_in r.flows flow in with_ack r flow (after_take f) h (same_ack f (after_take f) refl refl (omega arith) (λ i. let less = shorter f.inbox in omega (arith, i, less)) (flow_ack r flow h))
+took_ack r src h = let flow = flow_to_me r src in let f = flow_in r.flows flow in with_ack r flow (after_take f) h (same_ack r.removed f (after_take f) refl refl refl (omega arith) (λ i. let less = shorter f.inbox in omega (arith, i, less)) (flow_ack r flow h))
 
 sent_ack : (r : RelState) (o : Kept) → RelAck r → RelAck (pushed_in r o)
-sent_ack r o h = let flow = flow_said o.body in let f = flow_in r.flows flow in with_ack r flow (pushed f o) h (same_ack f (pushed f o) refl refl (omega arith) (λ i. omega (arith, i)) (flow_ack r flow h))
+sent_ack r o h = let flow = flow_said o.body in let f = flow_in r.flows flow in with_ack r flow (pushed f o) h (same_ack r.removed f (pushed f o) refl refl refl (omega arith) (λ i. omega (arith, i)) (flow_ack r flow h))
 
 -- a flow that begins anew
-less_ack : (v : NodeId) (f : FlowState) → FlowAck f → FlowAck (flow_less v f)
-less_ack v f h = cond_either FlowAck (is_end v (ends f)) (no_flow (ends f)) f (none_ack (ends f)) h
+less_ack : (gone : List NodeId) (v : NodeId) (f : FlowState) → FlowAck gone f → FlowAck gone (flow_less v f)
+less_ack gone v f h = cond_either (FlowAck gone) (is_end v (ends f)) (no_flow (ends f)) f (none_ack gone (ends f)) h
 
-less_all_ack : (v : NodeId) (fs : List FlowState) → All FlowAck fs → All FlowAck (map (flow_less v) fs)
-less_all_ack v [] h = h
-less_all_ack v (f ∷ fs) h =
-    All-cons FlowAck (flow_less v f) (map (flow_less v) fs) (less_ack v f (All-head FlowAck f fs h)) (less_all_ack v fs (All-tail FlowAck f fs h))
+less_all_ack : (gone : List NodeId) (v : NodeId) (fs : List FlowState) → All (FlowAck gone) fs → All (FlowAck gone) (map (flow_less v) fs)
+less_all_ack gone v fs h = all_map (FlowAck gone) (FlowAck gone) (flow_less v) (less_ack gone v) fs h
 
 greeted_ack : (epochs risen : Bool) (v : NodeId) (p : Parts) → RelAck p.rel → RelAck (greeted epochs risen v p).rel
 greeted_ack true true v p h = h
@@ -171,18 +182,47 @@ piece_ack arts at p (AckPiece flow o) h =
     (λ new.
     let said = flow_said o.body in
     let f = flow_in p.rel.flows said in
-    with_ack p.rel said (acknowledged_by f o) h (acked_ack f o (above_new p.rel flow o.body (judged.new_ack (is_signed arts at.fixed o) (is_dated p.lives o.body) (judge_ack_of p.rel flow o.body) new).1) (flow_ack p.rel said h)))
+    with_ack p.rel said (acknowledged_by f o) h (acked_ack p.rel.removed f o (above_new p.rel flow o.body (judged.new_ack (is_signed arts at.fixed o) (is_dated p.lives o.body) (judge_ack_of p.rel flow o.body) new).1) (flow_ack p.rel said h)))
     (λ old. h)
 piece_ack arts at p (RelPiece flow o) h = cond_either (λ (q : Parts). RelAck q.rel) (is_new (items.Rel (rel_answer (is_signed arts at.fixed o) (is_dated p.lives o.body) (judge_rel_of p.rel flow o.body)))) (record p { rel = admit_rel p.rel o }) p (admit_rel_ack p.rel o h) h
 piece_ack arts at p (EpochPiece o) h =
     cond_either (λ (q : Parts). RelAck q.rel) (is_new (items.Epoch (epoch_answer (is_signed arts at.fixed o) (judge_epoch at.fixed.me p.lives o.body))))
-    (met p o) p (less_all_ack (origin_said o.body) p.rel.flows h) h
+    (met p o) p (less_all_ack p.rel.removed (origin_said o.body) p.rel.flows h) h
 
 pub pieces_ack : (arts : Arts) (at : Arrival) (p : Parts) (pieces : List Piece) → RelAck p.rel → RelAck (handle_all arts at p pieces).parts.rel
 pieces_ack arts at p [] h = h
 pieces_ack arts at p (piece ∷ pieces) h = pieces_ack arts at (handle arts at p piece).parts pieces (piece_ack arts at p piece h)
 
+-- ---- another version of the topology
+
+pub over_less : (gone more : List NodeId) (fl : Flow) → ((u : NodeId) → is_one_of gone u ≡ true → is_one_of more u ≡ true) → is_over more fl ≡ false → is_over gone fl ≡ false
+over_less gone more fl less off = go (is_one_of gone fl.src) refl (is_one_of gone fl.dst) refl (is_one_of more fl.src) refl (is_one_of more fl.dst) refl off
+  where
+    go : (a : Bool) → is_one_of gone fl.src ≡ a → (b : Bool) → is_one_of gone fl.dst ≡ b → (c : Bool) → is_one_of more fl.src ≡ c → (d : Bool) → is_one_of more fl.dst ≡ d
+        → (c || d) ≡ false → (a || b) ≡ false
+    go false one false two c three d four off = refl
+    go true one b two true three d four off = absurd (cc)
+    go true one b two false three d four off = absurd (let both : true ≡ false = sym (less fl.src one) ∙ three in cc)
+    go false one true two true three d four off = absurd (cc)
+    go false one true two false three true four off = absurd (cc)
+    go false one true two false three false four off = absurd (let both : true ≡ false = sym (less fl.dst two) ∙ four in cc)
+
+pub ended_ack : (gone more : List NodeId) → ((u : NodeId) → is_one_of gone u ≡ true → is_one_of more u ≡ true) → (f : FlowState) → FlowAck gone f → FlowAck more (ended_where more f)
+ended_ack gone more less f h = go f.active (is_over more (ends f)) refl
+  where
+    go : (a b : Bool) → is_over more (ends f) ≡ b → FlowAck more (cond (a && b) (ended f) f)
+    go true true over = record { sound = omega arith; ack = λ some. absurd (omega (arith, some)); inbox = λ off. absurd (let both : true ≡ false = sym over ∙ off in cc) }
+    go true false over = record { sound = h.sound; ack = h.ack; inbox = λ off. h.inbox (over_less gone more (ends f) less off) }
+    go false b over = record { sound = h.sound; ack = h.ack; inbox = λ off. h.inbox (over_less gone more (ends f) less off) }
+
+pub closed_ack : (r : RelState) (more : List NodeId) → ((u : NodeId) → is_one_of r.removed u ≡ true → is_one_of more u ≡ true) → RelAck r → RelAck (closed r more)
+closed_ack r more less h = all_map (FlowAck r.removed) (FlowAck more) (ended_where more) (ended_ack r.removed more less) r.flows h
+
 -- ---- steps
+
+kept_where : {X : Type 0} (r : Option X) (n m new : NodeState) → new ≡ kept_or r n m → RelAck n.parts.rel → (r ≡ None → new ≡ m → RelAck m.parts.rel) → RelAck new.parts.rel
+kept_where None n m new is old then = subst (λ (y : NodeState). RelAck y.parts.rel) (sym is) (then refl is)
+kept_where (Some x) n m new is old then = subst (λ (y : NodeState). RelAck y.parts.rel) (sym is) old
 
 kept_ack : {X : Type 0} (r : Option X) (n m : NodeState) → RelAck n.parts.rel → RelAck m.parts.rel → RelAck (kept_or r n m).parts.rel
 kept_ack None n m old new = new
@@ -193,13 +233,22 @@ due_is : (r : RelState) (a : Ack) (o : Option Flow) → option_map (ack_of r) o 
 due_is r a None e = absurd (let f : None ≡ Some a = e in cc)
 due_is r a (Some fl) e = let f : Some (ack_of r fl) ≡ Some a = e in let is : ack_of r fl ≡ a = cc in subst (λ (b : Ack). b.seq ≡ (flow_in r.flows (record { src = b.src; dst = b.dst })).at.have) is refl
 
-pub step_ack : (arts : Arts) (n : NodeState) (input : Input) (output : Output) (new : NodeState) → NodeStep arts n input output new → RelAck n.parts.rel → RelAck new.parts.rel
-step_ack arts n (Poll v) output new s h = subst (λ (m : NodeState). RelAck m.parts.rel) (sym s.1) (kept_ack (call_refusal n v) n _ h (served_ack n.parts.rel v h))
-step_ack arts n (Datagram v bytes) output new s h =
-    subst (λ (m : NodeState). RelAck m.parts.rel) (sym s.1) (kept_ack (call_refusal n v) n _ h
-    (pieces_ack arts (arrival_at n v) (parts_met arts n v bytes) (pieces_where (reply_at arts n v bytes) (pieces_in n.fixed (sections_in arts n.fixed bytes)))
-    (greeted_ack n.fixed.epochs (has_risen (link_in n v) (link_after arts n v bytes)) v n.parts h)))
-step_ack arts n (Tick now) output new s h = subst (λ (m : NodeState). RelAck m.parts.rel) (sym s.1) (go (due_now n) refl (signer_refusal n.signer))
+pub step_ack : (arts : Arts) (n : NodeState) (input : Input) (output : Output) (new : NodeState) → NodeStep arts n input output new → Obeys n
+    → RelAck n.parts.rel → RelAck new.parts.rel
+step_ack arts n (Poll v) output new s obeys h =
+    subst (λ (m : NodeState). RelAck m.parts.rel) (sym s.1)
+    (kept_ack (call_refusal n v) n (called n (with_link n v (advanced (link_in n v))) (parts_after n v)) h
+    (cond_either (λ (p : Parts). RelAck p.rel) (is_served n v) (polled n.fixed n.parts v) n.parts (served_ack n.parts.rel v h) h))
+step_ack arts n (Datagram v bytes) output new s obeys h =
+    let left = before_document arts n v bytes in
+    let first : RelAck left.parts.rel =
+    pieces_ack arts (arrival_at n v) (parts_met arts n v bytes) (pieces_where (reply_at arts n v bytes) (pieces_in n.fixed (sections_in arts n.fixed bytes)))
+    (greeted_ack n.fixed.epochs (rises arts n v bytes) v n.parts h) in
+    subst (λ (m : NodeState). RelAck m.parts.rel) (sym s.1) (kept_ack (call_refusal n v) n (read_by arts left (document_at arts n v bytes)) h
+    (reading arts left (document_at arts n v bytes) (λ m caused. RelAck m.parts.rel) first
+    (λ document d is reads by. closed_ack left.parts.rel (removed_of (nodes_of d.topology) d.topology.edges)
+    (still_removed arts left d by (left_obeys arts n v bytes obeys)) first)))
+step_ack arts n (Tick now) output new s obeys h = subst (λ (m : NodeState). RelAck m.parts.rel) (sym s.1) (go (due_now n) refl (signer_refusal n.signer))
   where
     go : (o : Option Ack) → due_now n ≡ o → (r : Option SendRefused) → RelAck (settled_by arts (at_time n now) o r).parts.rel
     go None e r = h
@@ -209,14 +258,21 @@ step_ack arts n (Tick now) output new s h = subst (λ (m : NodeState). RelAck m.
         let number = due_is n.parts.rel d.raw (option_and_then (flow_at n.parts.rel.flows) (due_place n.parts.rel)) d.is_due in
         settled_ack n.parts.rel (signed_now arts (at_time n now) (bodies.Ack ack))
         (subst (λ (a : Ack). a.seq ≡ (flow_in n.parts.rel.flows (record { src = a.src; dst = a.dst })).at.have) (sym d.is) number) h
-step_ack arts n (SendRel dst payload) output new s h = subst (λ (m : NodeState). RelAck m.parts.rel) (sym s.1) (kept_ack (rel_refusal n dst) n _ h (sent_ack n.parts.rel (signed_now arts n (rel_body n dst payload)) h))
-step_ack arts n (SendPrio m) output new s h = subst (λ (m : NodeState). RelAck m.parts.rel) (sym s.new_is) (kept_ack (send_prio_refusal n m s.choice) n _ h h)
-step_ack arts n (SetWeight v weight) output new s h = subst (λ (m : NodeState). RelAck m.parts.rel) (sym s.1) (kept_ack (weight_refusal n v weight) n _ h h)
-step_ack arts n (TakeRel src) output new s h = subst (λ (m : NodeState). RelAck m.parts.rel) (sym s.1) (took_ack n.parts.rel src h)
-step_ack arts n TakePrio output new s h = subst (λ (m : NodeState). RelAck m.parts.rel) (sym s.1) h
+step_ack arts n (SendRel dst payload) output new s obeys h = subst (λ (m : NodeState). RelAck m.parts.rel) (sym s.1) (kept_ack (rel_refusal n dst) n _ h (sent_ack n.parts.rel (signed_now arts n (rel_body n dst payload)) h))
+step_ack arts n (SendPrio m) output new s obeys h = subst (λ (m : NodeState). RelAck m.parts.rel) (sym s.new_is) (kept_ack (send_prio_refusal n m s.choice) n _ h h)
+step_ack arts n (SetWeight v weight) output new s obeys h = subst (λ (m : NodeState). RelAck m.parts.rel) (sym s.1) (kept_ack (weight_refusal n v weight) n _ h h)
+step_ack arts n (TakeRel src) output new s obeys h = subst (λ (m : NodeState). RelAck m.parts.rel) (sym s.1) (took_ack n.parts.rel src h)
+step_ack arts n TakePrio output new s obeys h = subst (λ (m : NodeState). RelAck m.parts.rel) (sym s.1) h
+step_ack arts n (Publish document) output new s obeys h =
+    subst (λ (m : NodeState). RelAck m.parts.rel) (sym s.1) (publishing arts n document (λ m caused. RelAck m.parts.rel) h
+    (λ d reads by. closed_ack n.parts.rel (removed_of (nodes_of d.topology) d.topology.edges) (still_removed arts n d by obeys) h))
 
 -- ---- over a run
 
-pub all_none : (flows : List Flow) → All FlowAck (map no_flow flows)
-all_none [] = All-nil FlowAck
-all_none (f ∷ flows) = All-cons FlowAck (no_flow f) (map no_flow flows) (none_ack f) (all_none flows)
+pub all_none : (flows : List Flow) → All (FlowAck []) (map no_flow flows)
+all_none [] = All-nil (FlowAck [])
+all_none (f ∷ flows) = All-cons (FlowAck []) (no_flow f) (map no_flow flows) (none_ack [] f) (all_none flows)
+
+-- whatever is removed at the start
+pub none_closed : (r : RelState) (more : List NodeId) → r.removed ≡ [] → RelAck r → RelAck (closed r more)
+none_closed r more none h = closed_ack r more (λ u gone. absurd (let wrong : false ≡ true = ap (λ (x : List NodeId). is_one_of x u) (sym none) ∙ gone in cc)) h

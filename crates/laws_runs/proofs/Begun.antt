@@ -30,11 +30,15 @@ use Rattle.sp_runs.specs.Worlds.{World}
 use Rattle.sp_journal.specs.declared.entry.Entry.{Entry}
 use Rattle.sp_schedule_events.specs.declared.event.Event.{Event}
 use Rattle.sp_schedule_events.specs.declared.event.Event.TheVariants as events
+use Rattle.laws_node.proofs.Withdrawing.{start_obeys}
+use Rattle.laws_node.specs.Withdrawals.{Obeys}
+use Rattle.sp_rules.specs.Parts.{bare_parts}
+use Rattle.sp_rules.specs.Topologies.{removed_of, weights_in}
 use Rattle.laws_runs.specs.KeyFiles.{KeysStand}
 use Rattle.laws_runs.specs.Premises.{Carries}
 use Rattle.laws_runs.specs.Signs.{Good, NodeIs, sizes_at}
-use Rattle.laws_runs.proofs.Acks.{all_none}
-use Rattle.laws_runs.proofs.Dated.{no_flows_dated}
+use Rattle.laws_runs.proofs.Acks.{all_none, none_closed}
+use Rattle.laws_runs.proofs.Dated.{closed_dated, no_flows_dated}
 use Rattle.laws_runs.proofs.Goods.{fit_in}
 use Rattle.laws_runs.proofs.Lists.{among_right, both, first_among, told_more}
 
@@ -113,9 +117,13 @@ module _ (arts : Arts) (x : Setting) (es : List Event) (js : List Entry) (old ne
               boot = early;
               topology = fits.topology;
               short = fits.short;
+              document = fits.room x.topology.version (weights_in x.topology.edges);
               signer = record { index = let a = below in omega (arith, a); bound = within; total = fits.total };
             }));
-        acks = all_none (pairs_of (nodes_of x.topology));
-        dated = no_flows_dated (announced arts before).parts.lives (pairs_of (nodes_of x.topology));
+        acks = none_closed (bare_parts f x.buffer x.store).rel (removed_of (nodes_of x.topology) x.topology.edges) refl
+            (all_none (pairs_of (nodes_of x.topology)));
+        obeys = subst Obeys begins (start_obeys arts f before.signer (link_keys x u) x.buffer x.store);
+        dated = closed_dated (record (bare_parts f x.buffer x.store) { lives = (announced arts before).parts.lives }) (weights_in x.topology.edges)
+            (removed_of (nodes_of x.topology) x.topology.edges) (no_flows_dated (announced arts before).parts.lives (pairs_of (nodes_of x.topology)));
         plain = λ off. absurd (let wrong : false ≡ true = sym off ∙ on in cc);
       }))

@@ -1,5 +1,6 @@
 -- Counts over a run: the calls of a node, the frames of a direction.
-use Rattle.std.proofs.Common.{◌≡◌, ◌≤◌, ℕ, ◌+◌, ◌==◌, ◌&&◌, Bool, true, false, cond, eqb, List, [], ◌∷◌, ◌++◌, length, Option, Some, None, refl, sym, ap, subst, ◌∙◌, inl, inr, arith}
+use Rattle.std.proofs.Common.{◌≡◌, ◌≤◌, ℕ, ◌+◌, ◌==◌, ◌&&◌, Bool, true, false, cond, eqb, List, [], ◌∷◌, ◌++◌, length, Option, Some, None, refl, sym, ap, subst}
+use Rattle.std.proofs.Common.{◌∙◌, inl, inr, arith}
 use Rattle.std.proofs.lemmas.Bool.{eqb-true, eq-eqb}
 use Rattle.std.proofs.lemmas.List.{length_push}
 use Rattle.std.proofs.lemmas.List.Sums.{sum_by_push}
@@ -17,19 +18,22 @@ use Rattle.sp_rules.specs.Steps as steps
 use Rattle.sp_rules.specs.Steps.{Input, NodeStep, Output}
 use Rattle.sp_rules.specs.Ticks.{at_time, due_now, settled_by}
 use Rattle.sp_rules.specs.declared.node.NodeRefused.{NodeRefused}
+use Rattle.sp_rules.specs.Arrivals.{before_document, document_at, read_by}
 use Rattle.sp_runs.specs.Inputs.{acting, input_of}
 use Rattle.sp_runs.specs.Journals.{reply_word}
 use Rattle.sp_runs.specs.Lives.{directions_missed, next_start, ready}
-use Rattle.sp_runs.specs.Runs.{Clean, IsCraftOf, Lives, Turn, Starts, Turned, Moves, Stays, directions_after, is_poll, next_frame, polls}
+use Rattle.sp_runs.specs.Runs.{Clean, Lives, Turn, Starts, Turned, Moves, Stays, directions_after, is_poll, next_frame, polls}
 use Rattle.sp_runs.specs.Settings.{Setting, SettingFits, fixed_at, link_keys, node_at_start, signer_from}
 use Rattle.sp_runs.specs.Worlds.{Direction, World, frames_in, is_from_to, node_in, with_frame}
 use Rattle.sp_journal.specs.declared.entry.Entry.{Entry}
 use Rattle.sp_journal.specs.declared.entry.Reply.{Reply as Words}
+use Rattle.sp_schedule_events.specs.Documents.{list_in, with_list}
 use Rattle.sp_schedule_events.specs.declared.event.Event.{Event}
 use Rattle.sp_schedule_events.specs.declared.event.Event.TheVariants as events
 use Rattle.laws_runs.specs.Calls.{FramesAreCounted}
 use Rattle.laws_runs.specs.Premises.{Carries}
 use Rattle.laws_runs.proofs.Goods.{plain_start, started}
+use Rattle.laws_runs.proofs.Started.{of_craft}
 use Rattle.laws_runs.proofs.KeyFiles.{key_files_stand, ready_once}
 use Rattle.laws_runs.proofs.LifeCases.{Exhausts, LifeCase, Nobody, Starts_now, Stops, life_case}
 use Rattle.laws_runs.proofs.Lists.{both}
@@ -38,6 +42,7 @@ use Rattle.laws_runs.proofs.Ready.{As_was, Extended, Readied, ready_frames, was_
 use Rattle.laws_runs.proofs.Running.{more_found, without_left}
 use Rattle.laws_runs.proofs.Signed.{even}
 use Rattle.laws_runs.proofs.Tables.{node_is, node_put, same_node}
+use Rattle.laws_node.proofs.Adopting.{publishing, reading}
 
 -- ---- calls
 
@@ -55,7 +60,10 @@ settled_calls arts n (Some ack) None = refl
 step_calls : (arts : Arts) (n : NodeState) (input : Input) (output : Output) (after : NodeState) → NodeStep arts n input output after → after.calls ≤ n.calls + 1
 step_calls arts n (steps.Poll v) output after s = subst (λ (m : NodeState). m.calls ≤ n.calls + 1) (sym s.1) (either_calls (call_refusal n v) n _ (omega arith))
 step_calls arts n (steps.Datagram v bytes) output after s =
-    subst (λ (m : NodeState). m.calls ≤ n.calls + 1) (sym s.1) (either_calls (call_refusal n v) n _ (omega arith))
+    let left = before_document arts n v bytes in
+    let same = reading arts left (document_at arts n v bytes) (λ m told. m.calls ≡ left.calls) refl (λ document d is reads by. refl) in
+    subst (λ (m : NodeState). m.calls ≤ n.calls + 1) (sym s.1)
+    (either_calls (call_refusal n v) n (read_by arts left (document_at arts n v bytes)) (omega (arith, same)))
 step_calls arts n (steps.Tick now) output after s =
     let same = settled_calls arts (at_time n now) (due_now n) (signer_refusal n.signer) in
     let is = ap (λ (m : NodeState). m.calls) s.1 in
@@ -68,6 +76,10 @@ step_calls arts n (steps.SetWeight v weight) output after s =
     subst (λ (m : NodeState). m.calls ≤ n.calls + 1) (sym s.1) (either_calls (weight_refusal n v weight) n _ (omega arith))
 step_calls arts n (steps.TakeRel src) output after s = let is = ap (λ (m : NodeState). m.calls) s.1 in omega (arith, is)
 step_calls arts n steps.TakePrio output after s = let is = ap (λ (m : NodeState). m.calls) s.1 in omega (arith, is)
+step_calls arts n (steps.Publish document) output after s =
+    let same = publishing arts n document (λ m told. m.calls ≡ n.calls) refl (λ d reads by. refl) in
+    let is = ap (λ (m : NodeState). m.calls) s.1 in
+    omega (arith, same, is)
 
 -- what the nodes of a world answered, where they answered no more than this
 abbrev Few : ℕ → World → Type 0
@@ -117,7 +129,9 @@ few_after arts x es' js' old w e j fits run before turn u n at = go turn
         in_old (ready x old (events.Stop c)) (there (events.Stop c))
         (without_left u c n (ready x old (events.Stop c)).nodes (in_world _ stop.world)
         (ready_once x es' old (events.Stop c) on (key_files_stand arts x es' js' old fits run)))
-    life on (Nobody other d) = in_old old before (in_world (record old { directions = directions_missed old.directions e }) d.world)
+    life on (Nobody other d) =
+        in_old old before
+        (in_world (record old { directions = directions_missed old.directions e; published = with_list old.published (list_in e) }) d.world)
 
     go : Turn arts x old e j w → n.calls ≤ length (es' ++ e ∷ [])
     go (Moves m) =
@@ -206,6 +220,8 @@ frame_more ds (events.Flip a b c d f) r u v made = none_more (length (frames_in 
 frame_more ds (events.Inject a b c) r u v made = none_more (length (frames_in ds u v))
 frame_more ds (events.Craft a b c d) r u v made = none_more (length (frames_in ds u v))
 frame_more ds (events.CraftStatus a b c d f g) r u v made = none_more (length (frames_in ds u v))
+frame_more ds (events.Publish u' weights) r u v made = none_more (length (frames_in ds u v))
+frame_more ds (events.CraftDocument c' v' key' version weights) r u v made = none_more (length (frames_in ds u v))
 frame_more ds (events.Start a) r u v made = none_more (length (frames_in ds u v))
 frame_more ds (events.Stop a) r u v made = none_more (length (frames_in ds u v))
 
@@ -230,25 +246,10 @@ makes_frame arts x es w n (events.Flip a b c d f) input output after number word
 makes_frame arts x es w n (events.Inject a b c) input output after number words reaches step told = tt
 makes_frame arts x es w n (events.Craft a b c d) input output after number words reaches step told = tt
 makes_frame arts x es w n (events.CraftStatus a b c d f g) input output after number words reaches step told = tt
+makes_frame arts x es w n (events.Publish u' weights) input output after number words reaches step told = tt
+makes_frame arts x es w n (events.CraftDocument c' v' key' version weights) input output after number words reaches step told = tt
 makes_frame arts x es w n (events.Start a) input output after number words reaches step told = tt
 makes_frame arts x es w n (events.Stop a) input output after number words reaches step told = tt
-
--- what is crafted is no poll
-craft_is_none : (key u v : NodeId) (e : Event) → IsCraftOf key e → is_poll u v e ≡ false
-craft_is_none key u v (events.Craft a b c d) is = refl
-craft_is_none key u v (events.Poll a b) is = absurd is
-craft_is_none key u v (events.Rel a b p) is = absurd is
-craft_is_none key u v (events.Prio a b c d f p) is = absurd is
-craft_is_none key u v (events.Take a b) is = absurd is
-craft_is_none key u v (events.TakePrio a) is = absurd is
-craft_is_none key u v (events.Tick a b) is = absurd is
-craft_is_none key u v (events.Weight a b c) is = absurd is
-craft_is_none key u v (events.Pass a b c) is = absurd is
-craft_is_none key u v (events.Flip a b c d f) is = absurd is
-craft_is_none key u v (events.Inject a b c) is = absurd is
-craft_is_none key u v (events.CraftStatus a b c d f g) is = absurd is
-craft_is_none key u v (events.Start a) is = absurd is
-craft_is_none key u v (events.Stop a) is = absurd is
 
 pub poll_more : (es : List Event) (e : Event) (u v : NodeId) → polls (es ++ e ∷ []) u v ≡ polls es u v + cond (is_poll u v e) 1 0
 poll_more es e u v = sum_by_push (λ y. cond (is_poll u v y) 1 0) es e
@@ -267,6 +268,8 @@ missed_more ds (events.Flip a b c d f) u v = none_more (length (frames_in ds u v
 missed_more ds (events.Inject a b c) u v = none_more (length (frames_in ds u v))
 missed_more ds (events.Craft a b c d) u v = none_more (length (frames_in ds u v))
 missed_more ds (events.CraftStatus a b c d f g) u v = none_more (length (frames_in ds u v))
+missed_more ds (events.Publish u' weights) u v = none_more (length (frames_in ds u v))
+missed_more ds (events.CraftDocument c' v' key' version weights) u v = none_more (length (frames_in ds u v))
 missed_more ds (events.Start a) u v = none_more (length (frames_in ds u v))
 missed_more ds (events.Stop a) u v = none_more (length (frames_in ds u v))
 
@@ -305,7 +308,8 @@ counted_after arts x es' old w e j u v before turn = go turn
         told (directions_after old.directions e m.output.reply)
         (ap (λ (y : World). y.directions) m.world ∙ ap (λ (ds : List Direction). directions_after ds e m.output.reply) (ready_frames x old e))
         (frame_more old.directions e m.output.reply u v made)
-    go (Stays s) = told old.directions (ap (λ (y : World). y.directions) s.world) (same_count (craft_is_none s.key u v e s.is_craft))
+    go (Stays s) = told old.directions (ap (λ (y : World). y.directions) s.world)
+        (same_count (of_craft (λ f. is_poll u v f ≡ false) (λ c v key object. refl) (λ c v key version weights. refl) s.key e s.is_craft))
     go (Lives on l) = life (life_case arts x old e j w l)
 
 pub counted : (arts : Arts) (x : Setting) (es : List Event) (js : List Entry) (w : World) → Clean arts x es js w

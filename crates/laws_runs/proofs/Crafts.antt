@@ -1,5 +1,6 @@
 -- What compromised nodes craft in their own names is never forged, and neither is what is no frame.
-use Rattle.std.proofs.Common.{◌≡◌, ◌<◌, ◌≤◌, ◌==◌, ◌^◌, ℕ, Bool, true, false, cond, List, [], ◌∷◌, length, Some, None, option_map, Ok, Err, refl, sym, ap, subst, ◌∙◌, arith}
+use Rattle.std.proofs.Common.{◌≡◌, ◌<◌, ◌≤◌, ◌==◌, ◌^◌, ℕ, Bool, true, false, cond, List, [], ◌∷◌, length, Some, None, Ok, Err, refl, sym, ap, subst, ◌∙◌}
+use Rattle.std.proofs.Common.{arith}
 use Rattle.std.specs.Prelude.{◌&&◌, All, IfSome, IsTrue, Option, if◌then◌else◌, not, nat_lt}
 use Rattle.std.proofs.lemmas.List.Elements.{All-cons, All-nil}
 use Rattle.sp_base.proofs.FormatLemmas.{few_nodes}
@@ -20,14 +21,15 @@ use Rattle.sp_msg.specs.declared.body.Body.TheVariants as bodies
 use Rattle.sp_msg.specs.declared.kept.Kept.{Kept}
 use Rattle.sp_rules.specs.Answers.{is_new}
 use Rattle.sp_rules.proofs.ArrivalLemmas.{of_frame}
-use Rattle.sp_rules.specs.Arrivals.{arrival_at, parts_met, pieces_in, pieces_where, reply_at, sections_in}
+use Rattle.sp_rules.specs.Arrivals.{arrival_at, parts_met, pieces_in, pieces_where, reply_at, sections_in, before_document, document_at, document_in}
+use Rattle.sp_rules.specs.Arrivals.{document_where}
 use Rattle.sp_rules.specs.Arts.{Arts}
 use Rattle.sp_rules.specs.Link.{Link}
-use Rattle.sp_rules.specs.Node.{call_refusal, link_in}
+use Rattle.sp_rules.specs.Node.{call_refusal, is_shut_to, link_in}
 use Rattle.sp_rules.specs.Parts.{Fixed, nodes_of}
 use Rattle.sp_rules.specs.Pieces.{Piece, pieces_of}
 use Rattle.sp_rules.specs.Steps as steps
-use Rattle.sp_rules.specs.Steps.{Input, NodeStep, Output, arrived}
+use Rattle.sp_rules.specs.Steps.{Input, NodeStep, Output, arrived, document_adopted}
 use Rattle.sp_rules.specs.declared.answers.Item.{Item}
 use Rattle.sp_rules.specs.declared.lives.Life.{Life}
 use Rattle.laws_node.specs.Asked.{NewKeep}
@@ -35,7 +37,7 @@ use Rattle.laws_node.specs.Sizes.{IsNode}
 use Rattle.laws_node.proofs.Boot.{nodes_hold}
 use Rattle.laws_node.proofs.Carried.{AllKeep, pieces_new}
 use Rattle.laws_node.proofs.Reliable.{in_range}
-use Rattle.sp_runs.specs.Forgery.{forged, forged_object, has_forged_tag, is_among, is_forged, is_made, is_tagged}
+use Rattle.sp_runs.specs.Forgery.{forged, forged_document, forged_object, has_forged_tag, is_among, is_forged, is_made, is_tagged}
 use Rattle.sp_runs.specs.Inputs.{acting, contents_with, crafted_frame, crafted_head, crafted_object, dated, object_alone, report_on, slot_alone}
 use Rattle.sp_runs.specs.Lives.{ready}
 use Rattle.sp_runs.specs.Runs.{AreFields, Lives, Moves, Move, Stays}
@@ -50,7 +52,6 @@ use Rattle.sp_base.specs.declared.format.TheConstants.{FORMAT_1}
 use Rattle.sp_msg.proofs.GoodFields.{good_ack, good_rel}
 use Rattle.sp_schedule_events.specs.declared.event.Event.{Event}
 use Rattle.sp_schedule_events.specs.declared.event.Event.TheVariants as events
-use Rattle.sp_runs.specs.declared.what.What.TheVariants as whats
 use Rattle.laws_runs.specs.Crafts.{AreLong, IsGoodCraft, NamesNoCorrectNode, NoFrameIsForged, OwnCraftsForgeNothing}
 use Rattle.laws_runs.specs.Premises.{Carries, HasGoodMessages}
 use Rattle.laws_runs.specs.Signs.{Good, NodeIs, Signs}
@@ -58,7 +59,8 @@ use Rattle.laws_runs.specs.Unborn.{HoldNone}
 use Rattle.laws_runs.proofs.NoStarts.{in_keep, pieces_at}
 use Rattle.laws_runs.proofs.Goods.{all_of, where_keep}
 use Rattle.laws_runs.proofs.Lists.{both}
-use Rattle.laws_runs.proofs.Passes.{called_good, neither}
+use Rattle.laws_runs.proofs.Passes.{called_good, neither_both}
+use Rattle.laws_runs.proofs.Adopted.{call_forges, where_forges}
 use Rattle.laws_runs.proofs.Signed.{signs_there}
 use Rattle.laws_runs.proofs.There.{first_life}
 
@@ -88,9 +90,9 @@ arrived_unforged : (arts : Arts) (x : Setting) (es : List Event) (js : List Entr
     → Carries x.topology.format arts → m.node.fixed ≡ fixed_of x (acting e) → is_correct x c ≡ false
     → IsContentsIn x.topology.format x.signature_len contents → HasGoodMessages arts contents
     → AllKeep (IsOfCompromised x) (pieces_of contents)
-    → m.input ≡ steps.Datagram c (crafted_frame arts m.node c contents)
-    → cond (has_forged_tag arts x w m.node m.input) (Some whats.Tag) (option_map whats.Object (forged_object arts x es js m.output.answered)) ≡ None
-arrived_unforged arts x es js w new e j m c contents carries fixed bad range good only is =
+    → contents.document ≡ None → m.input ≡ steps.Datagram c (crafted_frame arts m.node c contents)
+    → forged arts x es js w m.node m.input m.output ≡ None
+arrived_unforged arts x es js w new e j m c contents carries fixed bad range good only bare is =
     let n = m.node in
     let P = IsOfCompromised x in
     let bytes = crafted_frame arts n c contents in
@@ -105,7 +107,12 @@ arrived_unforged arts x es js w new e j m c contents carries fixed bad range goo
     (pieces_new P arts (arrival_at n c) (parts_met arts n c bytes) (pieces_at arts n c bytes)
     (where_keep P (reply_at arts n c bytes) (pieces_in n.fixed (sections_in arts n.fixed bytes)) pieces))) in
     let tag : has_forged_tag arts x w n m.input ≡ false = ap (has_forged_tag arts x w n) is ∙ never_first (is_correct x c) (is_tagged (reply_at arts n c bytes)) (is_made bytes (frames_in w.directions c n.fixed.me)) bad in
-    neither _ _ tag (none_forged arts x es js m.output.answered news)
+    let left = before_document arts n c bytes in
+    let untouched : forged_document arts es (document_adopted arts left (document_at arts n c bytes)) ≡ None =
+    where_forges arts es left (reply_at arts n c bytes) (document_in (sections_in arts n.fixed bytes))
+    (ap (λ (o : Option (List ℕ)). forged_document arts es (document_adopted arts left o)) (ap document_in back ∙ bare)) in
+    neither_both _ _ _ tag (none_forged arts x es js m.output.answered news)
+    (ap (λ (o : Output). forged_document arts es o.adopted) moves.0 ∙ call_forges arts es (call_refusal n c) (arrived arts n c bytes) untouched)
   where
     never_first : (a b c : Bool) → a ≡ false → (a && b && not c) ≡ false
     never_first true b c e = absurd cc
@@ -113,18 +120,25 @@ arrived_unforged arts x es js w new e j m c contents carries fixed bad range goo
 
 -- ---- what is no frame
 
-untagged : (arts : Arts) (f : Fixed) (l : Link) (bytes : List ℕ) (refused : FrameRefused) → is_tagged (of_frame arts f l bytes (Err refused)) ≡ false
-untagged arts f l bytes frames.TooLong = refl
-untagged arts f l bytes (frames.Short short) = refl
-untagged arts f l bytes frames.Magic = refl
-untagged arts f l bytes frames.Version = refl
+untagged : (arts : Arts) (f : Fixed) (version : ℕ) (shut : Bool) (l : Link) (bytes : List ℕ) (refused : FrameRefused) → is_tagged (of_frame arts f version shut l bytes (Err refused)) ≡ false
+untagged arts f version shut l bytes frames.TooLong = refl
+untagged arts f version shut l bytes (frames.Short short) = refl
+untagged arts f version shut l bytes frames.Magic = refl
+untagged arts f version shut l bytes frames.Version = refl
 
-no_pieces : (P : Kept → Type 0) (arts : Arts) (f : Fixed) (l : Link) (bytes : List ℕ) (refused : FrameRefused) (pieces : List Piece)
-    → AllKeep P (pieces_where (of_frame arts f l bytes (Err refused)) pieces)
-no_pieces P arts f l bytes frames.TooLong pieces = tt
-no_pieces P arts f l bytes (frames.Short short) pieces = tt
-no_pieces P arts f l bytes frames.Magic pieces = tt
-no_pieces P arts f l bytes frames.Version pieces = tt
+no_pieces : (P : Kept → Type 0) (arts : Arts) (f : Fixed) (version : ℕ) (shut : Bool) (l : Link) (bytes : List ℕ) (refused : FrameRefused) (pieces : List Piece)
+    → AllKeep P (pieces_where (of_frame arts f version shut l bytes (Err refused)) pieces)
+no_pieces P arts f version shut l bytes frames.TooLong pieces = tt
+no_pieces P arts f version shut l bytes (frames.Short short) pieces = tt
+no_pieces P arts f version shut l bytes frames.Magic pieces = tt
+no_pieces P arts f version shut l bytes frames.Version pieces = tt
+
+no_document : (arts : Arts) (f : Fixed) (version : ℕ) (shut : Bool) (l : Link) (bytes : List ℕ) (refused : FrameRefused) (o : Option (List ℕ))
+    → document_where (of_frame arts f version shut l bytes (Err refused)) o ≡ None
+no_document arts f version shut l bytes frames.TooLong o = refl
+no_document arts f version shut l bytes (frames.Short short) o = refl
+no_document arts f version shut l bytes frames.Magic o = refl
+no_document arts f version shut l bytes frames.Version o = refl
 
 pub no_frame_is_forged : NoFrameIsForged
 no_frame_is_forged arts x es js w new u v bytes j none (Stays s) = refl
@@ -135,15 +149,23 @@ no_frame_is_forged arts x es js w new u v bytes j none (Moves m) =
     let P = IsOfCompromised x in
     let is : m.input ≡ steps.Datagram u bytes = one_input _ m.input m.reaches in
     let moves : NodeStep arts n (steps.Datagram u bytes) m.output m.after = subst (λ i. NodeStep arts n i m.output m.after) is m.step in
-    let reply : reply_at arts n u bytes ≡ of_frame arts n.fixed (link_in n u) bytes (Err none.0) = ap (of_frame arts n.fixed (link_in n u) bytes) none.1 in
+    let version = n.live.version in
+    let shut = is_shut_to n u in
+    let reply : reply_at arts n u bytes ≡ of_frame arts n.fixed version shut (link_in n u) bytes (Err none.0) =
+    ap (of_frame arts n.fixed version shut (link_in n u) bytes) none.1 in
     let read = pieces_in n.fixed (sections_in arts n.fixed bytes) in
-    let pieces : AllKeep P (pieces_where (reply_at arts n u bytes) read) = subst (λ r. AllKeep P (pieces_where r read)) (sym reply) (no_pieces P arts n.fixed (link_in n u) bytes none.0 read) in
+    let pieces : AllKeep P (pieces_where (reply_at arts n u bytes) read) = subst (λ r. AllKeep P (pieces_where r read)) (sym reply) (no_pieces P arts n.fixed version shut (link_in n u) bytes none.0 read) in
     let news : NewKeep P m.output.answered =
     subst (λ (o : Output). NewKeep P o.answered) (sym moves.0) (called_good P (arrived arts n u bytes) (call_refusal n u)
     (pieces_new P arts (arrival_at n u) (parts_met arts n u bytes) (pieces_where (reply_at arts n u bytes) read) pieces)) in
     let tag : has_forged_tag arts x there n m.input ≡ false =
-    ap (has_forged_tag arts x there n) is ∙ never_second (is_correct x u) (is_tagged (reply_at arts n u bytes)) (is_made bytes (frames_in there.directions u n.fixed.me)) (ap is_tagged reply ∙ untagged arts n.fixed (link_in n u) bytes none.0) in
-    neither _ _ tag (none_forged arts x es js m.output.answered news)
+    ap (has_forged_tag arts x there n) is ∙ never_second (is_correct x u) (is_tagged (reply_at arts n u bytes)) (is_made bytes (frames_in there.directions u n.fixed.me)) (ap is_tagged reply ∙ untagged arts n.fixed version shut (link_in n u) bytes none.0) in
+    let left = before_document arts n u bytes in
+    let untouched : forged_document arts es (document_adopted arts left (document_at arts n u bytes)) ≡ None =
+    ap (λ (o : Option (List ℕ)). forged_document arts es (document_adopted arts left o)) (ap (λ r. document_where r (document_in (sections_in arts n.fixed bytes))) reply
+    ∙ no_document arts n.fixed version shut (link_in n u) bytes none.0 (document_in (sections_in arts n.fixed bytes))) in
+    neither_both _ _ _ tag (none_forged arts x es js m.output.answered news)
+    (ap (λ (o : Output). forged_document arts es o.adopted) moves.0 ∙ call_forges arts es (call_refusal n u) (arrived arts n u bytes) untouched)
   where
     never_second : (a b c : Bool) → b ≡ false → (a && b && not c) ≡ false
     never_second true true c e = absurd cc
@@ -268,6 +290,15 @@ dated_is lives none (crafted.Weight w) = refl
 
 -- ---- the law
 
+bare_alone : (lives : List Life) (body : Body) (o : Kept) → (object_alone lives body o).document ≡ None
+bare_alone lives (bodies.Weight b) o = refl
+bare_alone lives (bodies.Prio b) o = refl
+bare_alone lives (bodies.Rel b) o = refl
+bare_alone lives (bodies.Ack b) o = refl
+bare_alone lives (bodies.Krel b) o = refl
+bare_alone lives (bodies.Kack b) o = refl
+bare_alone lives (bodies.Epoch b) o = refl
+
 moves_forge_nothing : (arts : Arts) (x : Setting) (es : List Event) (js : List Entry) (w new : World) (e : Event) (j : Entry) → StaysUp arts x
     → Carries x.topology.format arts → AreLong arts x → Signs arts x es js w → AreFields x es e → IsGoodCraft arts e → NamesNoCorrectNode x e
     → (m : Move arts x w e j new) → forged arts x es js w m.node m.input m.output ≡ None
@@ -306,7 +337,7 @@ moves_forge_nothing arts x es js w new (events.Craft c v key object) j fits carr
         (all_of (λ p. IsTrue (arts.is_good p.body)) (pieces_of contents)
         (only_it (λ p. IsTrue (arts.is_good p.body)) lives said o.signature (subst (λ (b : Body). IsTrue (arts.is_good b)) same good)))
         (only_it (IsOfCompromised x) lives said o.signature (subst (λ (b : Body). is_correct x (signer_of b) ≡ false) same names.1))
-        (one_input _ m.input is)
+        (bare_alone lives said o) (one_input _ m.input is)
 moves_forge_nothing arts x es js w new (events.CraftStatus c v s d base have) j fits carries lengths signs range good names m =
     let is_it = signs.nodes v m.node m.is_there in
     let lives = m.node.parts.lives in
@@ -317,7 +348,7 @@ moves_forge_nothing arts x es js w new (events.CraftStatus c v s d base have) j 
     (first_life x (Good arts x es js) v m.node fits.plain is_it) names
     (status_fits x.topology.format x.signature_len base have lives none flow (node_small arts x fits s range.2)
     (node_small arts x fits d other.0) range.4 range.5)
-    (All-nil (λ p. IsTrue (arts.is_good p.body))) (tt, (tt, tt))
+    (All-nil (λ p. IsTrue (arts.is_good p.body))) (tt, (tt, tt)) refl
     (one_input _ m.input m.reaches)
 moves_forge_nothing arts x es js w new (events.Rel a b p) j fits carries lengths signs range good names m = absurd names
 moves_forge_nothing arts x es js w new (events.Prio a b c d f p) j fits carries lengths signs range good names m = absurd names
@@ -329,6 +360,8 @@ moves_forge_nothing arts x es js w new (events.Poll a b) j fits carries lengths 
 moves_forge_nothing arts x es js w new (events.Pass a b c) j fits carries lengths signs range good names m = absurd names
 moves_forge_nothing arts x es js w new (events.Flip a b c d f) j fits carries lengths signs range good names m = absurd names
 moves_forge_nothing arts x es js w new (events.Inject a b c) j fits carries lengths signs range good names m = absurd names
+moves_forge_nothing arts x es js w new (events.Publish a b) j fits carries lengths signs range good names m = absurd names
+moves_forge_nothing arts x es js w new (events.CraftDocument a b c d f) j fits carries lengths signs range good names m = absurd names
 moves_forge_nothing arts x es js w new (events.Start a) j fits carries lengths signs range good names m = absurd names
 moves_forge_nothing arts x es js w new (events.Stop a) j fits carries lengths signs range good names m = absurd names
 

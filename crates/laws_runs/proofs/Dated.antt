@@ -1,6 +1,6 @@
 -- Each step keeps that what is kept of a flow names the boots that are held: what is new names them, and so does what the node signs; and where a boot
 -- rises, nothing is kept of the flows of its node.
-use Rattle.std.proofs.Common.{◌≡◌, ◌==◌, ℕ, Bool, true, false, cond, List, [], ◌∷◌, map, Option, Some, None, refl, sym, subst, ◌∙◌, inl, inr}
+use Rattle.std.proofs.Common.{◌≡◌, ◌==◌, ℕ, Bool, true, false, cond, List, [], ◌∷◌, map, Option, Some, None, refl, sym, subst, ◌∙◌, inl, inr, ◌&&◌}
 use Rattle.std.specs.Prelude.{◌||◌, ◌-◌, ◌≢◌, IfSome}
 use Rattle.std.specs.List.{All}
 use Rattle.std.proofs.lemmas.Bool.{cases_Bool, eq-eqb, eqb-true}
@@ -15,19 +15,19 @@ use Rattle.sp_msg.specs.declared.kept.Kept.{Kept}
 use Rattle.sp_msg.specs.declared.refused.SendRefused.{SendRefused}
 use Rattle.sp_rules.proofs.FlowJudged.{found_ends}
 use Rattle.sp_rules.specs.Answers.{ack_answer, epoch_answer, is_new, prio_answer, rel_answer, weight_answer}
-use Rattle.sp_rules.specs.Arrivals.{arrival_at, greeted, has_risen, link_after, parts_met}
+use Rattle.sp_rules.specs.Arrivals.{arrival_at, greeted, parts_met, before_document, document_at, read_by, rises}
 use Rattle.sp_rules.specs.Arts.{Arts}
-use Rattle.sp_rules.specs.Flow.{FlowState, acknowledged_by, after_take, concluded, ends, flow_said, is_flow, no_flow, number_said, pushed, received}
+use Rattle.sp_rules.specs.Flow.{FlowState, acknowledged_by, after_take, concluded, ends, flow_said, is_flow, no_flow, number_said, pushed, received, ended}
 use Rattle.sp_rules.specs.Handle.{Arrival, handle, handle_all, heard_where, met, offer_to}
 use Rattle.sp_rules.specs.Lives.{are_held, held_boot, is_dated, judge_epoch, origin_said}
-use Rattle.sp_rules.specs.Node.{NodeState, call_refusal, kept_or, link_in, signed_now}
-use Rattle.sp_rules.specs.Parts.{Parts, is_signed}
+use Rattle.sp_rules.specs.Node.{NodeState, call_refusal, kept_or, link_in, signed_now, called, with_link}
+use Rattle.sp_rules.specs.Parts.{Parts, is_signed, closed, nodes_of}
 use Rattle.sp_rules.specs.Pieces.{Piece, AckPiece, PrioAckPiece, PrioPiece, RelPiece, ReportPiece, WeightPiece, EpochPiece}
 use Rattle.sp_rules.specs.Prio.{admit_prio, judge_prio}
 use Rattle.sp_rules.specs.Rel.{RelState, admit_ack, admit_rel, due_place, flow_in, flow_less, flow_to_me, is_end, is_to, judge_ack_of, judge_rel_of}
-use Rattle.sp_rules.specs.Rel.{next_place, peer_in, reported, served, served_at, settled, settled_at, told, with_flow, with_peer}
+use Rattle.sp_rules.specs.Rel.{next_place, peer_in, reported, served, served_at, settled, settled_at, told, with_flow, with_peer, ended_where, is_over}
 use Rattle.sp_rules.specs.Sends.{rel_body, rel_refusal, send_prio_refusal, signer_refusal, weight_refusal}
-use Rattle.sp_rules.specs.Steps.{Input, NodeStep, Output, Poll, Datagram, Tick, SendRel, SendPrio, SetWeight, TakeRel, TakePrio}
+use Rattle.sp_rules.specs.Steps.{Input, NodeStep, Output, Poll, Datagram, Tick, SendRel, SendPrio, SetWeight, TakeRel, TakePrio, Publish}
 use Rattle.sp_rules.specs.Ticks.{at_time, due_now, settled_by}
 use Rattle.sp_rules.specs.Weights.{held}
 use Rattle.sp_rules.specs.declared.answers.Item.TheVariants as items
@@ -36,9 +36,14 @@ use Rattle.sp_rules.specs.declared.answers.PrioAnswer.TheVariants as prios
 use Rattle.sp_rules.specs.declared.lives.Life.{Life}
 use Rattle.sp_rules.specs.declared.rel.AckJudged.TheVariants as acks
 use Rattle.sp_rules.specs.declared.rel.RelJudged.TheVariants as rels
+use Rattle.sp_rules.specs.Link.{advanced}
+use Rattle.sp_rules.specs.Polls.{is_served, parts_after, polled}
+use Rattle.sp_rules.specs.Topologies.{removed_of, weights_in}
 use Rattle.laws_node.proofs.Handles as judged
 use Rattle.laws_node.proofs.Reliable.{dated_due}
 use Rattle.laws_node.proofs.Tables.{all_drop_first, all_first, all_push, all_replace, all_weaker, cond_either, cond_where}
+use Rattle.laws_node.proofs.Adopting.{publishing, reading}
+use Rattle.laws_node.proofs.Priority.{all_map}
 use Rattle.laws_runs.specs.Dated.{AreDated, FlowDated, NamesBoth, NamesHeld}
 use Rattle.laws_runs.proofs.Lists.{both}
 use Rattle.laws_runs.proofs.NoStarts.{pieces_at}
@@ -259,6 +264,14 @@ greeted_dated true true v p h = h
 greeted_dated true false v p h = h
 greeted_dated false risen v p h = h
 
+-- ---- another version of the topology
+
+pub closed_dated : (p : Parts) (least : List ℕ) (gone : List NodeId) → AreDated p → AreDated (closed p least gone)
+closed_dated p least gone h = all_map (FlowDated p.lives) (FlowDated p.lives) (ended_where gone) one p.rel.flows h
+  where
+    one : (f : FlowState) → FlowDated p.lives f → FlowDated p.lives (ended_where gone f)
+    one f is = cond_either (FlowDated p.lives) (f.active && is_over gone (ends f)) (ended f) f (record { messages = All-nil (λ o. NamesHeld p.lives (ends f) o.body); ack = tt }) is
+
 -- ---- steps
 
 kept_dated : {X : Type 0} (r : Option X) (n m : NodeState) → AreDated n.parts → AreDated m.parts → AreDated (kept_or r n m).parts
@@ -268,11 +281,17 @@ kept_dated (Some x) n m old new = old
 pub step_dated : (arts : Arts) (n : NodeState) (input : Input) (output : Output) (new : NodeState) → NodeStep arts n input output new
     → AreDated n.parts → AreDated new.parts
 step_dated arts n (Poll v) output new s h =
-    subst (λ (m : NodeState). AreDated m.parts) (sym s.1) (kept_dated (call_refusal n v) n _ h (served_dated n.parts.lives n.parts.rel v h))
+    subst (λ (m : NodeState). AreDated m.parts) (sym s.1)
+    (kept_dated (call_refusal n v) n (called n (with_link n v (advanced (link_in n v))) (parts_after n v)) h
+    (cond_either AreDated (is_served n v) (polled n.fixed n.parts v) n.parts (served_dated n.parts.lives n.parts.rel v h) h))
 step_dated arts n (Datagram v bytes) output new s h =
-    subst (λ (m : NodeState). AreDated m.parts) (sym s.1) (kept_dated (call_refusal n v) n _ h
-    (pieces_dated arts (arrival_at n v) (parts_met arts n v bytes) (pieces_at arts n v bytes)
-    (greeted_dated n.fixed.epochs (has_risen (link_in n v) (link_after arts n v bytes)) v n.parts h)))
+    let left = before_document arts n v bytes in
+    let first : AreDated left.parts =
+    pieces_dated arts (arrival_at n v) (parts_met arts n v bytes) (pieces_at arts n v bytes)
+    (greeted_dated n.fixed.epochs (rises arts n v bytes) v n.parts h) in
+    subst (λ (m : NodeState). AreDated m.parts) (sym s.1) (kept_dated (call_refusal n v) n (read_by arts left (document_at arts n v bytes)) h
+    (reading arts left (document_at arts n v bytes) (λ m told. AreDated m.parts) first
+    (λ document d is reads by. closed_dated left.parts (weights_in d.topology.edges) (removed_of (nodes_of d.topology) d.topology.edges) first)))
 step_dated arts n (Tick now) output new s h =
     subst (λ (m : NodeState). AreDated m.parts) (sym s.1) (go (due_now n) refl (signer_refusal n.signer))
   where
@@ -300,6 +319,9 @@ step_dated arts n (TakeRel src) output new s h =
     (with_dated n.parts.lives n.parts.rel flow (after_take (flow_in n.parts.rel.flows flow)) h
     (took_dated n.parts.lives (flow_in n.parts.rel.flows flow) (flow_dated n.parts.lives n.parts.rel flow h)))
 step_dated arts n TakePrio output new s h = subst (λ (m : NodeState). AreDated m.parts) (sym s.1) h
+step_dated arts n (Publish document) output new s h =
+    subst (λ (m : NodeState). AreDated m.parts) (sym s.1) (publishing arts n document (λ m told. AreDated m.parts) h
+    (λ d reads by. closed_dated n.parts (weights_in d.topology.edges) (removed_of (nodes_of d.topology) d.topology.edges) h))
 
 -- ---- the start
 

@@ -1,6 +1,8 @@
 -- A journal says all that was left open: so it determines each turn, the node that moved in it, and the run.
-use Rattle.std.proofs.Common.{◌≡◌, ◌<◌, ◌≤◌, ℕ, Bool, true, false, cond, List, [], ◌∷◌, ◌++◌, length, length-append, Option, Some, None, refl, sym, ap, ap₂, subst, ◌∙◌, inl, inr, arith}
-use Rattle.std.specs.Prelude.{IsTrue, is_some, nat_lt, not, option_map}
+use Rattle.std.proofs.Common.{◌≡◌, ◌<◌, ◌≤◌, ℕ, Bool, true, false, cond, List, [], ◌∷◌, ◌++◌}
+use Rattle.std.proofs.Common.{length, length-append, Option, Some, None, refl, sym, ap, ap₂, ne_eqb}
+use Rattle.std.proofs.Common.{subst, ◌∙◌, inl, inr, arith}
+use Rattle.std.specs.Prelude.{IsTrue, is_some, nat_lt, not, option_map, unwrap_or, ◌==◌}
 use Rattle.std.proofs.lemmas.Bool.Decides.{nat_tests}
 use Rattle.sp_base.specs.Cursor.{or_else}
 use Rattle.sp_base.specs.declared.id.NodeId.{NodeId}
@@ -18,7 +20,7 @@ use Rattle.laws_node.specs.Inputs.{ArtsFit, InputFits, ReadsBack}
 use Rattle.laws_node.specs.Nodes.{IsKept}
 use Rattle.laws_node.proofs.Determined.{steps_are_determined}
 use Rattle.laws_node.proofs.Weaker.{node_weaker}
-use Rattle.sp_runs.specs.Inputs.{acting, crafted_contents, crafted_frame, flipped, input_of}
+use Rattle.sp_runs.specs.Inputs.{acting, crafted_contents, crafted_frame, flipped, input_of, crafted_document, last_weights, may_sign}
 use Rattle.sp_runs.specs.Journals.{Says, reply_word}
 use Rattle.sp_runs.specs.Lives.{IsOther, Life, is_missing, ready}
 use Rattle.sp_runs.specs.Runs.{Clean, InRange, IsCraftOf, Lives, Move, Moves, Spends, Starts, Stays, Turn, Turned, crafted_after, directions_after, next_frame}
@@ -26,6 +28,8 @@ use Rattle.sp_runs.specs.Settings.{Setting, SettingFits}
 use Rattle.sp_runs.specs.Worlds.{Crafted, Direction, World, at_start, crafts, frame_in, is_running, with_node}
 use Rattle.sp_journal.specs.declared.entry.Entry.{Entry}
 use Rattle.sp_schedule_crafts.specs.Objects.{body_of}
+use Rattle.sp_schedule_events.specs.Documents.{list_in, with_list}
+use Rattle.sp_frame.specs.Sections.{with_document}
 use Rattle.sp_schedule_events.specs.declared.event.Event.{Event}
 use Rattle.sp_schedule_events.specs.declared.event.Event.TheVariants as events
 use Rattle.laws_runs.specs.Past.{Happened, mover_in, past}
@@ -39,7 +43,8 @@ use Rattle.laws_runs.proofs.Reaches.{input_fits}
 use Rattle.laws_runs.proofs.Ready.{ready_any, ready_crafts, ready_frames}
 use Rattle.laws_runs.proofs.Running.{found_there}
 use Rattle.laws_runs.proofs.Signed.{signs_there}
-use Rattle.laws_runs.proofs.Started.{craft_other, moves_other}
+use Rattle.laws_runs.proofs.Started.{craft_other, moves_other, of_craft}
+use Rattle.laws_runs.proofs.Tables.{same_node}
 
 -- ---- one output
 
@@ -80,6 +85,7 @@ module _ (x : Setting) (number : ℕ) (j : Entry) where
   one_output arts n (steps.SetWeight v weight) o p a b s t one two = s.0 ∙ sym t.0
   one_output arts n (steps.TakeRel src) o p a b s t one two = s.0 ∙ sym t.0
   one_output arts n steps.TakePrio o p a b s t one two = s.0 ∙ sym t.0
+  one_output arts n (steps.Publish document) o p a b s t one two = s.0 ∙ sym t.0
 
 -- ---- one turn
 
@@ -92,6 +98,7 @@ world_of old e after reply = record {
   nodes = with_node old.nodes (acting e) after;
   directions = directions_after old.directions e reply;
   crafted = crafted_after old.crafted e;
+  published = with_list old.published (list_in e);
 }
 
 -- two turns lead to one world, and the same node moved
@@ -132,6 +139,21 @@ not_both arts x old w (events.Craft c u k object) j key m is spent = go (nat_lt 
         let below : crafts old.crafted k < x.total = grind (arith, nat_tests, few) in
         omega (arith, most, below)
     go false few e = cc
+not_both arts x old w (events.CraftDocument c u k version weights) j key m is spent = go (may_sign x old.crafted k) refl m.reaches
+  where
+    bytes : List ℕ
+    bytes = crafted_frame arts m.node c (with_document (crafted_document arts x old.crafted k version (unwrap_or weights (last_weights x old.published))))
+
+    go : (t : Bool) → may_sign x old.crafted k ≡ t → cond t (Some (steps.Datagram c bytes)) None ≡ Some m.input → ⊥
+    go true few e =
+        let own : (k == 0) ≡ false = let some = is.1 in ne_eqb k 0 (λ zero. omega (arith, zero, some)) in
+        let most : x.total ≤ crafts old.crafted (record { 0 = k }) =
+        subst (λ (u : NodeId). x.total ≤ crafts old.crafted u) (same_node key (record { 0 = k }) (sym is.0)) spent in
+        let left : nat_lt (crafts old.crafted (record { 0 = k })) x.total ≡ true = rw own at few in
+        let below : crafts old.crafted (record { 0 = k }) < x.total = grind (arith, nat_tests, left) in
+        omega (arith, most, below)
+    go false few e = cc
+not_both arts x old w (events.Publish u weights) j key m is spent = is
 not_both arts x old w (events.Rel a b p) j key m is spent = is
 not_both arts x old w (events.Prio a b c d f p) j key m is spent = is
 not_both arts x old w (events.Take a b) j key m is spent = is
@@ -171,24 +193,10 @@ none_missing arts x w n (events.Poll a b) i e = refl
 none_missing arts x w n (events.Inject a b c) i e = refl
 none_missing arts x w n (events.Craft a b c d) i e = refl
 none_missing arts x w n (events.CraftStatus a b c d f g) i e = refl
+none_missing arts x w n (events.Publish u' weights) i e = refl
+none_missing arts x w n (events.CraftDocument c' v' key' version weights) i e = refl
 none_missing arts x w n (events.Start a) i e = refl
 none_missing arts x w n (events.Stop a) i e = refl
-
-crafts_come : (w : World) (key : NodeId) (e : Event) → IsCraftOf key e → is_missing w e ≡ false
-crafts_come w key (events.Craft c v k object) is = refl
-crafts_come w key (events.Rel a b p) is = refl
-crafts_come w key (events.Prio a b c d f p) is = refl
-crafts_come w key (events.Take a b) is = refl
-crafts_come w key (events.TakePrio a) is = refl
-crafts_come w key (events.Tick a b) is = refl
-crafts_come w key (events.Weight a b c) is = refl
-crafts_come w key (events.Poll a b) is = refl
-crafts_come w key (events.Pass a b c) is = absurd is
-crafts_come w key (events.Flip a b c d f) is = absurd is
-crafts_come w key (events.Inject a b c) is = refl
-crafts_come w key (events.CraftStatus a b c d f g) is = refl
-crafts_come w key (events.Start a) is = refl
-crafts_come w key (events.Stop a) is = refl
 
 -- the event is no start and no stop, and comes to a node that runs
 record IsMet (w : World) (e : Event) : Type 0 where
@@ -218,11 +226,17 @@ met_by_move arts x old w e j m = record {
     missing ds fs same (events.Inject a b c) = refl
     missing ds fs same (events.Craft a b c d) = refl
     missing ds fs same (events.CraftStatus a b c d f g) = refl
+    missing ds fs same (events.Publish u' weights) = refl
+    missing ds fs same (events.CraftDocument c' v' key' version weights) = refl
     missing ds fs same (events.Start a) = refl
     missing ds fs same (events.Stop a) = refl
 
 met_by_craft : (x : Setting) (old w : World) (e : Event) (j : Entry) → Spends x old e j w → IsMet old e
-met_by_craft x old w e j s = record { other = craft_other s.key e s.is_craft; runs = s.runs; comes = crafts_come old s.key e s.is_craft }
+met_by_craft x old w e j s = record {
+  other = craft_other s.key e s.is_craft;
+  runs = s.runs;
+  comes = of_craft (λ f. is_missing old f ≡ false) (λ c v key object. refl) (λ c v key version weights. refl) s.key e s.is_craft;
+}
 
 not_met : (arts : Arts) (x : Setting) (old w : World) (e : Event) (j : Entry) → IsMet old e → LifeCase arts x old e j w → ⊥
 not_met arts x old w e j met (Starts_now u is start) = subst IsOther is met.other
@@ -249,6 +263,8 @@ one_life arts x old w v (events.Flip a b c d f) j one two = one.world ∙ sym tw
 one_life arts x old w v (events.Inject a b c) j one two = one.world ∙ sym two.world
 one_life arts x old w v (events.Craft a b c d) j one two = one.world ∙ sym two.world
 one_life arts x old w v (events.CraftStatus a b c d f g) j one two = one.world ∙ sym two.world
+one_life arts x old w v (events.Publish u' weights) j one two = one.world ∙ sym two.world
+one_life arts x old w v (events.CraftDocument c' v' key' version weights) j one two = one.world ∙ sym two.world
 
 -- ---- any turn
 
@@ -266,7 +282,7 @@ one_turn arts x es js old w v e j fits carries run range (Moves m) (Moves n) =
     let there = signs_there arts x es js old e fits carries run in
     let is = there.nodes (acting e) m.node m.is_there in
     by_moves arts carries.bodies x (ready x old e) w v e j m n (arts_fit arts x (Good arts x es js) (acting e) m.node fits is)
-    (input_fits arts x es (ready x old e) m.node e m.input carries there.bytes range.fields m.reaches) (kept_there arts x es js (acting e) m.node is)
+    (input_fits arts x es (ready x old e) m.node e m.input fits carries there.bytes range.fields m.reaches) (kept_there arts x es js (acting e) m.node is)
 one_turn arts x es js old w v e j fits carries run range (Stays s) (Stays t) = record { world = s.world ∙ sym t.world; mover = refl }
 one_turn arts x es js old w v e j fits carries run range (Lives on one) (Lives also two) = record { world = one_life arts x old w v e j one two; mover = refl }
 one_turn arts x es js old w v e j fits carries run range (Moves m) (Stays t) = absurd (spent_moves arts x old w v e j m t)

@@ -145,3 +145,12 @@ not_named s d x y a never = elim (cases_eq a.sboot x) [
     nothing : (a : Ack) (t b : Bool) → b ≡ false → greatest (cond (t && b) (a.seq ∷ []) []) ≡ 0
     nothing a true b e = rw e refl
     nothing a false b e = refl
+
+-- what signs the same acknowledges the same
+pub acked_same : (arts : Arts) (x y : ℕ) (u s d : NodeId) (es fs : List Effect) → flat_map signed_by es ≡ flat_map signed_by fs
+    → acked_here arts x y u s d es ≡ acked_here arts x y u s d fs
+acked_same arts x y u s d es fs e = ap (λ (ms : List (List ℕ)). greatest (acks_under arts s x d y (cond (u.0 == d.0) ms []))) e
+
+pub acked_ever_same : (arts : Arts) (u s d : NodeId) (es fs : List Effect) → flat_map signed_by es ≡ flat_map signed_by fs
+    → acked_ever arts u s d es ≡ acked_ever arts u s d fs
+acked_ever_same arts u s d es fs e = ap (λ (ms : List (List ℕ)). greatest (acks_in arts s d (cond (u.0 == d.0) ms []))) e

@@ -1,6 +1,9 @@
 -- What each change of a flow at a node keeps, against what its source sent and what its destination delivered and acknowledged.
-use Rattle.std.proofs.Common.{◌≡◌, ◌≤◌, ℕ, ◌+◌, ◌-◌, Bool, true, false, cond, List, [], ◌∷◌, ◌++◌, length, Some, refl, sym, ap, subst, ◌∙◌, inl, inr, arith, append_assoc}
-use Rattle.std.specs.Prelude.{◌⊎◌, ◌||◌, slice_get}
+use Rattle.laws_runs.proofs.Acks.{over_less}
+use Rattle.laws_node.proofs.Withdrawals.{same_ends_closed}
+use Rattle.std.proofs.Common.{◌≡◌, ◌≤◌, ℕ, ◌+◌, ◌-◌, Bool, true, false, cond, List, [], ◌∷◌, ◌++◌, length, Some, refl, sym, ap, subst, ◌∙◌, inl, inr, arith}
+use Rattle.std.proofs.Common.{append_assoc, ap₂, map}
+use Rattle.std.specs.Prelude.{◌⊎◌, ◌||◌, slice_get, ◌&&◌, ◌==◌}
 use Rattle.std.specs.List.{list_any}
 use Rattle.std.proofs.lemmas.Bool.{cases_Bool, cases_eq, eq-eqb}
 use Rattle.std.proofs.lemmas.List.{append-nil, length-append, length_push}
@@ -11,9 +14,9 @@ use Rattle.sp_base.specs.Rows.{first_where, replace_where}
 use Rattle.sp_base.specs.declared.id.Flow.{Flow}
 use Rattle.sp_base.specs.declared.id.NodeId.{NodeId}
 use Rattle.sp_msg.specs.declared.kept.Kept.{Kept}
-use Rattle.sp_rules.proofs.FlowJudged.{same_ends}
-use Rattle.sp_rules.specs.Flow.{FlowState, acknowledged_by, concluded, ends, is_flow, no_flow, number_said, pushed, received}
-use Rattle.sp_rules.specs.Rel.{RelState, flow_in, put_flow, with_flow}
+use Rattle.sp_rules.proofs.FlowJudged.{same_ends, found_ends}
+use Rattle.sp_rules.specs.Flow.{FlowState, acknowledged_by, concluded, ends, is_flow, no_flow, number_said, pushed, received, ended}
+use Rattle.sp_rules.specs.Rel.{RelState, flow_in, put_flow, with_flow, closed, ended_where, is_one_of, is_over}
 use Rattle.sp_runs.specs.Told.{Message}
 use Rattle.laws_runs.specs.Flows.{IsIn}
 use Rattle.laws_runs.proofs.Lists.{front_more}
@@ -31,10 +34,36 @@ pub record FlowAt (C : Type 0) (s d : NodeId) (S D : List Message) (c : ℕ) (u 
   pub have : C → f.at.have ≤ length S
   pub have_source : C → u ≡ s → f.at.have ≡ length S
 
+-- Who no end is. An ended flow stands as at such a node
+abbrev pub seat : Bool → NodeId → NodeId → NodeId → NodeId
+seat true s d u = record { 0 = s.0 + d.0 + 1 }
+seat false s d u = u
+
+pub seat_src : (t : Bool) (s d u : NodeId) → seat t s d u ≡ s → u ≡ s
+seat_src false s d u e = e
+seat_src true s d u e = absurd (let n : s.0 + d.0 + 1 ≡ s.0 = ap (λ (v : NodeId). v.0) e in omega (arith, n))
+
+pub seat_dst : (t : Bool) (s d u : NodeId) → seat t s d u ≡ d → u ≡ d
+seat_dst false s d u e = e
+seat_dst true s d u e = absurd (let n : s.0 + d.0 + 1 ≡ d.0 = ap (λ (v : NodeId). v.0) e in omega (arith, n))
+
+-- where the flow stands by what a table knows as removed
+abbrev pub seat_in : NodeId → NodeId → NodeId → RelState → NodeId
+seat_in s d u r = seat (is_over r.removed (flow_of s d)) s d u
+
 pub record RelIs (C : Type 0) (s d : NodeId) (S D : List Message) (c : ℕ) (u : NodeId) (r : RelState) : Type 0 where
   pub me : r.me ≡ u
   pub row : list_any (is_flow (flow_of s d)) r.flows ≡ true
-  pub flow : FlowAt C s d S D c u (flow_in r.flows (flow_of s d))
+  pub flow : FlowAt C s d S D c (seat_in s d u r) (flow_in r.flows (flow_of s d))
+
+-- a flow that hasn't ended stands as at its node
+pub live : (C : Type 0) (s d : NodeId) (S D : List Message) (c : ℕ) (u : NodeId) (r : RelState) → is_over r.removed (flow_of s d) ≡ false → RelIs C s d S D c u r
+    → FlowAt C s d S D c u (flow_in r.flows (flow_of s d))
+live C s d S D c u r free h = subst (λ (t : Bool). FlowAt C s d S D c (seat t s d u) (flow_in r.flows (flow_of s d))) free h.flow
+
+pub seated : (C : Type 0) (s d : NodeId) (S D : List Message) (c : ℕ) (u : NodeId) (r : RelState) (f : FlowState) → is_over r.removed (flow_of s d) ≡ false → FlowAt C s d S D c u f
+    → FlowAt C s d S D c (seat_in s d u r) f
+seated C s d S D c u r f free h = subst (λ (t : Bool). FlowAt C s d S D c (seat t s d u) f) (sym free) h
 
 -- ---- rows
 
@@ -92,7 +121,7 @@ cases_flow a b = elim (cases_eq a.src.0 b.src.0) [
 -- one flow changed
 pub with_flow_is : (C : Type 0) (s d : NodeId) (S D Sa Da : List Message) (c c2 : ℕ) (u : NodeId) (r : RelState) (flow : Flow) (g : FlowState) → ends g ≡ flow
     → RelIs C s d S D c u r
-    → (flow ≡ flow_of s d → FlowAt C s d Sa Da c2 u g) → ((flow ≡ flow_of s d → ⊥) → FlowAt C s d Sa Da c2 u (flow_in r.flows (flow_of s d)))
+    → (flow ≡ flow_of s d → FlowAt C s d Sa Da c2 (seat_in s d u r) g) → ((flow ≡ flow_of s d → ⊥) → FlowAt C s d Sa Da c2 (seat_in s d u r) (flow_in r.flows (flow_of s d)))
     → RelIs C s d Sa Da c2 u (with_flow r flow g)
 with_flow_is C s d S D Sa Da c c2 u r flow g same h mine others =
     let fl = flow_of s d in
@@ -103,20 +132,21 @@ with_flow_is C s d S D Sa Da c c2 u r flow g same h mine others =
         | inl e ↦
             let there : flow_in (put_flow r.flows flow g) fl ≡ g =
             ap (λ (x : Flow). flow_in (put_flow r.flows x g) fl) e ∙ first_replaced (is_flow fl) (no_flow fl) g r.flows (is_its g fl (same ∙ e)) h.row in
-            subst (FlowAt C s d Sa Da c2 u) (sym there) (mine e)
+            subst (FlowAt C s d Sa Da c2 (seat_in s d u r)) (sym there) (mine e)
         | inr never ↦
             let there : flow_in (put_flow r.flows flow g) fl ≡ flow_in r.flows fl =
             other_replaced (is_flow flow) (is_flow fl) (no_flow fl) g r.flows (λ f p. not_its f fl (λ e. never (sym (same_ends f flow p) ∙ e))) (not_its g fl (λ e. never (sym same ∙ e))) in
-            subst (FlowAt C s d Sa Da c2 u) (sym there) (others never)
+            subst (FlowAt C s d Sa Da c2 (seat_in s d u r)) (sym there) (others never)
       ];
     }
 
 -- nothing of the flows changed
-pub same_rows_is : (C : Type 0) (s d : NodeId) (S D : List Message) (c : ℕ) (u : NodeId) (r r2 : RelState) → r2.me ≡ r.me → r2.flows ≡ r.flows → RelIs C s d S D c u r → RelIs C s d S D c u r2
-same_rows_is C s d S D c u r r2 e f h = record {
+pub same_rows_is : (C : Type 0) (s d : NodeId) (S D : List Message) (c : ℕ) (u : NodeId) (r r2 : RelState) → r2.me ≡ r.me → r2.flows ≡ r.flows → r2.removed ≡ r.removed → RelIs C s d S D c u r → RelIs C s d S D c u r2
+same_rows_is C s d S D c u r r2 e f g h = record {
   me = e ∙ h.me;
   row = subst (λ fs. list_any (is_flow (flow_of s d)) fs ≡ true) (sym f) h.row;
-  flow = subst (λ fs. FlowAt C s d S D c u (flow_in fs (flow_of s d))) (sym f) h.flow;
+  flow = subst (λ fs. FlowAt C s d S D c (seat_in s d u r2) (flow_in fs (flow_of s d))) (sym f)
+      (subst (λ (us : List NodeId). FlowAt C s d S D c (seat (is_over us (flow_of s d)) s d u) (flow_in r.flows (flow_of s d))) (sym g) h.flow);
 }
 
 -- ---- each change, of the flow itself
@@ -210,3 +240,67 @@ in_last S q p is =
 
 pub in_more : (S T : List Message) (q : ℕ) (p : List ℕ) → IsIn S q p → IsIn (S ++ T) q p
 in_more S T q p h = record { number = h.number; there = get_left S T (q - 1) (q, p) h.there }
+
+-- ---- another version of the topology
+
+-- a flow stands as at no end, too
+pub to_nobody : (C : Type 0) (s d : NodeId) (S D : List Message) (c : ℕ) (w u : NodeId) (f : FlowState) → FlowAt C s d S D c w f → FlowAt C s d S D c (seat true s d u) f
+to_nobody C s d S D c w u f h = record {
+  base = h.base;
+  base_end = λ z. absurd (let n : s.0 + d.0 + 1 ≡ d.0 = ap (λ (v : NodeId). v.0) z in omega (arith, n));
+  have_end = λ z. absurd (let n : s.0 + d.0 + 1 ≡ d.0 = ap (λ (v : NodeId). v.0) z in omega (arith, n));
+  have = h.have;
+  have_source = λ k z. absurd (let n : s.0 + d.0 + 1 ≡ s.0 = ap (λ (v : NodeId). v.0) z in omega (arith, n));
+}
+
+-- and with nothing
+pub flow_ended : (C : Type 0) (s d : NodeId) (S D : List Message) (c : ℕ) (u : NodeId) (f : FlowState) → FlowAt C s d S D c (seat true s d u) (ended f)
+flow_ended C s d S D c u f = record {
+  base = omega arith;
+  base_end = λ z. absurd (let n : s.0 + d.0 + 1 ≡ d.0 = ap (λ (v : NodeId). v.0) z in omega (arith, n));
+  have_end = λ z. absurd (let n : s.0 + d.0 + 1 ≡ d.0 = ap (λ (v : NodeId). v.0) z in omega (arith, n));
+  have = λ k. omega arith;
+  have_source = λ k z. absurd (let n : s.0 + d.0 + 1 ≡ s.0 = ap (λ (v : NodeId). v.0) z in omega (arith, n));
+}
+
+-- rows stay those of their flows
+any_closed : (more : List NodeId) (fl : Flow) (fs : List FlowState) → list_any (is_flow fl) (map (ended_where more) fs) ≡ list_any (is_flow fl) fs
+any_closed more fl [] = refl
+any_closed more fl (f ∷ fs) = ap₂ (λ (a b : Bool). a || b) (ap (λ (g : Flow). (g.src.0 == fl.src.0) && (g.dst.0 == fl.dst.0)) (same_ends_closed more f)) (any_closed more fl fs)
+
+in_closed : (more : List NodeId) (fl : Flow) (fs : List FlowState) → list_any (is_flow fl) fs ≡ true → flow_in (map (ended_where more) fs) fl ≡ ended_where more (flow_in fs fl)
+in_closed more fl [] some = absurd (cc)
+in_closed more fl (f ∷ fs) some = go (is_flow fl f) refl some (in_closed more fl fs)
+  where
+    same : is_flow fl (ended_where more f) ≡ is_flow fl f
+    same = ap (λ (g : Flow). (g.src.0 == fl.src.0) && (g.dst.0 == fl.dst.0)) (same_ends_closed more f)
+
+    go : (t : Bool) → is_flow fl f ≡ t → (t || list_any (is_flow fl) fs) ≡ true → (list_any (is_flow fl) fs ≡ true → flow_in (map (ended_where more) fs) fl ≡ ended_where more (flow_in fs fl))
+        → cond (is_flow fl (ended_where more f)) (ended_where more f) (flow_in (map (ended_where more) fs) fl) ≡ ended_where more (cond t f (flow_in fs fl))
+    go true is some rest = ap (λ (t : Bool). cond t (ended_where more f) (flow_in (map (ended_where more) fs) fl)) (same ∙ is)
+    go false is some rest = ap (λ (t : Bool). cond t (ended_where more f) (flow_in (map (ended_where more) fs) fl)) (same ∙ is) ∙ rest some
+
+-- a version that keeps removed nodes removed
+pub closed_is : (C : Type 0) (s d : NodeId) (S D : List Message) (c : ℕ) (u : NodeId) (r : RelState) (more : List NodeId)
+    → ((v : NodeId) → is_one_of r.removed v ≡ true → is_one_of more v ≡ true) → RelIs C s d S D c u r → RelIs C s d S D c u (closed r more)
+closed_is C s d S D c u r more less h = record {
+  me = h.me;
+  row = any_closed more (flow_of s d) r.flows ∙ h.row;
+  flow = subst (λ (g : FlowState). FlowAt C s d S D c (seat (is_over more (flow_of s d)) s d u) g) (sym (in_closed more (flow_of s d) r.flows h.row)) (go (is_over more (flow_of s d)) refl);
+}
+  where
+    f : FlowState
+    f = flow_in r.flows (flow_of s d)
+
+    over : is_over more (ends f) ≡ is_over more (flow_of s d)
+    over = ap (is_over more) (found_ends r.flows (flow_of s d))
+
+    go : (t : Bool) → is_over more (flow_of s d) ≡ t → FlowAt C s d S D c (seat t s d u) (ended_where more f)
+    go true is = elim (cases_Bool f.active) [
+      | inl on ↦ rw (on, over, is) (flow_ended C s d S D c u f)
+      | inr off ↦ rw off (to_nobody C s d S D c (seat_in s d u r) u f h.flow)
+    ]
+    go false is = elim (cases_Bool f.active) [
+      | inl on ↦ rw (on, over, is) (live C s d S D c u r (over_less r.removed more (flow_of s d) less is) h)
+      | inr off ↦ rw off (live C s d S D c u r (over_less r.removed more (flow_of s d) less is) h)
+    ]

@@ -13,7 +13,7 @@ use Rattle.sp_msg.specs.declared.effect.Effect.{Effect}
 use Rattle.sp_rules.specs.Arts.{Arts}
 use Rattle.sp_rules.specs.Lives.{held_boot}
 use Rattle.sp_rules.specs.Node.{NodeState}
-use Rattle.sp_rules.specs.Rel.{flow_in}
+use Rattle.sp_rules.specs.Rel.{flow_in, is_over}
 use Rattle.sp_rules.specs.Window.{greatest}
 use Rattle.laws_node.proofs.Epochs.{own_boot_stays}
 use Rattle.sp_runs.specs.Forgery.{is_among}
@@ -28,7 +28,7 @@ use Rattle.laws_runs.specs.Flows.{IsIn, AreNumbered}
 use Rattle.laws_runs.specs.LifeFlows.{acknowledged_under, acks_under}
 use Rattle.laws_runs.specs.Past.{Happened, delivered_under, holds, sent_under, told_under}
 use Rattle.laws_runs.proofs.FlowAcks.{acked_away, acked_here, under_both}
-use Rattle.laws_runs.proofs.FlowFacts.{RelIs, flow_grown, flow_of, in_more}
+use Rattle.laws_runs.proofs.FlowFacts.{RelIs, flow_grown, flow_of, in_more, seat_dst, seat_in, seat_src}
 use Rattle.laws_runs.proofs.FlowNodes.{StepIs}
 use Rattle.laws_runs.proofs.FlowPieces.{told_here}
 use Rattle.laws_runs.proofs.FlowStarts.{EndsUp, Same, New_source, New_end}
@@ -224,6 +224,7 @@ module _ (arts : Arts) (x : Setting) (s d : NodeId) (es : List Event) (js : List
     others v n other old =
         let p = held_boot n.parts.lives s in
         let q = held_boot n.parts.lives d in
+        let over = is_over n.parts.rel.removed (flow_of s d) in
         let not_s : v ≡ s → u ≡ s → ⊥ = λ y z. other (y ∙ sym z) in
         let not_d : v ≡ d → u ≡ d → ⊥ = λ y z. other (y ∙ sym z) in
         record {
@@ -235,9 +236,10 @@ module _ (arts : Arts) (x : Setting) (s d : NodeId) (es : List Event) (js : List
                 let grown : RelIs C s d (SF a b ++ T) (DF a b ++ E) (max (cF a b) (acked_here arts a b u s d effects)) v n.parts.rel = record {
                   me = was.me;
                   row = was.row;
-                  flow = flow_grown C s d (SF a b) T (DF a b) E (cF a b) (max (cF a b) (acked_here arts a b u s d effects)) v
-                      (flow_in n.parts.rel.flows (flow_of s d)) (λ z. st.no_t (not_s z)) (λ z. let off = away (not_d z) in rw off refl) (omega arith)
-                      (λ z. let zero = (acked_away arts u s d effects (not_d z)).under a b in omega (arith, zero)) was.flow;
+                  flow = flow_grown C s d (SF a b) T (DF a b) E (cF a b) (max (cF a b) (acked_here arts a b u s d effects)) (seat_in s d v n.parts.rel)
+                      (flow_in n.parts.rel.flows (flow_of s d)) (λ z. st.no_t (not_s (seat_src over s d v z)))
+                      (λ z. let off = away (not_d (seat_dst over s d v z)) in rw off refl) (omega arith)
+                      (λ z. let zero = (acked_away arts u s d effects (not_d (seat_dst over s d v z))).under a b in omega (arith, zero)) was.flow;
                 } in
                 subst (λ y. RelAt y q v n) (sym e.0) (subst (λ y. RelAt a y v n) (sym e.1) (rel_here v n grown))
             | inr never ↦ rel_else p q never v n old.rel

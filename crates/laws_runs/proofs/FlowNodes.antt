@@ -1,10 +1,12 @@
 -- What each step of a node keeps of a flow between its ends, whatever it is: the eight cases.
 use Rattle.std.proofs.Common.{◌≡◌, ◌<◌, ◌≤◌, ℕ, max, Bool, true, false, cond, List, [], ◌∷◌, ◌++◌, length, Option, Some, None, refl, sym, ap, subst, ◌∙◌, arith}
 use Rattle.std.specs.Prelude.{◌&&◌, ◌==◌, IsTrue}
-use Rattle.std.specs.List.{flat_map}
+use Rattle.std.specs.List.{flat_map, All}
 use Rattle.std.proofs.lemmas.List.{append-nil}
+use Rattle.std.proofs.lemmas.List.Concat.{flat_map-append}
 use Rattle.sp_base.specs.Lists.{IsPrefix}
 use Rattle.sp_base.specs.declared.id.NodeId.{NodeId}
+use Rattle.sp_base.specs.declared.id.Flow.{Flow}
 use Rattle.sp_msg.specs.declared.body.Ack.{Ack}
 use Rattle.sp_msg.specs.declared.body.Body.TheVariants as bodies
 use Rattle.sp_msg.specs.declared.body.Rel.{Rel}
@@ -12,45 +14,55 @@ use Rattle.sp_msg.specs.declared.effect.Effect.{Effect}
 use Rattle.sp_msg.specs.declared.effect.Why.TheVariants.{Taken}
 use Rattle.sp_msg.specs.declared.kept.Kept.{Kept}
 use Rattle.sp_msg.specs.declared.refused.SendRefused.{SendRefused}
-use Rattle.sp_rules.specs.Arrivals.{arrival_at, greeted, handled, has_risen, link_after, parts_met, reply_at, sections_in}
-use Rattle.sp_rules.specs.Arts.{Arts}
+use Rattle.sp_rules.specs.Arrivals.{arrival_at, greeted, handled, has_risen, link_after, parts_met, reply_at, sections_in, before_document, document_at}
+use Rattle.sp_rules.specs.Arrivals.{read_by}
+use Rattle.sp_rules.specs.Arts.{Arts, Document}
 use Rattle.sp_rules.specs.Handle.{weight_effects}
 use Rattle.sp_rules.specs.Link.{advanced}
 use Rattle.sp_rules.specs.Lives.{held_boot}
 use Rattle.sp_rules.specs.Node.{NodeState, call_refusal, called, kept_or, link_in, signed_now, signed_once, with_link}
-use Rattle.sp_rules.specs.Parts.{Fixed, Parts}
-use Rattle.sp_rules.specs.Polls.{frame_to, polled}
+use Rattle.sp_rules.specs.Parts.{Fixed, Parts, nodes_of}
+use Rattle.sp_rules.specs.Polls.{frame_to, polled, is_served, parts_after}
 use Rattle.sp_rules.specs.Prio.{admit_prio, expired_effects, prio_effects}
 use Rattle.sp_rules.specs.PrioPeer.{gone}
-use Rattle.sp_rules.specs.Rel.{pushed_in, served, took}
+use Rattle.sp_rules.specs.Rel.{pushed_in, served, took, flow_in, is_over, own_flow, room}
 use Rattle.sp_rules.specs.Sends.{PrioSend, mask_in, no_paths, own_prio, prio_body, prio_refusal, prio_sent, rel_body, rel_number, rel_refusal, rel_sent}
 use Rattle.sp_rules.specs.Sends.{send_prio_refusal, signer_refusal, weight_body, weight_number, weight_refusal, weight_sent}
 use Rattle.sp_rules.specs.Steps as steps
-use Rattle.sp_rules.specs.Steps.{NodeStep, Output, accepted, arrived, refused_call, refused_send, replied}
+use Rattle.sp_rules.specs.Steps.{NodeStep, Output, accepted, arrived, refused_call, refused_send, replied, document_effects}
 use Rattle.sp_rules.specs.Store.{oldest}
 use Rattle.sp_rules.specs.Ticks.{ack_effects, at_time, due_now, settled_by, time_after}
 use Rattle.sp_rules.specs.Weights.{held}
 use Rattle.sp_rules.specs.declared.lives.Life.{Life}
 use Rattle.sp_rules.specs.declared.node.NodeRefused.{NodeRefused}
+use Rattle.sp_rules.specs.Documents.{after_publish, publish_effects, under_topology}
+use Rattle.sp_rules.specs.Flow.{flow_said, is_flow, no_flow}
+use Rattle.sp_rules.specs.Topologies.{removed_of}
+use Rattle.sp_rules.proofs.FlowJudged.{found_ends, room_is}
 use Rattle.laws_node.specs.Inputs.{InputFits, ReadsBack}
 use Rattle.laws_node.specs.Asked.{NewKeep}
 use Rattle.laws_node.proofs.About.{ack_good, prio_good, rel_good, weight_good}
-use Rattle.laws_node.proofs.Own.{either}
-use Rattle.laws_node.proofs.Reliable.{dated_due, due_now_fits}
+use Rattle.laws_node.proofs.Own.{either, rel_free, there_is_room}
+use Rattle.laws_node.proofs.Reliable.{dated_due, due_now_fits, due_now_active}
+use Rattle.laws_node.specs.Withdrawals.{FlowObeys, Obeys}
+use Rattle.laws_node.proofs.Adopting.{IsAdopted, publishing, reading}
+use Rattle.laws_node.proofs.Changing.{still_removed}
+use Rattle.laws_node.proofs.Withdrawing.{left_obeys}
+use Rattle.laws_node.proofs.Tables.{all_first, cond_either}
 use Rattle.sp_runs.specs.Forgery.{is_among}
 use Rattle.sp_runs.specs.Settings.{Setting, SettingFits}
 use Rattle.sp_runs.specs.Told.{Message, signed_by}
 use Rattle.laws_runs.specs.Flows.{IsIn, AreNumbered}
 use Rattle.laws_runs.specs.Signs.{NodeIs, sizes_at}
-use Rattle.laws_runs.proofs.FlowAcks.{acked_ever, acked_here, acked_none}
-use Rattle.laws_runs.proofs.FlowFacts.{RelIs, same_rows_is}
+use Rattle.laws_runs.proofs.FlowAcks.{acked_ever, acked_here, acked_none, acked_same, acked_ever_same}
+use Rattle.laws_runs.proofs.FlowFacts.{RelIs, same_rows_is, closed_is, flow_of}
 use Rattle.laws_runs.proofs.FlowFrames.{Arrived, all_arrived}
-use Rattle.laws_runs.proofs.FlowPieces.{Holding, Vouched, told_here}
-use Rattle.laws_runs.proofs.FlowStarts.{EndsUp, Same}
+use Rattle.laws_runs.proofs.FlowPieces.{Holding, Vouched, told_here, both_there, told_both, told_quiet}
+use Rattle.laws_runs.proofs.FlowStarts.{EndsUp, Same, New_source, New_end}
 use Rattle.laws_runs.proofs.FlowSteps.{Stepped, sent_step, served_step, settled_step, signed_other, silent, took_step}
 use Rattle.laws_runs.proofs.Goods.{arts_fit}
 use Rattle.laws_runs.proofs.NoStarts.{pieces_at}
-use Rattle.laws_runs.proofs.Quiet.{quiet_append, quiet_expired, quiet_gone, quiet_none, quiet_prio, quiet_weight}
+use Rattle.laws_runs.proofs.Quiet.{quiet_append, quiet_expired, quiet_gone, quiet_none, quiet_prio, quiet_weight, Quiet, quiet_document, quiet_publish}
 use Rattle.laws_runs.proofs.StartPieces.{greeted_lives, last_where}
 use Rattle.laws_runs.proofs.StepSigns.{unsigned_all}
 
@@ -129,9 +141,98 @@ module _ (C : Type 0) (x : Setting) (P : Kept → Type 0) (arts : Arts) (s d : N
   quietly : (n : NodeState) → Before C x P s d bs bd S D c u n → Done [] [] n n
   quietly n b = of_stepped [] [] n n b refl (silent arts reads C s d bs bd S D c u different [] n.parts.rel quiet_none b.rel b.prefix b.low)
 
+  -- ---- another version of the topology
+
+  -- a version closes flows of removed ends
+  abbrev Closes : NodeState → NodeState → Type 0
+  Closes n m = (m.parts.lives ≡ n.parts.lives)
+      × ((S' D' : List Message) (c' : ℕ) → RelIs C s d S' D' c' u n.parts.rel → RelIs C s d S' D' c' u m.parts.rel)
+
+  version_closes : (n : NodeState) (bytes : List ℕ) (t : Document) → IsAdopted arts n t → Obeys n → Closes n (under_topology n bytes t.topology)
+  version_closes n bytes document by obeys = (
+    refl,
+    λ S' D' c' h. closed_is C s d S' D' c' u n.parts.rel (removed_of (nodes_of document.topology) document.topology.edges)
+        (still_removed arts n document by obeys) h,
+  )
+
+  read_closes : (n : NodeState) (document : Option (List ℕ)) → Obeys n → Closes n (read_by arts n document)
+  read_closes n document obeys =
+      reading arts n document (λ m told. Closes n m) (refl, λ S' D' c' h. h) (λ bytes t is reads by. version_closes n bytes t by obeys)
+
+  publish_closes : (n : NodeState) (document : List ℕ) → Obeys n → Closes n (after_publish arts n document)
+  publish_closes n document obeys =
+      publishing arts n document (λ m told. Closes n m) (refl, λ S' D' c' h. h) (λ t reads by. version_closes n document t by obeys)
+
+  -- and tells nothing of what was sent, delivered and signed
+  then_closed : (n left done : NodeState) (es more : List Effect) → Quiet more → Closes left done → Done [] es n left → Done [] (es ++ more) n done
+  then_closed n left done es more quiet closes h =
+      let told : told_here u s d (es ++ more) ≡ told_here u s d es =
+      told_both u s d es more ∙ ap (λ t. told_here u s d es ++ t) (told_quiet u s d more quiet) ∙ append-nil (told_here u s d es) in
+      let signs : flat_map signed_by (es ++ more) ≡ flat_map signed_by es =
+      flat_map-append signed_by es more ∙ ap (λ t. flat_map signed_by es ++ t) quiet.no_signature ∙ append-nil (flat_map signed_by es) in
+      let acked : (x y : ℕ) → acked_here arts x y u s d (es ++ more) ≡ acked_here arts x y u s d es =
+      λ x y. acked_same arts x y u s d (es ++ more) es signs in
+      record {
+        ends = subst (λ t. EndsUp C s d bs bd (S ++ []) (D ++ t) (max c (acked_here arts bs bd u s d (es ++ more))) SF DF cF u done.parts.lives done.parts.rel)
+            (sym told) (subst (λ k. EndsUp C s d bs bd (S ++ []) (D ++ told_here u s d es) (max c k) SF DF cF u done.parts.lives done.parts.rel)
+            (sym (acked bs bd)) (go _ _ _ h.ends));
+        prefix = subst (λ t. C → IsPrefix (D ++ t) (S ++ [])) (sym told) h.prefix;
+        low = subst (λ (t : List Message). max c (acked_here arts bs bd u s d (es ++ more)) ≤ length (D ++ t)) (sym told)
+            (subst (λ (k : ℕ). max c k ≤ length (D ++ told_here u s d es)) (sym (acked bs bd)) h.low);
+        no_t = h.no_t;
+        numbers = h.numbers;
+        messages = λ k z m good src dst among. h.messages k z m good src dst (subst (λ xs. is_among (arts.spell (bodies.Rel m)) xs ≡ true) signs among);
+        elsewhere = λ x y never. acked x y ∙ h.elsewhere x y never;
+        ever = acked_ever_same arts u s d (es ++ more) es signs ∙ h.ever ∙ sym (acked bs bd);
+      }
+    where
+      same : (v : NodeId) → held_boot done.parts.lives v ≡ held_boot left.parts.lives v
+      same v = ap (λ (ls : List Life). held_boot ls v) closes.0
+
+      go : (S' D' : List Message) (c' : ℕ) → EndsUp C s d bs bd S' D' c' SF DF cF u left.parts.lives left.parts.rel
+          → EndsUp C s d bs bd S' D' c' SF DF cF u done.parts.lives done.parts.rel
+      go S' D' c' (Same e f r) = Same (same s ∙ e) (same d ∙ f) (closes.1 S' D' c' r)
+      go S' D' c' (New_source x lt e f r) = New_source x lt (same s ∙ e) (same d ∙ f) (closes.1 (SF x bd) (DF x bd) (cF x bd) r)
+      go S' D' c' (New_end y lt e f r) = New_end y lt (same s ∙ e) (same d ∙ f) (closes.1 (SF bs y) (DF bs y) (cF bs y) r)
+
+  pub publish_done : (n : NodeState) (document : List ℕ) (output : Output) (after : NodeState) → NodeStep arts n (steps.Publish document) output after
+      → Before C x P s d bs bd S D c u n → Done [] output.effects n after
+  publish_done n document output after step b =
+      subst (λ es. Done [] es n after) (sym (ap (λ (o : Output). o.effects) step.0))
+      (subst (λ (m : NodeState). Done [] (publish_effects arts n document) n m) (sym step.1)
+      (then_closed n n (after_publish arts n document) [] (publish_effects arts n document) (quiet_publish arts n document)
+      (publish_closes n document b.is.obeys) (quietly n b)))
+
+  -- ---- the others
+
+  -- a flow that is due hasn't ended
+  due_open : (n : NodeState) (ack : Ack) → due_now n ≡ Some ack → NodeIs x P u n → is_over n.parts.rel.removed (flow_of ack.src ack.dst) ≡ false
+  due_open n ack is_due is =
+      let r = n.parts.rel in
+      let flow = flow_of ack.src ack.dst in
+      let active : (flow_in r.flows flow).active ≡ true = due_now_active (sizes_at x P u) n ack is_due is.holds.parts in
+      let obeys : All (FlowObeys r.removed) r.flows = subst (λ (us : List NodeId). All (FlowObeys us) r.flows) (sym is.obeys.rel) is.obeys.flows in
+      let ok : FlowObeys r.removed (flow_in r.flows flow) = all_first (FlowObeys r.removed) (is_flow flow) (no_flow flow) r.flows obeys (λ over. refl) in
+      go (is_over r.removed flow) refl (flow_in r.flows flow).active active
+      (subst (λ (fl : Flow). is_over r.removed fl ≡ true → (flow_in r.flows flow).active ≡ false) (found_ends r.flows flow) ok)
+    where
+      go : (t : Bool) → is_over n.parts.rel.removed (flow_of ack.src ack.dst) ≡ t → (on : Bool) → on ≡ true
+          → (is_over n.parts.rel.removed (flow_of ack.src ack.dst) ≡ true → on ≡ false) → is_over n.parts.rel.removed (flow_of ack.src ack.dst) ≡ false
+      go false is on active off = is
+      go true is on active off = absurd (let wrong : true ≡ false = sym active ∙ off is in cc)
+
+  -- and neither has the flow of a client's message
+  sent_open : (n : NodeState) (dst : NodeId) (payload : List ℕ) → rel_refusal n dst ≡ None → NodeIs x P u n
+      → is_over n.parts.rel.removed (flow_said (rel_body n dst payload)) ≡ false
+  sent_open n dst payload free is =
+      let r = n.parts.rel in
+      let number = there_is_room (room r dst) (rel_free n dst free).0 in
+      let me : r.me ≡ n.fixed.me = is.holds.parts.rel.me ∙ sym is.holds.fixed.me in
+      subst (λ (v : NodeId). is_over r.removed (flow_of v dst) ≡ false) me (both_there r (own_flow r dst) r.me dst (room_is r dst number.0 number.1).0)
+
   -- what was forgotten of a neighbour that lives anew changes no flow
   met_rel : (e t : Bool) (v : NodeId) (p : Parts) → RelIs C s d S D c u p.rel → RelIs C s d S D c u (greeted e t v p).rel
-  met_rel true true v p h = same_rows_is C s d S D c u p.rel _ refl refl h
+  met_rel true true v p h = same_rows_is C s d S D c u p.rel _ refl refl refl h
   met_rel true false v p h = h
   met_rel false t v p h = h
 
@@ -143,7 +244,7 @@ module _ (C : Type 0) (x : Setting) (P : Kept → Type 0) (arts : Arts) (s d : N
     where
       go : (r : Option NodeRefused) → NewKeep (Vouched C s d bs bd S c) (refused_call r (arrived arts n v bytes)).answered
           → output.effects ≡ (refused_call r (arrived arts n v bytes)).effects
-          → after ≡ kept_or r n (called n (with_link n v (link_after arts n v bytes)) (handled arts n v bytes).parts) → Done [] output.effects n after
+          → after ≡ kept_or r n (read_by arts (before_document arts n v bytes) (document_at arts n v bytes)) → Done [] output.effects n after
       go None new e f =
           let q : Parts = parts_met arts n v bytes in
           let t = has_risen (link_in n v) (link_after arts n v bytes) in
@@ -155,10 +256,14 @@ module _ (C : Type 0) (x : Setting) (P : Kept → Type 0) (arts : Arts) (s d : N
           let done = all_arrived C s d bs bd S c SF DF cF u different fresh_source fresh_end D arts (arrival_at n v) q (pieces_at arts n v bytes)
           (last_where (reply_at arts n v bytes) n.fixed (sections_in arts n.fixed bytes)) (ap (λ (g : Fixed). g.me) b.is.fixed) here new
           (met_rel n.fixed.epochs t v n.parts b.rel) b.prefix b.low in
+          let left = before_document arts n v bytes in
+          let document = document_at arts n v bytes in
+          let first : Done [] (handled arts n v bytes).effects n left =
+          of_arrived (handled arts n v bytes).effects n left q (unsigned_all arts (arrival_at n v) q (pieces_at arts n v bytes)) done in
           subst (λ es. Done [] es n after) (sym e)
-          (subst (λ (m : NodeState). Done [] (handled arts n v bytes).effects n m) (sym f)
-          (of_arrived (handled arts n v bytes).effects n (called n (with_link n v (link_after arts n v bytes)) (handled arts n v bytes).parts) q
-          (unsigned_all arts (arrival_at n v) q (pieces_at arts n v bytes)) done))
+          (subst (λ (m : NodeState). Done [] ((handled arts n v bytes).effects ++ document_effects arts left document) n m) (sym f)
+          (then_closed n left (read_by arts left document) (handled arts n v bytes).effects (document_effects arts left document)
+          (quiet_document arts left document) (read_closes left document (left_obeys arts n v bytes b.is.obeys)) first))
       go (Some refused) new e f = subst (λ es. Done [] es n after) (sym e) (subst (λ (m : NodeState). Done [] [] n m) (sym f) (quietly n b))
 
   pub poll_done : (n : NodeState) (v : NodeId) (output : Output) (after : NodeState) → NodeStep arts n (steps.Poll v) output after
@@ -167,12 +272,15 @@ module _ (C : Type 0) (x : Setting) (P : Kept → Type 0) (arts : Arts) (s d : N
   poll_done n v output after step b = go (call_refusal n v) (ap (λ (o : Output). o.effects) step.0) step.1
     where
       go : (r : Option NodeRefused) → output.effects ≡ (refused_call r (replied (steps.Frame (frame_to arts n v)))).effects
-          → after ≡ kept_or r n (called n (with_link n v (advanced (link_in n v))) (polled n.fixed n.parts v)) → Done [] output.effects n after
+          → after ≡ kept_or r n (called n (with_link n v (advanced (link_in n v))) (parts_after n v)) → Done [] output.effects n after
       go None e f = subst (λ es. Done [] es n after) (sym e)
           (subst (λ (m : NodeState). Done [] [] n m) (sym f)
+          (cond_either (λ (p : Parts). Done [] [] n (called n (with_link n v (advanced (link_in n v))) p)) (is_served n v) (polled n.fixed n.parts v) n.parts
           (of_stepped [] [] n (called n (with_link n v (advanced (link_in n v))) (polled n.fixed n.parts v)) b refl
           (silent arts reads C s d bs bd S D c u different [] (served n.parts.rel v) quiet_none
-          (served_step arts reads C s d bs bd S D c u different n.parts.rel v b.rel) b.prefix b.low)))
+          (served_step arts reads C s d bs bd S D c u different n.parts.rel v b.rel) b.prefix b.low))
+          (of_stepped [] [] n (called n (with_link n v (advanced (link_in n v))) n.parts) b refl
+          (silent arts reads C s d bs bd S D c u different [] n.parts.rel quiet_none b.rel b.prefix b.low))))
       go (Some refused) e f = subst (λ es. Done [] es n after) (sym e) (subst (λ (m : NodeState). Done [] [] n m) (sym f) (quietly n b))
 
   pub tick_done : (n : NodeState) (now : ℕ) (output : Output) (after : NodeState) → NodeStep arts n (steps.Tick now) output after
@@ -198,6 +306,7 @@ module _ (C : Type 0) (x : Setting) (P : Kept → Type 0) (arts : Arts) (s d : N
           of_stepped [] _ n (settled_by arts (at_time n now) (Some ack) None) b refl
           (settled_step arts reads C s d bs bd S D c u different n.parts.lives n.parts.rel d_now.raw ack
           (signed_now arts (at_time n now) (bodies.Ack ack)) (expired_effects n.parts.prio (time_after n now)) b.holding d_now.is_due d_now.is refl facts.mine
+          (due_open n ack is_due b.is)
           (ack_good arts (sizes_at x P u) n ack (arts_fit arts x P u n fits b.is) is_due b.is.holds)
           (quiet_expired n.parts.prio (time_after n now)) b.rel b.prefix b.low)
 
@@ -217,7 +326,7 @@ module _ (C : Type 0) (x : Setting) (P : Kept → Type 0) (arts : Arts) (s d : N
           (of_stepped (sent_now s d u n dst payload) (rel_sent arts n dst payload) n
           (signed_once n (record n.parts { rel = pushed_in n.parts.rel (signed_now arts n (rel_body n dst payload)) })) b refl
           (sent_step arts reads C s d bs bd S D c u different (sizes_at x P u) n dst payload
-          (ap (λ (g : Fixed). g.me) b.is.fixed) good b.holding b.rel b.prefix b.low)))
+          (ap (λ (g : Fixed). g.me) b.is.fixed) (sent_open n dst payload free b.is) good b.holding b.rel b.prefix b.low)))
       go (Some refused) free e f = subst (λ es. Done [] es n after) (sym e) (subst (λ (m : NodeState). Done [] [] n m) (sym f) (quietly n b))
 
   pub prio_done : (n : NodeState) (m : PrioSend) (output : Output) (after : NodeState) → NodeStep arts n (steps.SendPrio m) output after

@@ -1,5 +1,6 @@
 -- What each piece of a frame but an Epoch object keeps of a flow between its ends, under the boots that the node holds of them.
 use Rattle.std.proofs.Common.{◌≡◌, ◌≤◌, ℕ, ◌+◌, Bool, true, false, cond, List, [], ◌∷◌, ◌++◌, length, Some, refl, sym, ap, subst, ◌∙◌, inl, inr, arith, nat_lt}
+use Rattle.std.proofs.Common.{not}
 use Rattle.std.specs.Prelude.{◌&&◌, ◌==◌}
 use Rattle.std.specs.List.{flat_map}
 use Rattle.std.proofs.lemmas.Bool.{cases_Bool, eq-eqb, eqb-true, ne_eqb}
@@ -16,7 +17,7 @@ use Rattle.sp_msg.specs.declared.body.Body.TheVariants as bodies
 use Rattle.sp_msg.specs.declared.body.Rel.{Rel}
 use Rattle.sp_msg.specs.declared.effect.Effect.{Effect}
 use Rattle.sp_msg.specs.declared.kept.Kept.{Kept}
-use Rattle.sp_rules.proofs.FlowJudged.{found_ends, new_ack, new_rel, same_flow}
+use Rattle.sp_rules.proofs.FlowJudged.{found_ends, new_ack, new_rel, same_flow, both_nodes}
 use Rattle.sp_rules.specs.Answers.{ack_answer, is_new, prio_answer, rel_answer, weight_answer}
 use Rattle.sp_rules.specs.Arts.{Arts}
 use Rattle.sp_rules.specs.Flow.{FlowState, acknowledged_by, flow_said, number_said, pushed, received}
@@ -25,7 +26,8 @@ use Rattle.sp_rules.specs.Lives.{are_held, held_boot, is_dated}
 use Rattle.sp_rules.specs.Parts.{Parts, is_signed}
 use Rattle.sp_rules.specs.Pieces.{Piece, WeightPiece, PrioAckPiece, PrioPiece, ReportPiece, AckPiece, RelPiece, EpochPiece}
 use Rattle.sp_rules.specs.Prio.{admit_prio, judge_prio, prio_effects}
-use Rattle.sp_rules.specs.Rel.{RelState, admit_ack, admit_rel, delivery, flow_in, is_from, is_to, judge_ack_of, judge_rel_of, rel_effects, reported, with_flow, with_peer, told as told_peer, peer_in}
+use Rattle.sp_rules.specs.Rel.{RelState, admit_ack, admit_rel, delivery, flow_in, is_from, is_to, judge_ack_of, judge_rel_of, rel_effects, reported, with_flow}
+use Rattle.sp_rules.specs.Rel.{with_peer, told as told_peer, peer_in, are_ends, is_one_of, is_over}
 use Rattle.sp_rules.specs.Weights.{held}
 use Rattle.sp_rules.specs.declared.lives.Life.{Life}
 use Rattle.sp_rules.specs.declared.answers.Item.{Item}
@@ -39,7 +41,8 @@ use Rattle.laws_node.proofs.Handles as judged
 use Rattle.laws_node.proofs.Tables.{cond_either}
 use Rattle.sp_runs.specs.Told.{Message, delivered_by}
 use Rattle.laws_runs.specs.Flows.{IsIn}
-use Rattle.laws_runs.proofs.FlowFacts.{FlowAt, RelIs, cases_flow, delivered_next, flow_acked, flow_of, flow_received, flow_took, prefix_length, same_rows_is, with_flow_is}
+use Rattle.laws_runs.proofs.FlowFacts.{FlowAt, RelIs, cases_flow, delivered_next, flow_acked, flow_of, flow_received, flow_took, prefix_length, same_rows_is}
+use Rattle.laws_runs.proofs.FlowFacts.{with_flow_is, live, seated}
 use Rattle.laws_runs.proofs.Lists.{both}
 use Rattle.laws_runs.proofs.NoStarts.{NoStart}
 use Rattle.laws_runs.proofs.OnePaths.{IsOnePath}
@@ -88,13 +91,27 @@ dated_rel lives m t = let two = both _ _ t in (eqb-true _ _ two.0, eqb-true _ _ 
 pub dated_ack : (lives : List Life) (k : Ack) → is_dated lives (bodies.Ack k) ≡ true → (k.sboot ≡ held_boot lives k.src) × (k.dboot ≡ held_boot lives k.dst)
 dated_ack lives k t = let two = both _ _ t in (eqb-true _ _ two.0, eqb-true _ _ two.1)
 
+-- a flow between nodes that are there hasn't ended
+pub both_there : (r : RelState) (flow : Flow) (src dst : NodeId) → are_ends r flow src dst ≡ true → is_over r.removed (flow_of src dst) ≡ false
+both_there r flow src dst e =
+    let nodes = both_nodes r flow src dst e in
+    let one = stays (is_one_of r.nodes src) (is_one_of r.removed src) nodes.0 in
+    let two = stays (is_one_of r.nodes dst) (is_one_of r.removed dst) nodes.1 in
+    rw (one, two) refl
+  where
+    stays : (a b : Bool) → (a && not b) ≡ true → b ≡ false
+    stays true false e = refl
+    stays true true e = absurd (cc)
+    stays false b e = absurd (cc)
+
 module _ (C : Type 0) (s d : NodeId) (bs bd : ℕ) (S : List Message) (c : ℕ) (u : NodeId) (different : s ≡ d → ⊥) where
-  still : (D : List Message) (r r2 : RelState) (es : List Effect) → Quiet es → r2.me ≡ r.me → r2.flows ≡ r.flows → RelIs C s d S D c u r → (C → IsPrefix D S) → c ≤ length D
+  still : (D : List Message) (r r2 : RelState) (es : List Effect) → Quiet es → r2.me ≡ r.me → r2.flows ≡ r.flows → r2.removed ≡ r.removed → RelIs C s d S D c u r
+      → (C → IsPrefix D S) → c ≤ length D
       → Handles C s d S D c u r2 es
-  still D r r2 es quiet e f h prefix low =
+  still D r r2 es quiet e f g h prefix low =
       let none : D ++ told_here u s d es ≡ D = ap (λ t. D ++ t) (told_quiet u s d es quiet) ∙ append-nil D in
       record {
-        rel = subst (λ X. RelIs C s d S X c u r2) (sym none) (same_rows_is C s d S D c u r r2 e f h);
+        rel = subst (λ X. RelIs C s d S X c u r2) (sym none) (same_rows_is C s d S D c u r r2 e f g h);
         prefix = subst (λ X. C → IsPrefix X S) (sym none) prefix;
         low = subst (λ (X : List Message). c ≤ length X) (sym none) low;
       }
@@ -113,6 +130,7 @@ module _ (C : Type 0) (s d : NodeId) (bs bd : ℕ) (S : List Message) (c : ℕ) 
     is : body ≡ bodies.Ack a
     not_to : r.me ≡ a.dst → ⊥
     at_source : r.me ≡ a.src → a.seq ≤ (flow_in r.flows (flow_of a.src a.dst)).at.have
+    free : is_over r.removed (flow_of a.src a.dst) ≡ false
 
   got_ack : (r : RelState) (flow : Flow) (body : Body) → IsOnePath body → judge_ack_of r flow body ≡ acks.New → GotAck r body
   got_ack r flow (bodies.Ack a) good new =
@@ -126,6 +144,7 @@ module _ (C : Type 0) (s d : NodeId) (bs bd : ℕ) (S : List Message) (c : ℕ) 
         is = refl;
         not_to = λ e. absurd (let yes : is_to r (flow_of a.src a.dst) ≡ true = eq-eqb _ _ (ap (λ (v : NodeId). v.0) e) in let f : true ≡ false = sym yes ∙ relay in cc);
         at_source = λ e. at_most (is_from r (flow_of a.src a.dst)) _ a.seq sent (eq-eqb _ _ (ap (λ (v : NodeId). v.0) e));
+        free = both_there r flow a.src a.dst facts.ends;
       }
     where
       at_most : (t : Bool) (have seq : ℕ) → (t && nat_lt have seq) ≡ false → t ≡ true → seq ≤ have
@@ -155,10 +174,12 @@ module _ (C : Type 0) (s d : NodeId) (bs bd : ℕ) (S : List Message) (c : ℕ) 
       let both : flow_of a.src a.dst ≡ flow_of s d = sym said ∙ e in
       let src : a.src ≡ s = ap (λ (x : Flow). x.src) both in
       let dst : a.dst ≡ d = ap (λ (x : Flow). x.dst) both in
-      let here : FlowAt C s d S D c u f = subst (λ fl. FlowAt C s d S D c u (flow_in r.flows fl)) (sym e) h.flow in
+      let free : is_over r.removed (flow_of s d) ≡ false = subst (λ fl. is_over r.removed fl ≡ false) both got.free in
+      let here : FlowAt C s d S D c u f = subst (λ fl. FlowAt C s d S D c u (flow_in r.flows fl)) (sym e) (live C s d S D c u r free h) in
       let known = vouched.ack a got.is src dst (boots.0 ∙ ap (held_boot lives) src ∙ holding.src) (boots.1 ∙ ap (held_boot lives) dst ∙ holding.dst) in
-      flow_acked C s d S D c u f o (λ z. got.not_to (h.me ∙ z ∙ sym dst)) (omega (arith, number, known)) few
-      (λ z. let most = got.at_source (h.me ∙ z ∙ sym src) in let have = ap (λ (g : FlowState). g.at.have) there in omega (arith, most, number, have)) here)
+      seated C s d S D c u r (acknowledged_by f o) free
+      (flow_acked C s d S D c u f o (λ z. got.not_to (h.me ∙ z ∙ sym dst)) (omega (arith, number, known)) few
+      (λ z. let most = got.at_source (h.me ∙ z ∙ sym src) in let have = ap (λ (g : FlowState). g.at.have) there in omega (arith, most, number, have)) here))
       (λ never. h.flow) in
       let none : D ++ told_here u s d [] ≡ D = ap (λ t. D ++ t) (told_quiet u s d [] quiet_none) ∙ append-nil D in
       record {
@@ -174,6 +195,7 @@ module _ (C : Type 0) (s d : NodeId) (bs bd : ℕ) (S : List Message) (c : ℕ) 
     is : body ≡ bodies.Rel m
     not_from : r.me ≡ m.src → ⊥
     next : m.seq ≡ (flow_in r.flows (flow_of m.src m.dst)).at.have + 1
+    free : is_over r.removed (flow_of m.src m.dst) ≡ false
 
   got_rel : (r : RelState) (flow : Flow) (body : Body) → IsOnePath body → judge_rel_of r flow body ≡ rels.New → GotRel r body
   got_rel r flow (bodies.Rel m) good new =
@@ -185,6 +207,7 @@ module _ (C : Type 0) (s d : NodeId) (bs bd : ℕ) (S : List Message) (c : ℕ) 
         is = refl;
         not_from = λ e. absurd (let yes : is_from r (flow_of m.src m.dst) ≡ true = eq-eqb _ _ (ap (λ (v : NodeId). v.0) e) in let f : true ≡ false = sym yes ∙ other in cc);
         next = facts.next ∙ ap (λ fl. (flow_in r.flows fl).at.have + 1) same;
+        free = both_there r flow m.src m.dst facts.ends;
       }
   got_rel r flow (bodies.Ack b) good new = absurd (cc)
   got_rel r flow (bodies.Prio b) good new = absurd (cc)
@@ -231,13 +254,14 @@ module _ (C : Type 0) (s d : NodeId) (bs bd : ℕ) (S : List Message) (c : ℕ) 
             let told : told_here u s d es ≡ (m.seq, m.payload) ∷ [] = told_mine o.body e ud ∙ ap (λ n. (n, payload_of o.body) ∷ []) number ∙ ap (λ p. (m.seq, p) ∷ []) payload in
             let there : C → IsIn S m.seq m.payload = λ k. vouched.message k m got.is (ap (λ (x : Flow). x.src) both) (ap (λ (x : Flow). x.dst) both)
             (boots.0 ∙ ap (λ (x : Flow). held_boot lives x.src) both ∙ holding.src) (boots.1 ∙ ap (λ (x : Flow). held_boot lives x.dst) both ∙ holding.dst) in
-            let mine : FlowAt C s d S D c u f = subst (λ fl. FlowAt C s d S D c u (flow_in r.flows fl)) (sym e) h.flow in
+            let free : is_over r.removed (flow_of s d) ≡ false = subst (λ fl. is_over r.removed fl ≡ false) both got.free in
+            let mine : FlowAt C s d S D c u f = subst (λ fl. FlowAt C s d S D c u (flow_in r.flows fl)) (sym e) (live C s d S D c u r free h) in
             let not_s : d ≡ s → ⊥ = λ z. different (sym z) in
             let received_at : FlowAt C s d S (D ++ (m.seq, m.payload) ∷ []) c u (received f (payload_of o.body)) =
             subst (λ (v : NodeId). FlowAt C s d S (D ++ (m.seq, m.payload) ∷ []) c v (received f (payload_of o.body))) (sym ud)
             (subst (λ (p : List ℕ). FlowAt C s d S (D ++ (m.seq, m.payload) ∷ []) c d (received f p)) (sym payload)
             (flow_received C s d S D c f m.seq m.payload not_s (λ k. subst (λ q. IsIn S q m.payload) next (there k)) (subst (λ (v : NodeId). FlowAt C s d S D c v f) ud mine))) in
-            let after = with_flow_is C s d S D S (D ++ (m.seq, m.payload) ∷ []) c c u r flow (received f (payload_of o.body)) (found_ends r.flows flow) h (λ z. received_at) (λ never. absurd (never e)) in
+            let after = with_flow_is C s d S D S (D ++ (m.seq, m.payload) ∷ []) c c u r flow (received f (payload_of o.body)) (found_ends r.flows flow) h (λ z. seated C s d S (D ++ (m.seq, m.payload) ∷ []) c u r (received f (payload_of o.body)) free received_at) (λ never. absurd (never e)) in
             let length_is : m.seq ≡ length D + 1 = next ∙ ap (λ n. n + 1) (mine.have_end ud) in
             record {
               rel = subst (λ t. RelIs C s d S (D ++ t) c u r2) (sym told) after;
@@ -275,8 +299,10 @@ module _ (C : Type 0) (s d : NodeId) (bs bd : ℕ) (S : List Message) (c : ℕ) 
       let not_d : u ≡ d → ⊥ = λ z. absurd (let yes : is_to r flow ≡ true = eq-eqb _ _ (ap (λ (v : NodeId). v.0) (h.me ∙ z ∙ sym dst ∙ ap (λ (x : Flow). x.dst) (sym said))) in let g : true ≡ false = sym yes ∙ elsewhere in cc) in
       let there : C → IsIn S m.seq m.payload =
       λ k. vouched.message k m got.is src dst (boots.0 ∙ ap (held_boot lives) src ∙ holding.src) (boots.1 ∙ ap (held_boot lives) dst ∙ holding.dst) in
-      flow_took C s d S D c u f o m.payload (λ z. got.not_from (h.me ∙ z ∙ sym src)) not_d (λ k. subst (λ q. IsIn S q m.payload) next (there k))
-      (subst (λ fl. FlowAt C s d S D c u (flow_in r.flows fl)) (sym e) h.flow))
+      let free : is_over r.removed (flow_of s d) ≡ false = subst (λ fl. is_over r.removed fl ≡ false) both got.free in
+      seated C s d S D c u r (pushed f o) free
+      (flow_took C s d S D c u f o m.payload (λ z. got.not_from (h.me ∙ z ∙ sym src)) not_d (λ k. subst (λ q. IsIn S q m.payload) next (there k))
+      (subst (λ fl. FlowAt C s d S D c u (flow_in r.flows fl)) (sym e) (live C s d S D c u r free h))))
       (λ never. h.flow) in
       record {
         rel = subst (λ X. RelIs C s d S X c u r2) (sym none) after;
@@ -304,35 +330,36 @@ module _ (C : Type 0) (s d : NodeId) (bs bd : ℕ) (S : List Message) (c : ℕ) 
   heard_rel prios.BadSig v number p = refl
   heard_rel prios.Epoch v number p = refl
 
-  reported_flows : (t : Bool) (r : RelState) (x : RelState) → x.me ≡ r.me → x.flows ≡ r.flows → ((cond t x r).me ≡ r.me) × ((cond t x r).flows ≡ r.flows)
-  reported_flows true r x e f = (e, f)
-  reported_flows false r x e f = (refl, refl)
+  reported_flows : (t : Bool) (r : RelState) (x : RelState) → x.me ≡ r.me → x.flows ≡ r.flows → x.removed ≡ r.removed
+      → ((cond t x r).me ≡ r.me) × ((cond t x r).flows ≡ r.flows) × ((cond t x r).removed ≡ r.removed)
+  reported_flows true r x e f g = (e, f, g)
+  reported_flows false r x e f g = (refl, refl, refl)
 
   pub one_handled : (D : List Message) (arts : Arts) (at : Arrival) (p : Parts) (piece : Piece) → NoStart piece → Holding s d bs bd p.lives
       → NewKeep (Vouched C s d bs bd S c) (handle arts at p piece).answered
       → RelIs C s d S D c u p.rel → (C → IsPrefix D S) → c ≤ length D → Handles C s d S D c u (handle arts at p piece).parts.rel (handle arts at p piece).effects
   one_handled D arts at p (WeightPiece o) none holding new h prefix low =
       chosen D (items.Weight (weight_answer (is_signed arts at.fixed o) (offer_to at.fixed.me p.weights o.body))) (record p { weights = held p.weights o }) p (weight_effects o.body)
-      (λ t. still D p.rel p.rel (weight_effects o.body) (quiet_weight o.body) refl refl h prefix low) (still D p.rel p.rel [] quiet_none refl refl h prefix low)
+      (λ t. still D p.rel p.rel (weight_effects o.body) (quiet_weight o.body) refl refl refl h prefix low) (still D p.rel p.rel [] quiet_none refl refl refl h prefix low)
   one_handled D arts at p (PrioAckPiece number) none holding new h prefix low = still D p.rel p.rel _
-      (quiet_acked p.prio at.from.0 number) refl refl h prefix low
+      (quiet_acked p.prio at.from.0 number) refl refl refl h prefix low
   one_handled D arts at p (PrioPiece number o) none holding new h prefix low =
       let answer = prio_answer (is_signed arts at.fixed o) (is_dated p.lives o.body) (judge_prio p.prio o.body at.now) in
       let admitted = record p { prio = admit_prio p.prio o (Some at.from) } in
       subst (λ r. Handles C s d S D c u r (cond (is_new (items.Prio answer)) (prio_effects p.prio o (Some at.from)) []))
       (sym (heard_rel answer at.from number (cond (is_new (items.Prio answer)) admitted p)))
       (chosen D (items.Prio answer) admitted p (prio_effects p.prio o (Some at.from))
-      (λ t. still D p.rel p.rel _ (quiet_prio p.prio o (Some at.from)) refl refl h prefix low) (still D p.rel p.rel [] quiet_none refl refl h prefix low))
+      (λ t. still D p.rel p.rel _ (quiet_prio p.prio o (Some at.from)) refl refl refl h prefix low) (still D p.rel p.rel [] quiet_none refl refl refl h prefix low))
   one_handled D arts at p (ReportPiece flow sboot dboot base have) none holding new h prefix low =
-      let same = reported_flows (flow_in p.rel.flows flow).active p.rel (with_peer p.rel at.from (told_peer (peer_in p.rel.peers at.from) flow base have)) refl refl in
+      let same = reported_flows (flow_in p.rel.flows flow).active p.rel (with_peer p.rel at.from (told_peer (peer_in p.rel.peers at.from) flow base have)) refl refl refl in
       cond_either (λ (q : Parts). Handles C s d S D c u q.rel []) (are_held p.lives flow sboot dboot) (record p { rel = reported p.rel at.from flow base have }) p
-      (still D p.rel (reported p.rel at.from flow base have) [] quiet_none same.0 same.1 h prefix low) (still D p.rel p.rel [] quiet_none refl refl h prefix low)
+      (still D p.rel (reported p.rel at.from flow base have) [] quiet_none same.0 same.1 same.2 h prefix low) (still D p.rel p.rel [] quiet_none refl refl refl h prefix low)
   one_handled D arts at p (AckPiece flow o) none holding new h prefix low =
       chosen D (items.Ack (ack_answer (is_signed arts at.fixed o) (is_dated p.lives o.body) (judge_ack_of p.rel flow o.body))) (record p { rel = admit_ack p.rel o }) p []
       (λ t. let is = judged.new_ack _ _ _ t in ack_taken D p.lives p.rel flow o holding is.2 is.1 (new.0 t) h prefix low)
-      (still D p.rel p.rel [] quiet_none refl refl h prefix low)
+      (still D p.rel p.rel [] quiet_none refl refl refl h prefix low)
   one_handled D arts at p (RelPiece flow o) none holding new h prefix low =
       chosen D (items.Rel (rel_answer (is_signed arts at.fixed o) (is_dated p.lives o.body) (judge_rel_of p.rel flow o.body))) (record p { rel = admit_rel p.rel o }) p (rel_effects p.rel o)
       (λ t. let is = judged.new_rel _ _ _ t in rel_taken D p.lives p.rel flow o holding is.2 is.1 (new.0 t) h prefix low)
-      (still D p.rel p.rel [] quiet_none refl refl h prefix low)
+      (still D p.rel p.rel [] quiet_none refl refl refl h prefix low)
   one_handled D arts at p (EpochPiece o) none holding new h prefix low = absurd none

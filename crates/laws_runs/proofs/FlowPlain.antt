@@ -11,13 +11,12 @@ use Rattle.sp_rules.specs.Lives.{held_boot}
 use Rattle.sp_rules.specs.Node.{NodeState}
 use Rattle.sp_rules.specs.Window.{greatest}
 use Rattle.sp_runs.specs.Inputs.{acting}
-use Rattle.sp_runs.specs.Runs.{Clean, IsCraftOf, Lives, Moves, Starts, Stays, Turned, Turn}
+use Rattle.sp_runs.specs.Runs.{Clean, Lives, Moves, Starts, Stays, Turned, Turn}
 use Rattle.sp_runs.specs.Settings.{Setting, StaysUp, is_correct, is_node}
 use Rattle.sp_runs.specs.Told.{Message, accepted_in, delivered, delivered_by, sent, signed, signed_by, told_at}
 use Rattle.sp_runs.specs.Worlds.{World, node_in}
 use Rattle.sp_journal.specs.declared.entry.Entry.{Entry}
 use Rattle.sp_schedule_events.specs.declared.event.Event.{Event}
-use Rattle.sp_schedule_events.specs.declared.event.Event.TheVariants as events
 use Rattle.laws_runs.specs.Acknowledged.{acknowledged, acks_in}
 use Rattle.laws_runs.specs.Flows.{AreNumbered, AreSent, FlowsAreKept, IsIn, IsVouchedFor, flow_at}
 use Rattle.laws_runs.specs.LifeFlows.{IsVouchedUnder, LifeFlowClaims, acknowledged_under, acks_under}
@@ -29,24 +28,9 @@ use Rattle.laws_runs.proofs.FlowRuns.{TurnIs, flows_are_kept_over_lives, flows_h
 use Rattle.laws_runs.proofs.Lists.{both, here_is, none_either, told_more}
 use Rattle.laws_runs.proofs.PastFacts.{holds_no_other, past_is_plain, same_boots, told_plain}
 use Rattle.laws_runs.proofs.Signed.{signs, signs_ready}
+use Rattle.laws_runs.proofs.Started.{of_craft}
 
 -- ---- what was told, and under boots 0
-
-quiet_craft : (s d key : NodeId) (e : Event) (j : Entry) → IsCraftOf key e → accepted_in s d e j.reply ≡ []
-quiet_craft s d key (events.Craft c v k body) j is = refl
-quiet_craft s d key (events.Rel a b p) j is = absurd is
-quiet_craft s d key (events.Prio a b p q r t) j is = absurd is
-quiet_craft s d key (events.Take a b) j is = absurd is
-quiet_craft s d key (events.TakePrio a) j is = absurd is
-quiet_craft s d key (events.Tick a b) j is = absurd is
-quiet_craft s d key (events.Weight a b c) j is = absurd is
-quiet_craft s d key (events.Poll a b) j is = absurd is
-quiet_craft s d key (events.Pass a b c) j is = absurd is
-quiet_craft s d key (events.Flip a b c f g) j is = absurd is
-quiet_craft s d key (events.Inject a b c) j is = absurd is
-quiet_craft s d key (events.CraftStatus a b c f g i) j is = absurd is
-quiet_craft s d key (events.Start a) j is = absurd is
-quiet_craft s d key (events.Stop a) j is = absurd is
 
 none_told : (tells : Event × Entry → List Message) → ((p : Event × Entry) → tells p ≡ []) → (ps : List (Event × Entry)) → flat_map tells ps ≡ []
 none_told tells none [] = refl
@@ -56,7 +40,9 @@ module _ (arts : Arts) (x : Setting) (s d : NodeId) (fits : StaysUp arts x) (rea
   sent_plain : (es : List Event) (js : List Entry) (w : World) (run : Clean arts x es js w) → sent_under (past arts x es js w run) s 0 d 0 ≡ sent es js s d
   sent_plain es js w run =
       past_is_plain (λ h. told_under s 0 d 0 (accepted_in s d h.event h.entry.reply) h.mover) (λ p. accepted_in s d p.0 p.1.reply)
-      (λ e j n none. told_plain s d (accepted_in s d e j.reply) n none) (λ y old new e j spends. sym (quiet_craft s d spends.key e j spends.is_craft))
+      (λ e j n none. told_plain s d (accepted_in s d e j.reply) n none)
+      (λ y old new e j spends. sym (of_craft (λ f. accepted_in s d f j.reply ≡ []) (λ c v key object. refl) (λ c v key version weights. refl)
+      spends.key e spends.is_craft))
       arts x es js w fits reads run
 
   delivered_plain : (es : List Event) (js : List Entry) (w : World) (run : Clean arts x es js w)
@@ -121,7 +107,7 @@ plain_vouched arts s d es js f v = record { ack = v.ack; kept = v.kept; body = v
 pub flows_are_kept : FlowsAreKept
 flows_are_kept arts x es js w fits reads run s d from correct different = record {
   base = λ u n at. subst (λ (k : ℕ). (flow_at n s d).at.base ≤ k) (acked_at n (none u n at)) (c.base u n at);
-  base_at_end = λ n at. c.base_at_end n at ∙ acked_at n (none d n at);
+  base_at_end = λ n at free. c.base_at_end n at free ∙ acked_at n (none d n at);
   acknowledged =
       let all = c.acknowledged 0 0 in
       let same = all_acked in
@@ -131,9 +117,9 @@ flows_are_kept arts x es js w fits reads run s d from correct different = record
       plain_vouched arts s d es js (flow_at n s d)
       (subst (λ b. IsVouchedUnder arts s d es js (flow_at n s d) 0 b) (none u n at d)
       (subst (λ a. IsVouchedUnder arts s d es js (flow_at n s d) a (held_boot n.parts.lives d)) (none u n at s) (c.vouched u n at some)));
-  have_at_end = λ n at. c.have_at_end n at ∙ ap length (at_none s d n (λ a b. delivered_under happened s a d b) (none d n at) ∙ all_delivered);
+  have_at_end = λ n at free. c.have_at_end n at free ∙ ap length (at_none s d n (λ a b. delivered_under happened s a d b) (none d n at) ∙ all_delivered);
   have = λ k u n at. subst (λ (X : List Message). (flow_at n s d).at.have ≤ length X) (sent_at n (none u n at)) (c.have k u n at);
-  have_at_source = λ k n at. c.have_at_source k n at ∙ ap length (sent_at n (none s n at));
+  have_at_source = λ k n at free. c.have_at_source k n at free ∙ ap length (sent_at n (none s n at));
   lists = λ k u n at. subst (λ (X : List Message). AreSent X (flow_at n s d).at.base (flow_at n s d).at.list) (sent_at n (none u n at)) (c.lists k u n at);
   messages = λ k m good src dst among. named m (c.messages k m good src dst among);
   prefix = λ k. subst (λ (X : List Message). IsPrefix X (sent es js s d)) all_delivered

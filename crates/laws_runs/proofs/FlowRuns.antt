@@ -1,9 +1,11 @@
 -- The part on flows over a whole run, whose nodes may start and stop.
 use Rattle.std.proofs.Common.{◌≡◌, ◌<◌, ◌≤◌, ℕ, ◌+◌, Bool, true, false, List, [], ◌∷◌, ◌++◌, length, Some, None, refl, sym, ap, subst, ◌∙◌, inl, inr, arith}
+use Rattle.std.proofs.Common.{map}
 use Rattle.std.specs.Prelude.{◌&&◌, ◌==◌, IsTrue}
 use Rattle.std.proofs.lemmas.Bool.{cases_Bool}
 use Rattle.std.proofs.lemmas.List.{append-nil}
 use Rattle.sp_base.specs.declared.id.NodeId.{NodeId}
+use Rattle.sp_base.specs.declared.id.Flow.{Flow}
 use Rattle.sp_epoch.specs.Numbers.{numbers_at}
 use Rattle.sp_msg.specs.declared.body.Body.TheVariants as bodies
 use Rattle.sp_msg.specs.declared.body.Rel.{Rel}
@@ -13,8 +15,11 @@ use Rattle.sp_rules.specs.Lives.{held_boot}
 use Rattle.sp_rules.specs.Node.{NodeState, announced, booted, own_epoch}
 use Rattle.sp_rules.specs.Parts.{Fixed, nodes_of}
 use Rattle.sp_rules.specs.Window.{greatest}
+use Rattle.sp_rules.specs.Rel.{is_over, ended_where, pairs_of}
+use Rattle.sp_rules.specs.Flow.{FlowState, no_flow}
+use Rattle.sp_rules.specs.Topologies.{removed_of}
 use Rattle.laws_node.proofs.Spellings.{no_other_is_spelled_so}
-use Rattle.sp_runs.specs.Forgery.{forged_object, has_forged_tag, is_among}
+use Rattle.sp_runs.specs.Forgery.{forged_document, forged_object, has_forged_tag, is_among}
 use Rattle.sp_runs.specs.Inputs.{acting}
 use Rattle.sp_runs.specs.Lives.{IsStart, next_start, ready}
 use Rattle.sp_runs.specs.Runs.{Clean, InRange, Lives, Move, Moves, Starts, Stays, Turned, Turn, forged_in, next_frame}
@@ -37,7 +42,7 @@ use Rattle.laws_runs.proofs.FlowNodes.{StepIs}
 use Rattle.laws_runs.proofs.FlowRows.{has_row, row_of_keys}
 use Rattle.laws_runs.proofs.FlowStays.{all_same, first_at, readied_on, stays_on}
 use Rattle.laws_runs.proofs.Flows.{FlowsHold, NodeAt, stepped}
-use Rattle.laws_runs.proofs.Goods.{new_known, plain_start, started, unforged_tag}
+use Rattle.laws_runs.proofs.Goods.{new_known, plain_start, started, unforged_both}
 use Rattle.laws_runs.proofs.HeldBoots.{boots_ready, held_boots_are_born, rises, turns_keep_boots}
 use Rattle.laws_runs.proofs.KeyFiles.{key_files_stand, ready_once}
 use Rattle.laws_runs.proofs.LifeCases.{Exhausts, LifeCase, Nobody, Starts_now, Stops, life_case}
@@ -48,15 +53,25 @@ use Rattle.laws_runs.proofs.Running.{more_found, without_left}
 use Rattle.laws_runs.proofs.SentLists.{lists_sent}
 use Rattle.laws_runs.proofs.Signed.{signs, signs_ready, turns_keep_signs}
 use Rattle.laws_runs.proofs.VouchedAcks.{vouched}
+use Rattle.laws_runs.proofs.FlowFacts.{live, seat, seat_dst, seat_in, seat_src, flow_of}
 
 -- ---- before the first event
+
+-- what is removed from the start ends no flow
+still_none : (gone : List NodeId) (flows : List Flow) → map (ended_where gone) (map no_flow flows) ≡ map no_flow flows
+still_none gone [] = refl
+still_none gone (f ∷ flows) = ap (λ (rest : List FlowState). no_flow f ∷ rest) (still_none gone flows)
+
+none_at_boot : (x : Setting) → map (ended_where (removed_of (nodes_of x.topology) x.topology.edges)) (map no_flow (pairs_of (nodes_of x.topology)))
+    ≡ map no_flow (pairs_of (nodes_of x.topology))
+none_at_boot x = still_none (removed_of (nodes_of x.topology) x.topology.edges) (pairs_of (nodes_of x.topology))
 
 begins : (arts : Arts) (x : Setting) (s d : NodeId) → (s ≡ d → ⊥) → is_node x s ≡ true → is_node x d ≡ true → FlowsHold arts x s d [] [] [] (at_start x)
 begins arts x s d different from to = record {
   nodes = λ u n at.
       let is = started x (nodes_of x.topology) u n (plain_start x u n at).1 in
       subst (NodeAt arts (IsTrue (is_correct x s)) s d [] [] [] u) (sym is.0)
-      (first_at arts (IsTrue (is_correct x s)) s d [] [] [] u (node_at_boot x u) (nodes_of x.topology) refl refl
+      (first_at arts (IsTrue (is_correct x s)) s d [] [] [] u (node_at_boot x u) (nodes_of x.topology) refl (none_at_boot x)
       (has_row (nodes_of x.topology) s d different from to) (λ z q. refl) (λ z p. (refl, refl)));
   prefix = λ k a b. ([], refl);
   low = λ a b. omega arith;
@@ -121,7 +136,7 @@ module _ (arts : Arts) (x : Setting) (es : List Event) (js : List Entry) (old ne
       let mine : (w : NodeId) → v ≡ w → (numbers_at old.keys w).boot < held_boot n.parts.lives w =
       λ w z. subst (λ (y : NodeId). (numbers_at old.keys y).boot < held_boot n.parts.lives y) z (omega (arith, own)) in
       first_at arts C s d es js before v n (nodes_of x.topology) (ap (λ (m : NodeState). m.parts.rel.me) is.1 ∙ sym is.0)
-      (ap (λ (m : NodeState). m.parts.rel.flows) is.1) (has_row (nodes_of x.topology) s d different from to)
+      (ap (λ (m : NodeState). m.parts.rel.flows) is.1 ∙ none_at_boot x) (has_row (nodes_of x.topology) s d different from to)
       (λ z q. h.unborn_source (held_boot n.parts.lives s) q (mine s z)) (λ z p. h.unborn_end p (held_boot n.parts.lives d) (mine d z))
 
   pub started_on : FlowsHold arts x s d (es ++ events.Start u ∷ []) (js ++ j ∷ [])
@@ -160,10 +175,10 @@ step_of arts x es js old e j new m t is s d correct different before h =
     let w = ready x old e in
     let there = signs_ready arts x es js old e t.keys t.signs in
     let unforged = subst (λ (y : Turn arts x old e j new). forged_in arts x es js old e j new y ≡ None) is t.unforged in
-    let nothing = unforged_tag (has_forged_tag arts x w m.node m.input) (forged_object arts x es js m.output.answered) unforged in
+    let nothing = unforged_both (has_forged_tag arts x w m.node m.input) (forged_object arts x es js m.output.answered) (forged_document arts es m.output.adopted) unforged in
     let ready_h = readied_on arts x s d es js before old e h in
     stepped arts x s d different t.fits t.reads correct es js before w ready_h j m.node e (next_frame w e) m.input m.output m.after m.reaches
-    (input_fits arts x es w m.node e m.input t.reads there.bytes t.range.fields m.reaches) m.step m.journal (there.nodes (acting e) m.node m.is_there)
+    (input_fits arts x es w m.node e m.input t.fits t.reads there.bytes t.range.fields m.reaches) m.step m.journal (there.nodes (acting e) m.node m.is_there)
     (new_known arts x es js m.output.answered nothing.1) (ready_h.nodes (acting e) m.node m.is_there)
 
 flows_of_life : (arts : Arts) (x : Setting) (es : List Event) (js : List Entry) (old : World) (e : Event) (j : Entry) (new : World) → x.epochs ≡ true
@@ -250,12 +265,12 @@ claims_of : (arts : Arts) (x : Setting) (es : List Event) (js : List Entry) (hap
     → LifeFlowClaims arts x s d es js happened w
 claims_of arts x es js happened w fits signs s d from to correct h = record {
   base = λ u n at. (h.nodes u n at).rel.flow.base;
-  base_at_end = λ n at. (h.nodes d n at).rel.flow.base_end refl;
+  base_at_end = λ n at free. (live _ s d _ _ _ d n.parts.rel free (h.nodes d n at).rel).base_end refl;
   acknowledged = h.low;
   vouched = λ u n at. vouched arts x s d es js fits from to correct u n (signs.nodes u n at) (signs.nodes u n at).acks;
-  have_at_end = λ n at. (h.nodes d n at).rel.flow.have_end refl;
+  have_at_end = λ n at free. (live _ s d _ _ _ d n.parts.rel free (h.nodes d n at).rel).have_end refl;
   have = λ k u n at. (h.nodes u n at).rel.flow.have k;
-  have_at_source = λ k n at. (h.nodes s n at).rel.flow.have_source k refl;
+  have_at_source = λ k n at free. (live _ s d _ _ _ s n.parts.rel free (h.nodes s n at).rel).have_source k refl;
   lists = λ k u n at. lists_sent arts x s d es js happened w fits h k from to u n (signs.nodes u n at);
   messages = h.messages;
   prefix = h.prefix;
@@ -285,10 +300,10 @@ of_claims arts x es js happened w signs s d from to different h = record {
           row = row_of_keys (nodes_of x.topology) s d n.parts.rel.flows different from to rel.keys;
           flow = record {
             base = h.claims.base u n at;
-            base_end = λ same. h.claims.base_at_end n (there d same);
-            have_end = λ same. h.claims.have_at_end n (there d same);
+            base_end = λ same. h.claims.base_at_end n (there d (seat_dst (is_over n.parts.rel.removed (flow_of s d)) s d u same)) (on_dst n u same);
+            have_end = λ same. h.claims.have_at_end n (there d (seat_dst (is_over n.parts.rel.removed (flow_of s d)) s d u same)) (on_dst n u same);
             have = λ k. h.claims.have k u n at;
-            have_source = λ k same. h.claims.have_at_source k n (there s same);
+            have_source = λ k same. h.claims.have_at_source k n (there s (seat_src (is_over n.parts.rel.removed (flow_of s d)) s d u same)) (on_src n u same);
           };
         };
         fresh_source = λ same. h.fresh_source n (there s same);
@@ -301,6 +316,21 @@ of_claims arts x es js happened w signs s d from to different h = record {
   unborn_source = h.unborn_source;
   unborn_end = h.unborn_end;
 }
+  where
+    -- who sits at an end has a flow that hasn't ended
+    on_dst : (n : NodeState) (u : NodeId) → seat_in s d u n.parts.rel ≡ d → is_over n.parts.rel.removed (flow_of s d) ≡ false
+    on_dst n u q = go (is_over n.parts.rel.removed (flow_of s d)) refl q
+      where
+        go : (t : Bool) → is_over n.parts.rel.removed (flow_of s d) ≡ t → seat t s d u ≡ d → is_over n.parts.rel.removed (flow_of s d) ≡ false
+        go false is q = is
+        go true is q = absurd (let e : s.0 + d.0 + 1 ≡ d.0 = ap (λ (v : NodeId). v.0) q in omega (arith, e))
+
+    on_src : (n : NodeState) (u : NodeId) → seat_in s d u n.parts.rel ≡ s → is_over n.parts.rel.removed (flow_of s d) ≡ false
+    on_src n u q = go (is_over n.parts.rel.removed (flow_of s d)) refl q
+      where
+        go : (t : Bool) → is_over n.parts.rel.removed (flow_of s d) ≡ t → seat t s d u ≡ s → is_over n.parts.rel.removed (flow_of s d) ≡ false
+        go false is q = is
+        go true is q = absurd (let e : s.0 + d.0 + 1 ≡ s.0 = ap (λ (v : NodeId). v.0) q in omega (arith, e))
 
 pub turns_keep_flows : TurnsKeepFlows
 turns_keep_flows arts x es js old e j new fits reads keys signs boots range turn unforged s d from correct different happened h =

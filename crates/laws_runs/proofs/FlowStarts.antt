@@ -12,12 +12,12 @@ use Rattle.sp_rules.specs.Flow.{FlowState, ends, is_flow, no_flow}
 use Rattle.sp_rules.specs.Handle.{met}
 use Rattle.sp_rules.specs.Lives.{boot_said, held_boot, judge_epoch, origin_said}
 use Rattle.sp_rules.specs.Parts.{Parts}
-use Rattle.sp_rules.specs.Rel.{RelState, flow_in, flow_less, is_end, restarted}
+use Rattle.sp_rules.specs.Rel.{RelState, flow_in, flow_less, is_end, restarted, is_over}
 use Rattle.sp_rules.specs.declared.lives.EpochJudged.TheVariants as judged
 use Rattle.sp_rules.specs.declared.lives.Life.{Life}
 use Rattle.laws_node.specs.Epochs.{Follows}
 use Rattle.sp_runs.specs.Told.{Message}
-use Rattle.laws_runs.proofs.FlowFacts.{FlowAt, RelIs, flow_of}
+use Rattle.laws_runs.proofs.FlowFacts.{FlowAt, RelIs, flow_of, seat_dst, seat_in, seat_src}
 use Rattle.laws_runs.proofs.FlowPieces.{Holding}
 use Rattle.laws_runs.proofs.Tables.{same_node}
 
@@ -69,19 +69,22 @@ module _ (C : Type 0) (s d : NodeId) (bs bd : ℕ) (S D : List Message) (c : ℕ
     (different : s ≡ d → ⊥) (fresh_source : C → u ≡ s → (y : ℕ) → bd < y → SF bs y ≡ [])
     (fresh_end : u ≡ d → (x : ℕ) → bs < x → (DF x bd ≡ []) × (cF x bd ≡ 0)) where
   -- the flow as before its first message, for boots under which nothing was sent here or delivered here
-  reset_is : (r : RelState) (v : NodeId) (S2 D2 : List Message) (c2 : ℕ) → flow_in (restarted r v).flows (flow_of s d) ≡ no_flow (flow_of s d)
-      → RelIs C s d S D c u r → (C → u ≡ s → S2 ≡ []) → (u ≡ d → (D2 ≡ []) × (c2 ≡ 0)) → RelIs C s d S2 D2 c2 u (restarted r v)
-  reset_is r v S2 D2 c2 there h no_s no_d = record {
+  reset_is : (r : RelState) (v : NodeId) (S' D' : List Message) (c' : ℕ) → flow_in (restarted r v).flows (flow_of s d) ≡ no_flow (flow_of s d)
+      → RelIs C s d S D c u r → (C → u ≡ s → S' ≡ []) → (u ≡ d → (D' ≡ []) × (c' ≡ 0)) → RelIs C s d S' D' c' u (restarted r v)
+  reset_is r v S' D' c' there h no_s no_d = record {
     me = h.me;
     row = any_less v (flow_of s d) r.flows ∙ h.row;
-    flow = subst (FlowAt C s d S2 D2 c2 u) (sym there) (record {
+    flow = subst (FlowAt C s d S' D' c' (seat_in s d u r)) (sym there) (record {
       base = omega arith;
-      base_end = λ z. let no = no_d z in sym no.1;
-      have_end = λ z. let no = no_d z in ap length (sym no.0);
+      base_end = λ z. let no = no_d (seat_dst over s d u z) in sym no.1;
+      have_end = λ z. let no = no_d (seat_dst over s d u z) in ap length (sym no.0);
       have = λ k. omega arith;
-      have_source = λ k z. let no = no_s k z in ap length (sym no);
+      have_source = λ k z. let no = no_s k (seat_src over s d u z) in ap length (sym no);
     });
   }
+    where
+      over : Bool
+      over = is_over r.removed (flow_of s d)
 
   pub renewed_is : (p : Parts) (o : Kept) → Holding s d bs bd p.lives → (origin_said o.body ≡ u → ⊥)
       → Follows (origin_said o.body) (boot_said o.body) p (met p o)
@@ -114,6 +117,6 @@ module _ (C : Type 0) (s d : NodeId) (bs bd : ℕ) (S D : List Message) (c : ℕ
                   let there = flow ∙ ap (λ (t : Bool). cond t (no_flow (flow_of s d)) (flow_in p.rel.flows (flow_of s d)))
                   (no_end_at v s d (λ z. not_s (ap (λ (w : NodeId). w.0) z)) (λ z. not_d (ap (λ (w : NodeId). w.0) z))) in
                   Same stays (done.others d (λ same. not_d (sym same)) ∙ holding.dst)
-                  (record { me = h.me; row = any_less v (flow_of s d) p.rel.flows ∙ h.row; flow = subst (FlowAt C s d S D c u) (sym there) h.flow })
+                  (record { me = h.me; row = any_less v (flow_of s d) p.rel.flows ∙ h.row; flow = subst (FlowAt C s d S D c (seat_in s d u p.rel)) (sym there) h.flow })
             ]
       ]

@@ -15,7 +15,7 @@ use Rattle.sp_rules.specs.Flow.{is_flow, no_flow}
 use Rattle.sp_rules.specs.Lives.{held_boot}
 use Rattle.sp_rules.specs.Node.{NodeState}
 use Rattle.sp_rules.specs.Parts.{Parts}
-use Rattle.sp_rules.specs.Rel.{RelState, flow_in, pairs_of}
+use Rattle.sp_rules.specs.Rel.{RelState, flow_in, pairs_of, is_over}
 use Rattle.sp_rules.specs.Window.{greatest}
 use Rattle.sp_runs.specs.Forgery.{is_among}
 use Rattle.sp_runs.specs.Inputs.{acting}
@@ -29,7 +29,7 @@ use Rattle.laws_runs.specs.Flows.{IsIn, AreNumbered}
 use Rattle.laws_runs.specs.LifeFlows.{acknowledged_under, acks_under}
 use Rattle.laws_runs.specs.Past.{Happened, delivered_under, sent_under, told_under}
 use Rattle.laws_runs.proofs.FlowAcks.{under_both}
-use Rattle.laws_runs.proofs.FlowFacts.{RelIs, flow_of}
+use Rattle.laws_runs.proofs.FlowFacts.{RelIs, flow_of, seat_dst, seat_src}
 use Rattle.laws_runs.proofs.FlowRows.{at_boot}
 use Rattle.laws_runs.proofs.Flows.{FlowsHold, NodeAt}
 use Rattle.laws_runs.proofs.Lists.{among_or, here_is, none_either, told_more}
@@ -163,16 +163,17 @@ first_at arts C s d es js past u n nodes me flows row no_s no_d =
     let zero = ap (λ fs. (flow_in fs (flow_of s d)).at) flows ∙ at_boot (pairs_of nodes) (flow_of s d) in
     let base = ap (λ (y : Position Kept). y.base) zero in
     let have = ap (λ (y : Position Kept). y.have) zero in
+    let over = is_over n.parts.rel.removed (flow_of s d) in
     record {
       rel = record {
         me = me;
         row = ap (list_any (is_flow (flow_of s d))) flows ∙ row;
         flow = record {
           base = omega (arith, base);
-          base_end = λ z. let no = no_d z (held_boot n.parts.lives s) in let ack = no.1 in omega (arith, base, ack);
-          have_end = λ z. have ∙ (let no = no_d z (held_boot n.parts.lives s) in ap length (sym no.0));
+          base_end = λ z. let no = no_d (seat_dst over s d u z) (held_boot n.parts.lives s) in let ack = no.1 in omega (arith, base, ack);
+          have_end = λ z. have ∙ (let no = no_d (seat_dst over s d u z) (held_boot n.parts.lives s) in ap length (sym no.0));
           have = λ k. omega (arith, have);
-          have_source = λ k z. have ∙ ap length (sym (no_s z (held_boot n.parts.lives d)));
+          have_source = λ k z. have ∙ ap length (sym (no_s (seat_src over s d u z) (held_boot n.parts.lives d)));
         };
       };
       fresh_source = λ z y lt. no_s z y;

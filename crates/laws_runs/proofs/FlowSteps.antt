@@ -22,7 +22,8 @@ use Rattle.sp_rules.specs.Arts.{Arts}
 use Rattle.sp_rules.specs.Flow.{concluded, after_take, flow_said, number_said, pushed}
 use Rattle.sp_rules.specs.Lives.{held_boot}
 use Rattle.sp_rules.specs.Node.{NodeState, signed_now}
-use Rattle.sp_rules.specs.Rel.{RelState, ack_of, due, due_place, flow_at, flow_in, flow_to_me, own_flow, pushed_in, served, served_at, next_place, settled, settled_at, took}
+use Rattle.sp_rules.specs.Rel.{RelState, ack_of, due, due_place, flow_at, flow_in, flow_to_me, own_flow, pushed_in, served, served_at, next_place, settled}
+use Rattle.sp_rules.specs.Rel.{settled_at, took, is_over}
 use Rattle.sp_rules.specs.Sends.{rel_body, rel_number}
 use Rattle.sp_rules.specs.declared.lives.Life.{Life}
 use Rattle.laws_node.proofs.Spellings.{no_other_is_spelled_so}
@@ -33,6 +34,7 @@ use Rattle.sp_runs.specs.Told.{Message, delivered_by, signed_by}
 use Rattle.laws_runs.specs.Flows.{IsIn, AreNumbered}
 use Rattle.laws_runs.proofs.FlowAcks.{NoneAcked, acked_away, acked_ever, acked_here, acked_none, acked_one, acked_other, IsNoAck, not_named}
 use Rattle.laws_runs.proofs.FlowFacts.{FlowAt, RelIs, cases_flow, flow_concluded, flow_grown, flow_of, flow_sent, in_last, same_at, same_rows_is, with_flow_is}
+use Rattle.laws_runs.proofs.FlowFacts.{live, seat_in, seated}
 use Rattle.laws_runs.proofs.FlowPieces.{Holding, told_here, told_quiet}
 use Rattle.laws_runs.proofs.Quiet.{Quiet}
 use Rattle.laws_runs.proofs.Lists.{among_cons}
@@ -133,12 +135,13 @@ module _ (arts : Arts) (reads : ReadsBack arts) (C : Type 0) (s d : NodeId) (bs 
 
   -- ---- a client's message
 
-  pub sent_step : (k : Sizes) (n : NodeState) (dst : NodeId) (payload : List ℕ) → n.fixed.me ≡ u → IsTrue (arts.is_good (rel_body n dst payload))
+  pub sent_step : (k : Sizes) (n : NodeState) (dst : NodeId) (payload : List ℕ) → n.fixed.me ≡ u
+      → is_over n.parts.rel.removed (flow_said (rel_body n dst payload)) ≡ false → IsTrue (arts.is_good (rel_body n dst payload))
       → Holding s d bs bd n.parts.lives
       → RelIs C s d S D c u n.parts.rel → (C → IsPrefix D S) → c ≤ length D
       → Stepped arts C s d bs bd S (cond (u.0 == s.0 && dst.0 == d.0) ((rel_number n dst, payload) ∷ []) []) D c u
       (Signed (arts.spell (rel_body n dst payload)) ∷ []) (pushed_in n.parts.rel (signed_now arts n (rel_body n dst payload)))
-  sent_step k n dst payload me good holding h prefix low =
+  sent_step k n dst payload me free good holding h prefix low =
       let r = n.parts.rel in
       let o = signed_now arts n (rel_body n dst payload) in
       let flow = flow_said o.body in
@@ -167,10 +170,11 @@ module _ (arts : Arts) (reads : ReadsBack arts) (C : Type 0) (s d : NodeId) (bs 
       let after = with_flow_is C s d S D (S ++ T) (D ++ []) c c u r flow (pushed f o) (found_ends r.flows flow) h
       (λ e.
       let is = mine e in
-      let here : FlowAt C s d S D c s f = subst (λ v. FlowAt C s d S D c v f) is.0 (subst (λ fl. FlowAt C s d S D c u (flow_in r.flows fl)) (sym e) h.flow) in
-      subst (λ X. FlowAt C s d (S ++ X) (D ++ []) c u (pushed f o)) (sym is.1)
-      (subst (λ v. FlowAt C s d (S ++ m ∷ []) (D ++ []) c v (pushed f o)) (sym is.0) (flow_sent C s d S D c f o m different here)))
-      (λ never. flow_grown C s d S T D [] c c u (flow_in r.flows (flow_of s d)) (λ z. others never) (λ z. refl) (omega arith) (λ z. refl) h.flow) in
+      let on : is_over r.removed (flow_of s d) ≡ false = subst (λ fl. is_over r.removed fl ≡ false) e free in
+      let here : FlowAt C s d S D c s f = subst (λ v. FlowAt C s d S D c v f) is.0 (subst (λ fl. FlowAt C s d S D c u (flow_in r.flows fl)) (sym e) (live C s d S D c u r on h)) in
+      seated C s d (S ++ T) (D ++ []) c u r (pushed f o) on (subst (λ X. FlowAt C s d (S ++ X) (D ++ []) c u (pushed f o)) (sym is.1)
+      (subst (λ v. FlowAt C s d (S ++ m ∷ []) (D ++ []) c v (pushed f o)) (sym is.0) (flow_sent C s d S D c f o m different here))))
+      (λ never. flow_grown C s d S T D [] c c (seat_in s d u r) (flow_in r.flows (flow_of s d)) (λ z. others never) (λ z. refl) (omega arith) (λ z. refl) h.flow) in
       record {
         rel = subst (λ q. RelIs C s d (S ++ T) (D ++ told_here u s d es) q u r2) (sym same_c) (subst (λ X. RelIs C s d (S ++ T) X c u r2) (sym same_d) after);
         prefix = subst (λ X. C → IsPrefix X (S ++ T)) (sym (same_d ∙ append-nil D)) (λ y. ((prefix y).0 ++ T, ap (λ t. t ++ T) (prefix y).1 ∙ append_assoc D (prefix y).0 T));
@@ -179,7 +183,8 @@ module _ (arts : Arts) (reads : ReadsBack arts) (C : Type 0) (s d : NodeId) (bs 
         numbers = λ y. elim (cases_flow flow (flow_of s d)) [
           | inl e ↦
               let is = mine e in
-              let have = (subst (λ fl. FlowAt C s d S D c u (flow_in r.flows fl)) (sym e) h.flow).have_source y is.0 in
+              let on : is_over r.removed (flow_of s d) ≡ false = subst (λ fl. is_over r.removed fl ≡ false) e free in
+              let have = (subst (λ fl. FlowAt C s d S D c u (flow_in r.flows fl)) (sym e) (live C s d S D c u r on h)).have_source y is.0 in
               subst (AreNumbered (length S)) (sym is.1) (omega (arith, number, have), tt)
           | inr never ↦ subst (AreNumbered (length S)) (sym (others never)) tt
         ];
@@ -190,7 +195,8 @@ module _ (arts : Arts) (reads : ReadsBack arts) (C : Type 0) (s d : NodeId) (bs 
               let is = mine e2 in
               let q : rel_number n dst ≡ w.seq = ap number_said same in
               let p : payload ≡ w.payload = cc in
-              let here : FlowAt C s d S D c u f = subst (λ fl. FlowAt C s d S D c u (flow_in r.flows fl)) (sym e2) h.flow in
+              let on : is_over r.removed (flow_of s d) ≡ false = subst (λ fl. is_over r.removed fl ≡ false) e2 free in
+              let here : FlowAt C s d S D c u f = subst (λ fl. FlowAt C s d S D c u (flow_in r.flows fl)) (sym e2) (live C s d S D c u r on h) in
               let have : f.at.have ≡ length S = here.have_source y z in
               let said_s : held_boot n.parts.lives n.fixed.me ≡ w.sboot = ap sboot_said same in
               let said_d : held_boot n.parts.lives dst ≡ w.dboot = ap dboot_said same in
@@ -211,10 +217,10 @@ module _ (arts : Arts) (reads : ReadsBack arts) (C : Type 0) (s d : NodeId) (bs 
 
   pub settled_step : (lives : List Life) (r : RelState) (raw ack : Ack) (o : Kept) (es : List Effect) → Holding s d bs bd lives → due r ≡ Some raw
       → ack ≡ record raw { sboot = held_boot lives raw.src; dboot = held_boot lives raw.dst } → o.body ≡ bodies.Ack ack → ack.dst ≡ u
-      → IsTrue (arts.is_good (bodies.Ack ack)) → Quiet es
+      → is_over r.removed (flow_said o.body) ≡ false → IsTrue (arts.is_good (bodies.Ack ack)) → Quiet es
       → RelIs C s d S D c u r → (C → IsPrefix D S) → c ≤ length D
       → Stepped arts C s d bs bd S [] D c u (es ++ Signed (arts.spell (bodies.Ack ack)) ∷ []) (settled r o)
-  settled_step lives r raw ack o es holding is_due dated body mine good quiet h prefix low =
+  settled_step lives r raw ack o es holding is_due dated body mine free good quiet h prefix low =
       let all = es ++ Signed (arts.spell (bodies.Ack ack)) ∷ [] in
       let flow = flow_said o.body in
       let f = flow_in r.flows flow in
@@ -236,6 +242,7 @@ module _ (arts : Arts) (reads : ReadsBack arts) (C : Type 0) (s d : NodeId) (bs 
       subst (λ (a : Ack). a.seq ≡ (flow_in r.flows (flow_of a.src a.dst)).at.have) (sym dated) (due_number r raw is_due) in
       elim (cases_flow flow (flow_of s d)) [
         | inl e ↦
+            let on : is_over r.removed (flow_of s d) ≡ false = subst (λ fl. is_over r.removed fl ≡ false) e free in
             let both : flow_of ack.src ack.dst ≡ flow_of s d = sym said ∙ e in
             let src : ack.src ≡ s = ap (λ (x : Flow). x.src) both in
             let dst : ack.dst ≡ d = ap (λ (x : Flow). x.dst) both in
@@ -250,7 +257,7 @@ module _ (arts : Arts) (reads : ReadsBack arts) (C : Type 0) (s d : NodeId) (bs 
             let ever : acked_ever arts u s d all ≡ ack.seq =
             (acked_one arts reads bs bd u s d all (bodies.Ack ack) good one ud).1 ∙ rw (same_src, same_dst) (omega arith) in
             let have : ack.seq ≡ f.at.have = seq ∙ ap (λ fl. (flow_in r.flows fl).at.have) (sym said) in
-            let here : FlowAt C s d S D c d f = subst (λ v. FlowAt C s d S D c v f) ud (subst (λ fl. FlowAt C s d S D c u (flow_in r.flows fl)) (sym e) h.flow) in
+            let here : FlowAt C s d S D c d f = subst (λ v. FlowAt C s d S D c v f) ud (subst (λ fl. FlowAt C s d S D c u (flow_in r.flows fl)) (sym e) (live C s d S D c u r on h)) in
             let end = here.have_end refl in
             let c2 : max c (acked_here arts bs bd u s d all) ≡ f.at.have = omega (arith, number, have, low, end) in
             let not_s : d ≡ s → ⊥ = λ z. different (sym z) in
@@ -293,12 +300,14 @@ module _ (arts : Arts) (reads : ReadsBack arts) (C : Type 0) (s d : NodeId) (bs 
           go (Some flow) e = let is : ack_of r flow ≡ ack = cc in subst (λ (a : Ack). a.seq ≡ (flow_in r.flows (flow_of a.src a.dst)).at.have) is refl
 
       after : (c2 : ℕ) → (flow_said o.body ≡ flow_of s d → FlowAt C s d S D c2 u (concluded (flow_in r.flows (flow_said o.body)) o))
-          → ((flow_said o.body ≡ flow_of s d → ⊥) → FlowAt C s d S D c2 u (flow_in r.flows (flow_of s d))) → RelIs C s d S D c2 u (settled r o)
+          → ((flow_said o.body ≡ flow_of s d → ⊥) → FlowAt C s d S D c2 (seat_in s d u r) (flow_in r.flows (flow_of s d))) → RelIs C s d S D c2 u (settled r o)
       after c2 when other = go (due_place r) refl
         where
           go : (place : Option ℕ) → due_place r ≡ place → RelIs C s d S D c2 u (settled_at r o place)
           go None e = absurd (let f : None ≡ Some raw = rw e at is_due in cc)
-          go (Some place) e = let x = with_flow_is C s d S D S D c c2 u r (flow_said o.body) (concluded (flow_in r.flows (flow_said o.body)) o) (found_ends r.flows (flow_said o.body)) h when other in
+          go (Some place) e = let x = with_flow_is C s d S D S D c c2 u r (flow_said o.body) (concluded (flow_in r.flows (flow_said o.body)) o)
+              (found_ends r.flows (flow_said o.body)) h
+              (λ e. seated C s d S D c2 u r (concluded (flow_in r.flows (flow_said o.body)) o) (subst (λ fl. is_over r.removed fl ≡ false) e free) (when e)) other in
               record { me = x.me; row = x.row; flow = x.flow }
 
   -- ---- a client takes
@@ -308,11 +317,11 @@ module _ (arts : Arts) (reads : ReadsBack arts) (C : Type 0) (s d : NodeId) (bs 
       let flow = flow_to_me r src in
       let f = flow_in r.flows flow in
       with_flow_is C s d S D S D c c u r flow (after_take f) (found_ends r.flows flow) h
-      (λ e. same_at C s d S D c u f (after_take f) refl (subst (λ fl. FlowAt C s d S D c u (flow_in r.flows fl)) (sym e) h.flow)) (λ never. h.flow)
+      (λ e. same_at C s d S D c (seat_in s d u r) f (after_take f) refl (subst (λ fl. FlowAt C s d S D c (seat_in s d u r) (flow_in r.flows fl)) (sym e) h.flow)) (λ never. h.flow)
 
   pub served_step : (r : RelState) (v : NodeId) → RelIs C s d S D c u r → RelIs C s d S D c u (served r v)
   served_step r v h = go (next_place r v)
     where
       go : (place : Option ℕ) → RelIs C s d S D c u (served_at r v place)
       go None = h
-      go (Some place) = same_rows_is C s d S D c u r _ refl refl h
+      go (Some place) = same_rows_is C s d S D c u r _ refl refl refl h

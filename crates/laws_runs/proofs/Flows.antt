@@ -24,7 +24,7 @@ use Rattle.laws_node.specs.Asked.{NewKeep}
 use Rattle.laws_node.specs.Sizes.{Sizes}
 use Rattle.laws_node.proofs.Arrived.{FewFit, sections_fit, where_fits}
 use Rattle.sp_runs.specs.Forgery.{is_among}
-use Rattle.sp_runs.specs.Inputs.{acting, crafted_frame, flipped, input_of, slot_alone}
+use Rattle.sp_runs.specs.Inputs.{acting, crafted_frame, flipped, input_of, slot_alone, handed_out}
 use Rattle.sp_node_words.specs.Words.{refused_word}
 use Rattle.sp_runs.specs.Journals.{Says, reply_word}
 use Rattle.sp_runs.specs.Settings.{Setting, SettingFits, is_correct}
@@ -33,6 +33,7 @@ use Rattle.sp_runs.specs.Worlds.{World, node_in}
 use Rattle.sp_journal.specs.declared.entry.Entry.{Entry}
 use Rattle.sp_journal.specs.declared.entry.Reply.{Reply}
 use Rattle.sp_journal.specs.declared.entry.Reply.TheVariants as replies
+use Rattle.sp_schedule_events.specs.Documents.{with_list}
 use Rattle.sp_schedule_events.specs.declared.event.Event.{Event}
 use Rattle.sp_schedule_events.specs.declared.event.Event.TheVariants as events
 use Rattle.laws_runs.specs.Flows.{IsIn, AreNumbered}
@@ -42,7 +43,8 @@ use Rattle.laws_runs.specs.Premises.{Carries}
 use Rattle.laws_runs.specs.Signs.{Good, Known, NodeIs, sizes_at}
 use Rattle.laws_runs.proofs.FlowAcks.{ack_among}
 use Rattle.laws_runs.proofs.FlowFacts.{RelIs, flow_of}
-use Rattle.laws_runs.proofs.FlowNodes.{Before, StepIs, datagram_done, poll_done, prio_done, send_done, sent_if, take_done, takep_done, tick_done, weight_done}
+use Rattle.laws_runs.proofs.FlowNodes.{Before, StepIs, datagram_done, poll_done, prio_done, send_done, sent_if}
+use Rattle.laws_runs.proofs.FlowNodes.{take_done, takep_done, tick_done, weight_done, publish_done}
 use Rattle.laws_runs.proofs.FlowPieces.{Vouched}
 use Rattle.laws_runs.proofs.Goods.{arts_fit}
 use Rattle.laws_runs.proofs.NoStarts.{pieces_at}
@@ -243,5 +245,12 @@ module _ (arts : Arts) (x : Setting) (s d : NodeId) (different : s ≡ d → ⊥
       arrived_at v u i output after step input is known at (crafted_bytes _ u _ i reaches)
   stepped (events.CraftStatus u v from to base have) number i output after reaches input step says is known at =
       arrived_at v u i output after step input is known at (crafted_frame arts n u (slot_alone n.parts.lives (flow_of from to) base have None []), cc)
+  stepped (events.Publish u weights) number i output after reaches input step says is known at =
+      let document = handed_out x (with_list w.published weights) in
+      let same : i ≡ steps.Publish document = cc in
+      publish_done C x (Good arts x es js) arts s d a b (SF a b) (DF a b) (cF a b) SF DF cF u different (λ k. at.fresh_source) at.fresh_end fits carries.bodies
+      n document output after (subst (λ y. NodeStep arts n y output after) same step) (before u is at)
+  stepped (events.CraftDocument u v key version weights) number i output after reaches input step says is known at =
+      arrived_at v u i output after step input is known at (crafted_bytes _ u _ i reaches)
   stepped (events.Start u) number i output after reaches input step says is known at = absurd cc
   stepped (events.Stop u) number i output after reaches input step says is known at = absurd cc

@@ -36,7 +36,7 @@ is_kept arts x es js u n is =
     let right : (o : Kept) → Good arts x es js o → Q o = λ o good. subst (λ (f : Fixed). IsTrue (is_signed arts f o)) (sym is.fixed) good.right in
     read_off x Q u n (node_weaker (sizes_at x (Good arts x es js) u) Q right n is.holds)
 
-gives : (arts : Arts) (n : NodeState) (v : NodeId) (made : List ℕ) (r : Option NodeRefused)
+pub gives : (arts : Arts) (n : NodeState) (v : NodeId) (made : List ℕ) (r : Option NodeRefused)
     → (steps.refused_call r (steps.replied (steps.Frame (frame_to arts n v)))).reply ≡ steps.Frame made → made ≡ frame_to arts n v
 gives arts n v made None e = cc
 gives arts n v made (Some why) e = absurd cc

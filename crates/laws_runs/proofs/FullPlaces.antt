@@ -29,6 +29,7 @@ full_after ds (events.Poll a b) (steps.Refused refused) full u v k at = full u v
 full_after ds (events.Poll a b) (steps.NotCalled refused) full u v k at = full u v k at
 full_after ds (events.Poll a b) (steps.Payload payload) full u v k at = full u v k at
 full_after ds (events.Poll a b) (steps.Message entry) full u v k at = full u v k at
+full_after ds (events.Poll a b) (steps.Replaced answer) full u v k at = full u v k at
 full_after ds (events.Rel a b p) r full u v k at = full u v k at
 full_after ds (events.Prio a b c d f p) r full u v k at = full u v k at
 full_after ds (events.Take a b) r full u v k at = full u v k at
@@ -40,6 +41,8 @@ full_after ds (events.Flip a b c d f) r full u v k at = full u v k at
 full_after ds (events.Inject a b c) r full u v k at = full u v k at
 full_after ds (events.Craft a b c d) r full u v k at = full u v k at
 full_after ds (events.CraftStatus a b c d f g) r full u v k at = full u v k at
+full_after ds (events.Publish u' weights) r full u v k at = full u v k at
+full_after ds (events.CraftDocument c' v' key' version weights) r full u v k at = full u v k at
 full_after ds (events.Start a) r full u v k at = full u v k at
 full_after ds (events.Stop a) r full u v k at = full u v k at
 

@@ -1,5 +1,9 @@
 -- What is new and what is own is known, valid, of bytes and good; and each node at its start.
-use Rattle.std.proofs.Common.{◌≡◌, ℕ, Bool, true, false, cond, eqb, List, [], ◌∷◌, ◌++◌, length, map, filter, Option, Some, None, refl, sym, ap, subst, ◌∙◌, inl, inr, arith}
+use Rattle.sp_base.specs.Cursor.{or_else}
+use Rattle.laws_node.proofs.Withdrawing.{booted_obeys}
+use Rattle.sp_rules.specs.Topologies.{removed_of, weights_in}
+use Rattle.std.proofs.Common.{◌≡◌, ℕ, Bool, true, false, cond, eqb, List, [], ◌∷◌, ◌++◌, length, map, filter, Option, Some, None, refl, sym, ap, subst, ◌∙◌}
+use Rattle.std.proofs.Common.{inl, inr, arith}
 use Rattle.std.specs.Prelude.{◌&&◌, not, IsTrue, option_map}
 use Rattle.std.specs.List.{All, flat_map}
 use Rattle.std.proofs.lemmas.Bool.{cases_Bool, eq-eqb, eqb-true}
@@ -11,11 +15,11 @@ use Rattle.sp_msg.specs.declared.body.Body.{Body}
 use Rattle.sp_msg.specs.declared.effect.Effect.{Effect}
 use Rattle.sp_msg.specs.declared.effect.Effect.TheVariants.{Signed}
 use Rattle.sp_msg.specs.declared.kept.Kept.{Kept}
-use Rattle.sp_rules.specs.Arrivals.{pieces_where}
+use Rattle.sp_rules.specs.Arrivals.{pieces_where, pieces_beside}
 use Rattle.sp_rules.specs.Arts.{Arts}
 use Rattle.sp_rules.specs.Lives.{start}
 use Rattle.sp_rules.specs.Node.{NodeState, Signer}
-use Rattle.sp_rules.specs.Parts.{Fixed, is_signed, nodes_of}
+use Rattle.sp_rules.specs.Parts.{Fixed, bare_parts, is_signed, nodes_of}
 use Rattle.sp_rules.specs.Pieces.{Piece, WeightPiece, PrioAckPiece, PrioPiece, ReportPiece, AckPiece, RelPiece, EpochPiece}
 use Rattle.sp_rules.specs.declared.answers.Item.{Item}
 use Rattle.sp_rules.specs.declared.node.LinkReply.{LinkReply}
@@ -39,8 +43,8 @@ use Rattle.sp_runs.specs.declared.what.What.TheVariants as whats
 use Rattle.laws_runs.specs.Signs.{Good, Known, NodeIs}
 use Rattle.laws_runs.specs.Premises.{IsOfBytes}
 use Rattle.sp_rules.specs.Rel.{pairs_of}
-use Rattle.laws_runs.proofs.Acks.{all_none}
-use Rattle.laws_runs.proofs.Dated.{no_flows_dated}
+use Rattle.laws_runs.proofs.Acks.{all_none, none_closed}
+use Rattle.laws_runs.proofs.Dated.{closed_dated, no_flows_dated}
 use Rattle.laws_runs.proofs.Unborn.{none_at_start, unborn_of}
 use Rattle.laws_runs.proofs.Lists.{among_left, among_right, both, first_among, told_more}
 use Rattle.laws_runs.proofs.Tables.{same_node}
@@ -82,13 +86,22 @@ where_keep P (links.Learned boot) pieces h = tt
 where_keep P (links.Stale boot counter) pieces h = tt
 where_keep P (links.OtherTopology theirs) pieces h = tt
 where_keep P (links.Section refused) pieces h = tt
+where_keep P links.Withdrawn pieces h = tt
+
+-- none beside a document
+pub beside_keep : (P : Kept → Type 0) (document : Option (List ℕ)) (pieces : List Piece) → AllKeep P pieces → AllKeep P (pieces_beside document pieces)
+beside_keep P None pieces h = h
+beside_keep P (Some document) pieces h = tt
 
 -- ---- what isn't forged is known
 
-pub unforged_tag : (t : Bool) (o : Option (List ℕ)) → cond t (Some whats.Tag) (option_map whats.Object o) ≡ None → (t ≡ false) × (o ≡ None)
-unforged_tag true o e = absurd cc
-unforged_tag false None e = (refl, refl)
-unforged_tag false (Some bytes) e = absurd cc
+-- neither the tag, nor an object, nor a document
+pub unforged_both : (t : Bool) (o d : Option (List ℕ)) → cond t (Some whats.Tag) (option_map whats.Object (or_else o d)) ≡ None
+    → (t ≡ false) × (o ≡ None) × (d ≡ None)
+unforged_both true o d e = absurd cc
+unforged_both false None None e = (refl, refl, refl)
+unforged_both false None (Some bytes) e = absurd cc
+unforged_both false (Some bytes) d e = absurd cc
 
 not_forged : (a b c : Bool) → (a && b && not c) ≡ false → a ≡ true → b ≡ true → c ≡ true
 not_forged true true true e one two = refl
@@ -105,7 +118,7 @@ new_known arts x es js (a ∷ others) e = elim (cases_Bool (is_forged arts x es 
 ]
 
 pub good_new : (arts : Arts) (x : Setting) (es : List Event) (js : List Entry) (answered : List (Kept × Item)) → NewKeep (Known arts x es js) answered
-    → NewKeep (λ o. IsTrue (is_signed arts (record { me = record { 0 = 0 }; boot = 0; topology = x.topology; signature_len = 0; epochs = false }) o)) answered
+    → NewKeep (λ o. IsTrue (is_signed arts (record { me = record { 0 = 0 }; boot = 0; topology = x.topology; document = []; signature_len = 0; admin = []; epochs = false }) o)) answered
     → NewKeep IsOfBytes answered → NewKeep (λ o. IsTrue (arts.is_good o.body)) answered → NewKeep (Good arts x es js) answered
 good_new arts x es js [] one two three four = tt
 good_new arts x es js (a ∷ others) one two three four =
@@ -158,6 +171,8 @@ fit_in arts x u boot t seed total h = record {
   heads = h.heads;
   sections = h.sections;
   own = h.own;
+  documents = h.documents;
+  carried = h.carried;
 }
 
 pub arts_fit : (arts : Arts) (x : Setting) (P : Kept → Type 0) (u : NodeId) (n : NodeState) → SettingFits arts x → NodeIs x P u n → ArtsFit arts n.fixed n.signer
@@ -199,6 +214,9 @@ starts arts x P fits u n e =
     let at = plain_start x u n e in
     let is = started x (nodes_of x.topology) u n at.1 in
     let among = (both _ _ is.1).0 in
+    let dated_parts =
+    closed_dated (bare_parts (fixed_of x u) x.buffer x.store) (weights_in x.topology.edges) (removed_of (nodes_of x.topology) x.topology.edges)
+    (no_flows_dated (start (nodes_of x.topology)) (pairs_of (nodes_of x.topology))) in
     subst (NodeIs x P u) (sym is.0) (record {
       correct = is.1;
       fixed = refl;
@@ -210,14 +228,16 @@ starts arts x P fits u n e =
         boot = omega arith;
         topology = fits.topology;
         short = fits.short;
+        document = fits.room x.topology.version (weights_in x.topology.edges);
         signer = record { index = omega arith; bound = omega arith; total = fits.total };
       });
-      acks = all_none (pairs_of (nodes_of x.topology));
-      dated = no_flows_dated (start (nodes_of x.topology)) (pairs_of (nodes_of x.topology));
+      acks = none_closed (bare_parts (fixed_of x u) x.buffer x.store).rel (removed_of (nodes_of x.topology) x.topology.edges) refl
+          (all_none (pairs_of (nodes_of x.topology)));
+      obeys = booted_obeys (fixed_of x u) (first_signer x u) (link_keys x u) x.buffer x.store;
+      dated = dated_parts;
       plain = λ off. record {
         first = refl;
         whole = refl;
-        unborn = unborn_of (node_at_boot x u).parts (none_at_start (nodes_of x.topology))
-            (no_flows_dated (start (nodes_of x.topology)) (pairs_of (nodes_of x.topology)));
+        unborn = unborn_of (node_at_boot x u).parts (none_at_start (nodes_of x.topology)) dated_parts;
       };
     })

@@ -1,5 +1,6 @@
 -- In every run a node holds its own boot of itself, and no boot of a correct node that this one didn't take: only a start signs a boot, which is the next one.
-use Rattle.std.proofs.Common.{◌≡◌, ◌≤◌, ◌-◌, ℕ, zero, suc, ◌==◌, Bool, true, false, cond, List, [], ◌∷◌, ◌++◌, length, slice_set, Some, None, refl, sym, ap, subst, ◌∙◌, inl, inr, arith}
+use Rattle.std.proofs.Common.{◌≡◌, ◌≤◌, ◌-◌, ℕ, zero, suc, ◌==◌, Bool, true, false, cond, List, [], ◌∷◌, ◌++◌, length, slice_set, Some, None, refl, sym, ap}
+use Rattle.std.proofs.Common.{subst, ◌∙◌, inl, inr, arith}
 use Rattle.std.specs.Prelude.{◌⊎◌, IsTrue, not, slice_index_or}
 use Rattle.std.specs.List.{flat_map, list_any}
 use Rattle.std.proofs.lemmas.Bool.{cases_Bool, cases_eq, eq-eqb, eqb-true, ne_eqb}
@@ -26,7 +27,7 @@ use Rattle.laws_node.specs.Inputs.{InputFits}
 use Rattle.laws_node.proofs.Epochs.{own_boot_stays}
 use Rattle.laws_node.proofs.Spellings.{no_other_is_spelled_so}
 use Rattle.laws_node.proofs.TableReads.{first_replaced, other_replaced}
-use Rattle.sp_runs.specs.Forgery.{forged_object, has_forged_tag, is_among}
+use Rattle.sp_runs.specs.Forgery.{forged_document, forged_object, has_forged_tag, is_among}
 use Rattle.sp_runs.specs.Inputs.{acting}
 use Rattle.sp_runs.specs.Lives.{IsStart, next_start, ready}
 use Rattle.sp_runs.specs.Runs.{InRange, Lives, Move, Moves, Starts, Stays, Turned}
@@ -41,7 +42,7 @@ use Rattle.laws_runs.specs.KeyFiles.{KeysStand}
 use Rattle.laws_runs.specs.Premises.{Carries}
 use Rattle.laws_runs.specs.Signs.{Good, Known, Signs}
 use Rattle.laws_runs.proofs.Begun.{good}
-use Rattle.laws_runs.proofs.Goods.{new_known, unforged_tag}
+use Rattle.laws_runs.proofs.Goods.{new_known, unforged_both}
 use Rattle.laws_runs.proofs.KeyFiles.{has_file, key_files_stand, ready_once}
 use Rattle.laws_runs.proofs.LifeCases.{Exhausts, LifeCase, Nobody, Starts_now, Stops, life_case}
 use Rattle.laws_runs.proofs.Lists.{among_cons, among_or, both, told_more}
@@ -357,10 +358,10 @@ pub turns_keep_boots : TurnsKeepBoots
 turns_keep_boots arts x es js old e j new fits reads keys signs range (Moves m) unforged h =
     let v = ready x old e in
     let there = signs_ready arts x es js old e keys signs in
-    let nothing = unforged_tag (has_forged_tag arts x v m.node m.input) (forged_object arts x es js m.output.answered) unforged in
+    let nothing = unforged_both (has_forged_tag arts x v m.node m.input) (forged_object arts x es js m.output.answered) (forged_document arts es m.output.adopted) unforged in
     let after = turns_keep_signs arts x es js old e j new fits reads keys signs range (Moves m) unforged in
     boots_moved arts x es js signs.entries e j v new fits reads there (boots_ready arts x es js old e h) m
-    (input_fits arts x es v m.node e m.input reads there.bytes range.fields m.reaches) nothing.1
+    (input_fits arts x es v m.node e m.input fits reads there.bytes range.fields m.reaches) nothing.1
     (λ off u w n at. ((after.nodes u n at).plain off).unborn.lives w)
 turns_keep_boots arts x es js old e j new fits reads keys signs range (Stays spends) unforged h =
     boots_stay arts x es js signs.entries e j old new h

@@ -81,6 +81,8 @@ no_boot u (events.Flip a b k back bit) r other = refl
 no_boot u (events.Inject a b bytes) r other = refl
 no_boot u (events.Craft c v key object) r other = refl
 no_boot u (events.CraftStatus c v s d base have) r other = refl
+no_boot u (events.Publish u' weights) r other = refl
+no_boot u (events.CraftDocument c' v' key' version weights) r other = refl
 no_boot u (events.Start v) r other = absurd other
 no_boot u (events.Stop v) r other = absurd other
 

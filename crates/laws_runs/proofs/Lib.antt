@@ -1,6 +1,7 @@
 pub mod Lists
 pub mod Tables
 pub mod Running
+pub mod Published
 pub mod LifeCases
 pub mod Started
 pub mod KeyFiles
@@ -13,8 +14,10 @@ pub mod Reaches
 pub mod Goods
 pub mod Acks
 pub mod NoStarts
+pub mod Adopted
 pub mod Unborn
 pub mod Signed
+pub mod Versions
 pub mod StartPieces
 pub mod StepSigns
 pub mod StepIndexes

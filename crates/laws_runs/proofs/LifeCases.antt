@@ -31,6 +31,8 @@ life_case arts x old (events.Flip a b k back bit) j new down = Nobody tt down
 life_case arts x old (events.Inject a b bytes) j new down = Nobody tt down
 life_case arts x old (events.Craft c v key object) j new down = Nobody tt down
 life_case arts x old (events.CraftStatus c v s d base have) j new down = Nobody tt down
+life_case arts x old (events.Publish u' weights) j new down = Nobody tt down
+life_case arts x old (events.CraftDocument c' v' key' version weights) j new down = Nobody tt down
 
 -- and each of these cases is such an event
 pub life_of : (arts : Arts) (x : Setting) (old : World) (e : Event) (j : Entry) (new : World) → LifeCase arts x old e j new → Life arts x old e j new
@@ -52,6 +54,8 @@ life_of arts x old e j new (Nobody other down) = nobody e other down
     nobody (events.Inject a b bytes) other down = down
     nobody (events.Craft c v key object) other down = down
     nobody (events.CraftStatus c v s d base have) other down = down
+    nobody (events.Publish u' weights) other down = down
+    nobody (events.CraftDocument c' v' key' version weights) other down = down
     nobody (events.Start v) other down = absurd other
     nobody (events.Stop v) other down = absurd other
 
@@ -74,5 +78,7 @@ kind_of (events.Flip a b k back bit) = Other tt
 kind_of (events.Inject a b bytes) = Other tt
 kind_of (events.Craft c v key object) = Other tt
 kind_of (events.CraftStatus c v s d base have) = Other tt
+kind_of (events.Publish u' weights) = Other tt
+kind_of (events.CraftDocument c' v' key' version weights) = Other tt
 kind_of (events.Start v) = Begins v refl
 kind_of (events.Stop v) = Ends v refl

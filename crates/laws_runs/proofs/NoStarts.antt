@@ -6,7 +6,7 @@ use Rattle.sp_frame.specs.Sections.{Contents}
 use Rattle.sp_frame.specs.Views.{as_list}
 use Rattle.sp_frame.specs.declared.refused.SectionRefused.{SectionRefused}
 use Rattle.sp_msg.specs.declared.kept.Kept.{Kept}
-use Rattle.sp_rules.specs.Arrivals.{greeted, has_risen, heeded, link_after, parts_met, pieces_in, pieces_where, reply_at, sections_in}
+use Rattle.sp_rules.specs.Arrivals.{pieces_beside, greeted, has_risen, heeded, link_after, parts_met, pieces_in, pieces_where, reply_at, sections_in}
 use Rattle.sp_rules.specs.Arts.{Arts}
 use Rattle.sp_rules.specs.Node.{NodeState, link_in}
 use Rattle.sp_rules.specs.Parts.{Fixed, Parts}
@@ -74,8 +74,13 @@ heeded_none : (epochs : Bool) (s : Contents) → epochs ≡ false → NoStarts (
 heeded_none true s plain = absurd (cc)
 heeded_none false s plain = no_starts_of (record s { epoch = None }) refl
 
+-- none are handled beside a document
+pub beside : (P : List Piece → Type 0) (document : Option (List ℕ)) (pieces : List Piece) → P [] → P pieces → P (pieces_beside document pieces)
+beside P None pieces none all = all
+beside P (Some document) pieces none all = none
+
 pub no_starts_in : (f : Fixed) (r : Result Contents SectionRefused) → f.epochs ≡ false → NoStarts (pieces_in f r)
-no_starts_in f (Ok s) plain = heeded_none f.epochs s plain
+no_starts_in f (Ok s) plain = beside NoStarts s.document (pieces_of (heeded f s)) tt (heeded_none f.epochs s plain)
 no_starts_in f (Err refused) plain = tt
 
 no_starts_where : (reply : LinkReply) (pieces : List Piece) → NoStarts pieces → NoStarts (pieces_where reply pieces)
@@ -90,6 +95,7 @@ no_starts_where (links.Learned boot) pieces h = tt
 no_starts_where (links.Stale boot counter) pieces h = tt
 no_starts_where (links.OtherTopology theirs) pieces h = tt
 no_starts_where (links.Section refused) pieces h = tt
+no_starts_where links.Withdrawn pieces h = tt
 
 -- the pieces that a node handles of a datagram
 abbrev pub pieces_at : Arts → NodeState → NodeId → List ℕ → List Piece
@@ -118,7 +124,7 @@ heeded_keep P false s h =
     )) h
 
 pub in_keep : (P : Kept → Type 0) (f : Fixed) (s : Contents) → AllKeep P (pieces_of s) → AllKeep P (pieces_in f (Ok s))
-in_keep P f s h = heeded_keep P f.epochs s h
+in_keep P f s h = beside (AllKeep P) s.document (pieces_of (heeded f s)) tt (heeded_keep P f.epochs s h)
 
 -- ---- the parts that a frame meets
 

@@ -14,7 +14,7 @@ use Rattle.sp_msg.specs.declared.effect.Why.TheVariants.{Taken}
 use Rattle.sp_msg.specs.declared.refused.SendRefused.{SendRefused}
 use Rattle.sp_rules.proofs.FlowJudged.{new_rel, same_flow}
 use Rattle.sp_rules.specs.Answers.{ack_answer, is_new, prio_answer, rel_answer, weight_answer}
-use Rattle.sp_rules.specs.Arrivals.{arrival_at, parts_met}
+use Rattle.sp_rules.specs.Arrivals.{arrival_at, parts_met, before_document, document_at, handled}
 use Rattle.sp_rules.specs.Arts.{Arts}
 use Rattle.sp_rules.specs.Flow.{flow_said}
 use Rattle.sp_rules.specs.Handle.{Arrival, handle, handle_all, heard_where, offer_to, weight_effects}
@@ -24,10 +24,12 @@ use Rattle.sp_rules.specs.Parts.{Parts, is_signed}
 use Rattle.sp_rules.specs.Pieces.{Piece, WeightPiece, PrioAckPiece, PrioPiece, ReportPiece, AckPiece, RelPiece, EpochPiece}
 use Rattle.sp_rules.specs.Polls.{frame_to}
 use Rattle.sp_rules.specs.Prio.{admit_prio, expired_effects, judge_prio, prio_effects}
-use Rattle.sp_rules.specs.Rel.{RelState, admit_ack, admit_rel, delivery, flow_in, is_from, is_to, judge_ack_of, judge_rel, judge_rel_of, peer_in, rel_effects, reported, told, with_peer}
-use Rattle.sp_rules.specs.Sends.{own_prio, prio_sent, rel_number, rel_refusal, rel_sent, send_prio_refusal, signer_refusal, weight_body, weight_number, weight_refusal, weight_sent}
+use Rattle.sp_rules.specs.Rel.{RelState, admit_ack, admit_rel, delivery, flow_in, is_from, is_to, judge_ack_of, judge_rel, judge_rel_of, peer_in, rel_effects}
+use Rattle.sp_rules.specs.Rel.{reported, told, with_peer}
+use Rattle.sp_rules.specs.Sends.{own_prio, prio_sent, rel_number, rel_refusal, rel_sent, send_prio_refusal, signer_refusal, weight_body, weight_number}
+use Rattle.sp_rules.specs.Sends.{weight_refusal, weight_sent}
 use Rattle.sp_rules.specs.Steps as steps
-use Rattle.sp_rules.specs.Steps.{Input, NodeStep, Output, accepted, refused_call, refused_send}
+use Rattle.sp_rules.specs.Steps.{Input, NodeStep, Output, accepted, refused_call, refused_send, document_effects}
 use Rattle.sp_rules.specs.Store.{oldest}
 use Rattle.sp_rules.specs.Ticks.{ack_effects, due_now, time_after}
 use Rattle.sp_rules.specs.Weights.{held}
@@ -49,7 +51,7 @@ use Rattle.laws_runs.specs.Signs.{Good, Signs}
 use Rattle.laws_runs.specs.Premises.{Carries}
 use Rattle.laws_runs.proofs.NoStarts.{NoStart, NoStarts, met_as_it_was, no_starts_at, pieces_at, without}
 use Rattle.laws_runs.proofs.FlowFacts.{flow_of}
-use Rattle.laws_runs.proofs.Quiet.{quiet_acked, quiet_expired, quiet_gone, quiet_prio, quiet_weight}
+use Rattle.laws_runs.proofs.Quiet.{quiet_acked, quiet_expired, quiet_gone, quiet_prio, quiet_weight, quiet_document, quiet_publish}
 use Rattle.laws_runs.proofs.Lists.{here_is, nothing_told, told_more}
 use Rattle.laws_runs.proofs.Plain.{Goes, Plain, Rests, plain_turn}
 use Rattle.laws_runs.proofs.Signed.{signs}
@@ -164,8 +166,10 @@ module _ (u : NodeId) where
       rw step.0 (called (call_refusal old v) (steps.replied (steps.Frame (frame_to arts old v))) refl)
   step_unheard arts old new (steps.Datagram v bytes) output step plain me =
       rw step.0 (called (call_refusal old v) (steps.arrived arts old v bytes)
+      (none_both (handled arts old v bytes).effects (steps.document_effects arts (before_document arts old v bytes) (document_at arts old v bytes))
       (all_keep arts (arrival_at old v) (parts_met arts old v bytes) (pieces_at arts old v bytes) (no_starts_at arts old v bytes plain)
-      (subst (λ (p : Parts). p.rel.me ≡ u) (sym (met_as_it_was arts old v bytes plain)) me)).1)
+      (subst (λ (p : Parts). p.rel.me ≡ u) (sym (met_as_it_was arts old v bytes plain)) me)).1
+      ((quiet_document arts (before_document arts old v bytes) (document_at arts old v bytes)).no_delivery u)))
   step_unheard arts old new (steps.Tick now) output step plain me =
       rw step.0 (none_both (expired_effects old.parts.prio (time_after old now)) (ack_effects arts (due_now old) (signer_refusal old.signer))
       ((quiet_expired old.parts.prio (time_after old now)).no_delivery u) (acks arts (due_now old) (signer_refusal old.signer)))
@@ -176,6 +180,7 @@ module _ (u : NodeId) where
   step_unheard arts old new (steps.SetWeight v weight) output step plain me =
       rw step.0 (sent (weight_refusal old v weight) (weight_number old v) (weight_sent arts old v weight) ((quiet_weight (weight_body old v weight)).no_delivery u))
   step_unheard arts old new (steps.TakeRel v) output step plain me = rw step.0 refl
+  step_unheard arts old new (steps.Publish document) output step plain me = rw step.0 ((quiet_publish arts old document).no_delivery u)
   step_unheard arts old new steps.TakePrio output step plain me = rw step.0 ((quiet_gone 0 Taken (oldest old.parts.prio.inbox)).no_delivery u)
 
 -- ---- a whole run

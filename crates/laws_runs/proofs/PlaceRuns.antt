@@ -10,11 +10,13 @@ use Rattle.sp_base.specs.declared.id.EdgeId.{EdgeId}
 use Rattle.sp_base.specs.declared.id.NodeId.{NodeId}
 use Rattle.sp_rules.specs.Arts.{Arts}
 use Rattle.sp_rules.specs.Node.{NodeState}
-use Rattle.sp_rules.specs.Parts.{Fixed, Parts, as_neighbour, neighbours_of, nodes_of}
+use Rattle.sp_rules.specs.Parts.{Fixed, Parts, as_neighbour, neighbours_of, nodes_of, bare_parts}
 use Rattle.sp_rules.specs.Prio.{PrioState}
+use Rattle.sp_rules.specs.Prio as prio
 use Rattle.sp_rules.specs.PrioPeer as rows
 use Rattle.sp_rules.specs.PrioPeer.{PrioPeer}
 use Rattle.sp_rules.specs.declared.prio.Neighbour.{Neighbour}
+use Rattle.sp_rules.specs.Topologies.{removed_of, weights_in}
 use Rattle.sp_topology.proofs.NeighbourLemmas.{found_ascend}
 use Rattle.sp_topology.specs.Neighbours.{Ascend, neighbours_from}
 use Rattle.sp_topology.specs.declared.topology.Edge.{Edge}
@@ -40,7 +42,7 @@ use Rattle.laws_runs.proofs.LifeCases.{life_case}
 use Rattle.laws_runs.proofs.Lists.{as_they_are}
 use Rattle.laws_runs.proofs.Lives.{step_stays}
 use Rattle.laws_runs.proofs.PlaceFacts.{AllAway, Turns, row_here, row_there}
-use Rattle.laws_runs.proofs.PlaceSteps.{either_away, none_away, turned}
+use Rattle.laws_runs.proofs.PlaceSteps.{either_away, none_away, turned, closed_turns}
 use Rattle.laws_runs.proofs.Played.{shares_from_start}
 use Rattle.laws_runs.proofs.Reaches.{input_fits}
 use Rattle.laws_runs.proofs.Ready.{readied_parts, was_there}
@@ -69,12 +71,12 @@ no_rows capacity place (n ∷ ns) = elim (cases_Bool (n.id.0 == place)) [
   | inr t ↦ ap shelf (row_there place (rows.new_peer capacity n) (map (rows.new_peer capacity) ns) t) ∙ no_rows capacity place ns
 ]
 
-empty_at_boot : (x : Setting) (u : NodeId) (place : ℕ) → no_shelf ≡ shelf (store_at (node_at_boot x u).parts.prio place)
-empty_at_boot x u zero = refl
-empty_at_boot x u (suc v) = sym (no_rows x.store (suc v) (map as_neighbour (neighbours_of (fixed_of x u))))
+-- before what is withdrawn from the start closes anything
+abbrev bare_at_boot : Setting → NodeId → PrioState
+bare_at_boot x u = (bare_parts (fixed_of x u) x.buffer x.store).prio
 
-places_at_boot : (arts : Arts) (x : Setting) (u : NodeId) → SettingFits arts x → PlacesAre x.store (node_at_boot x u).parts.prio
-places_at_boot arts x u fits = record {
+bare_places : (arts : Arts) (x : Setting) (u : NodeId) → SettingFits arts x → PlacesAre x.store (bare_at_boot x u)
+bare_places arts x u fits = record {
   inbox = store_empty x.store;
   peers = stores_start x.store (map as_neighbour (neighbours_of (fixed_of x u)));
   rows = rows_rise x.store 0 (neighbours_of (fixed_of x u)) ascends;
@@ -87,6 +89,35 @@ places_at_boot arts x u fits = record {
         found_ascend x.topology.format u.0 (length edges) x.topology.height x.topology.nodes edges found fits.topology.ranges.nodes
         fits.topology.ranges.graph.are_edges (omega arith)
         (ap (λ (es : List Edge). found ++ neighbours_from u.0 (length edges) es) (drop_of_length-le edges (omega arith)) ∙ append-nil found)
+
+bare_empty : (x : Setting) (u : NodeId) (place : ℕ) → no_shelf ≡ shelf (store_at (bare_at_boot x u) place)
+bare_empty x u zero = refl
+bare_empty x u (suc v) = sym (no_rows x.store (suc v) (map as_neighbour (neighbours_of (fixed_of x u))))
+
+none_leave : (capacity : ℕ) (least : List ℕ) (gone : List NodeId) (ns : List Neighbour)
+    → flat_map (rows.closed_effects least gone) (map (rows.new_peer capacity) ns) ≡ []
+none_leave capacity least gone [] = refl
+none_leave capacity least gone (n ∷ ns) = none_leave capacity least gone ns
+
+abbrev gone_at_boot : Setting → List NodeId
+gone_at_boot x = removed_of (nodes_of x.topology) x.topology.edges
+
+-- and what it closes was empty
+boot_turns : (arts : Arts) (x : Setting) (u : NodeId) → SettingFits arts x
+    → Turns x.store (bare_at_boot x u) (prio.closed_effects (bare_at_boot x u) (weights_in x.topology.edges) (gone_at_boot x)) (node_at_boot x u).parts.prio
+boot_turns arts x u fits =
+    closed_turns x.store x.topology.format (bare_at_boot x u) (weights_in x.topology.edges) (gone_at_boot x) (bare_places arts x u fits)
+
+empty_at_boot : (arts : Arts) (x : Setting) (u : NodeId) (place : ℕ) → SettingFits arts x
+    → no_shelf ≡ shelf (store_at (node_at_boot x u).parts.prio place)
+empty_at_boot arts x u place fits =
+    bare_empty x u place
+    ∙ ap (shelf_by place (shelf (store_at (bare_at_boot x u) place)))
+    (sym (none_leave x.store (weights_in x.topology.edges) (gone_at_boot x) (map as_neighbour (neighbours_of (fixed_of x u)))))
+    ∙ ((boot_turns arts x u fits).leads place).held
+
+places_at_boot : (arts : Arts) (x : Setting) (u : NodeId) → SettingFits arts x → PlacesAre x.store (node_at_boot x u).parts.prio
+places_at_boot arts x u fits = (boot_turns arts x u fits).are
 
 -- ---- one turn
 
@@ -181,7 +212,7 @@ module _ (arts : Arts) (x : Setting) (es : List Event) (js : List JournalEntry) 
           ∙ h.held_is u was.before place was.is_there
           ∙ sym (ap (λ (p : Parts). shelf (store_at p.prio place)) (readied_parts x w was.before n was.readied).0)
       holds u n place (Begun begins weights places) =
-          ap (shelf_by place no_shelf) (since_start es js e j same u begins) ∙ empty_at_boot x u place
+          ap (shelf_by place no_shelf) (since_start es js e j same u begins) ∙ empty_at_boot arts x u place fits
           ∙ sym (ap (λ (p : PrioState). shelf (store_at p place)) places)
 
 shares_on : (arts : Arts) (x : Setting) (es : List Event) (js : List JournalEntry) (old : World) (e : Event) (j : JournalEntry) (new : World)
@@ -197,7 +228,7 @@ shares_on arts x es js old e j new fits reads keys signs range (Moves m) unforge
     let before = shares_ready x es js old e h in
     moved_on arts x es js e j signs.entries w new m me before
     (turned x arts fits (Good arts x es js) (acting e) m.node m.input m.output m.after m.step
-    (input_fits arts x es w m.node e m.input reads there.bytes range.fields m.reaches) is (before.nodes (acting e) m.node m.is_there))
+    (input_fits arts x es w m.node e m.input fits reads there.bytes range.fields m.reaches) is (before.nodes (acting e) m.node m.is_there))
 shares_on arts x es js old e j new fits reads keys signs range (Stays spends) unforged h =
     rested_on arts x es js e j signs.entries fits old new (spends_rest x old e j new spends) h
 shares_on arts x es js old e j new fits reads keys signs range (Lives on life) unforged h =
@@ -212,7 +243,7 @@ shares_begin arts x fits = record {
       subst (λ (y : NodeState). PlacesAre x.store y.parts.prio) (sym is.0) (places_at_boot arts x u fits);
   held_is = λ u n place at.
       let is = started x (nodes_of x.topology) u n (plain_start x u n at).1 in
-      subst (λ (y : NodeState). no_shelf ≡ shelf (store_at y.parts.prio place)) (sym is.0) (empty_at_boot x u place);
+      subst (λ (y : NodeState). no_shelf ≡ shelf (store_at y.parts.prio place)) (sym is.0) (empty_at_boot arts x u place fits);
   shares = λ u place. tt;
 }
 

@@ -2,7 +2,8 @@
 use Rattle.sp_base.proofs.FormatLemmas.{few_nodes}
 use Rattle.sp_msg.proofs.GoodFields.{good_prio}
 use Rattle.laws_runs.specs.Places.{PlacesAre, StoreIs, shelf}
-use Rattle.std.proofs.Common.{◌≡◌, ◌<◌, ◌&&◌, ℕ, zero, suc, ◌-◌, Bool, true, false, cond, List, [], ◌∷◌, ◌++◌, length, Option, Some, None, refl, sym, ap, subst, ◌∙◌, inl, inr, arith}
+use Rattle.std.proofs.Common.{◌≡◌, ◌<◌, ◌&&◌, ℕ, zero, suc, ◌-◌, Bool, true, false, cond, List, [], ◌∷◌, ◌++◌, length, Option, Some, None, refl, sym, ap, subst}
+use Rattle.std.proofs.Common.{◌∙◌, inl, inr, arith, filter}
 use Rattle.std.specs.List.{flat_map}
 use Rattle.std.proofs.lemmas.Bool.{cases_Bool}
 use Rattle.std.proofs.lemmas.List.{append-nil}
@@ -18,25 +19,30 @@ use Rattle.sp_msg.specs.declared.effect.Why.TheVariants as whys
 use Rattle.sp_msg.specs.declared.kept.Kept.{Kept}
 use Rattle.sp_msg.specs.declared.refused.SendRefused.{SendRefused}
 use Rattle.sp_rules.specs.Answers.{ack_answer, epoch_answer, is_new, prio_answer, rel_answer, weight_answer}
-use Rattle.sp_rules.specs.Arrivals.{arrival_at, handled, has_risen, link_after, parts_met}
+use Rattle.sp_rules.specs.Arrivals.{arrival_at, handled, has_risen, link_after, parts_met, before_document, document_at, read_by}
 use Rattle.sp_rules.specs.Arts.{Arts}
+use Rattle.sp_rules.specs.Documents.{after_publish, publish_effects, under_topology, version_effects}
 use Rattle.sp_rules.specs.Flow.{FlowState, ends, flow_said}
+use Rattle.sp_rules.specs.Topologies.{is_shut, removed_of, weights_in}
+use Rattle.sp_topology.specs.declared.topology.Topology.{Topology}
 use Rattle.sp_rules.specs.Handle.{Arrival, handle, handle_all, heard_where, met, offer_to, weight_effects}
 use Rattle.sp_rules.specs.Link.{advanced}
 use Rattle.sp_rules.specs.Lives.{are_held, is_dated, judge_epoch, origin_said}
 use Rattle.sp_rules.specs.Node.{NodeState, call_refusal, called, kept_or, link_in, signed_now, signed_once, with_link}
-use Rattle.sp_rules.specs.Parts.{Parts, is_signed}
+use Rattle.sp_rules.specs.Parts.{Parts, is_signed, nodes_of}
 use Rattle.sp_rules.specs.Pieces.{Piece, WeightPiece, PrioAckPiece, PrioPiece, ReportPiece, AckPiece, RelPiece, EpochPiece}
-use Rattle.sp_rules.specs.Polls.{frame_to, polled}
+use Rattle.sp_rules.specs.Polls.{frame_to, polled, is_served, parts_after}
 use Rattle.sp_rules.specs.Prio as prio
 use Rattle.sp_rules.specs.Prio.{PrioState, admit_prio, judge_prio, no_peer, peer_in, prio_effects}
 use Rattle.sp_rules.specs.PrioPeer as rows
 use Rattle.sp_rules.specs.PrioPeer.{PrioPeer, filled, landed, launch, launched, settled}
 use Rattle.sp_rules.specs.Rel as rel
-use Rattle.sp_rules.specs.Rel.{RelState, admit_ack, admit_rel, delivery, ended_by, is_end, is_to, judge_ack_of, judge_rel_of, pushed_in, rel_effects, reported, restart_effects}
-use Rattle.sp_rules.specs.Sends.{after_take_prio, after_take_rel, mask_in, no_paths, own_prio, prio_body, prio_refusal, prio_sent, rel_body, rel_number, rel_refusal, rel_sent, send_prio_refusal, signer_refusal, weight_body, weight_number, weight_refusal, weight_sent}
+use Rattle.sp_rules.specs.Rel.{RelState, admit_ack, admit_rel, delivery, ended_by, is_end, is_to, judge_ack_of, judge_rel_of, pushed_in, rel_effects, reported}
+use Rattle.sp_rules.specs.Rel.{restart_effects}
+use Rattle.sp_rules.specs.Sends.{after_take_prio, after_take_rel, mask_in, no_paths, own_prio, prio_body, prio_refusal, prio_sent, rel_body, rel_number}
+use Rattle.sp_rules.specs.Sends.{rel_refusal, rel_sent, send_prio_refusal, signer_refusal, weight_body, weight_number, weight_refusal, weight_sent}
 use Rattle.sp_rules.specs.Steps as steps
-use Rattle.sp_rules.specs.Steps.{Input, NodeStep, Output, accepted, arrived, refused_call, refused_send, replied}
+use Rattle.sp_rules.specs.Steps.{Input, NodeStep, Output, accepted, arrived, refused_call, refused_send, replied, document_effects}
 use Rattle.sp_rules.specs.Store.{Store, less_expired, next_besides, oldest, said}
 use Rattle.sp_rules.specs.Ticks.{ack_effects, at_time, due_now, settled_by, time_after}
 use Rattle.sp_rules.specs.Weights.{held as held_weight}
@@ -54,12 +60,16 @@ use Rattle.laws_node.proofs.Carried.{pieces_new}
 use Rattle.laws_node.proofs.Handles as judged
 use Rattle.laws_node.proofs.Own.{either, prio_sent_fits}
 use Rattle.laws_node.proofs.Arrived.{step_fields}
+use Rattle.laws_node.proofs.Adopting.{publishing, reading}
+use Rattle.laws_node.proofs.Tables.{cond_either}
 use Rattle.sp_runs.specs.Settings.{Setting, SettingFits}
 use Rattle.laws_runs.specs.Signs.{NodeIs, sizes_at}
 use Rattle.laws_runs.proofs.PlaceFacts.{AllAway, Turns, admitted_turns, all_turn, inbox_turns, row_turns, turns_on, turns_same}
 use Rattle.laws_runs.proofs.Goods.{arts_fit}
 use Rattle.laws_runs.proofs.NoStarts.{pieces_at}
-use Rattle.laws_runs.proofs.StoreFacts.{AreAway, Ends_flow, Leads, Signs_it, Tells_rel, Tells_weight, away_both, expired_away, expired_is, expired_leads, gone_away, leads_nowhere, left_away, left_is, left_leads, oldest_is, oldest_leads}
+use Rattle.laws_runs.proofs.StoreFacts.{AreAway, Ends_flow, Leads, Signs_it, Tells_rel, Tells_version, Tells_weight, away_both, expired_away, expired_is}
+use Rattle.laws_runs.proofs.StoreFacts.{expired_leads, gone_away, leads_nowhere, left_away, left_by_away, left_by_is, left_by_leads, left_is, left_leads}
+use Rattle.laws_runs.proofs.StoreFacts.{oldest_is, oldest_leads}
 
 -- ---- effects of no place
 
@@ -249,6 +259,50 @@ module _ (capacity format : ℕ) where
       (oldest_is capacity p.inbox h.inbox)
       (λ place other. gone_away place 0 whys.Taken (oldest p.inbox) other) h
 
+  -- another version of the topology
+  pub closed_turns : (p : PrioState) (least : List ℕ) (gone : List NodeId) → PlacesAre capacity p → Turns capacity p (prio.closed_effects p least gone) (prio.closed p least gone)
+  closed_turns p least gone h =
+      all_turn capacity p (prio.closed p least gone) (rows.closed least gone) (rows.closed_effects least gone)
+      (λ q s. record {
+        key = refl;
+        here = left_by_leads whys.Withdrawn (λ is. absurd (cc)) capacity q.peer q.store (rows.leaves (is_shut least q.edge) gone) s;
+        away = λ place other. left_by_away whys.Withdrawn place q.peer (filter (rows.leaves (is_shut least q.edge) gone) q.store.entries) other;
+        after = left_by_is capacity q.store (rows.leaves (is_shut least q.edge) gone) s;
+      }) refl refl h
+
+  ending_away : (gone : List NodeId) (flows : List FlowState) → AllAway (flat_map (rel.ended_effect gone) flows)
+  ending_away gone [] = λ place. tt
+  ending_away gone (f ∷ flows) = λ place. away_both place (rel.ended_effect gone f) (flat_map (rel.ended_effect gone) flows) (one (f.active && rel.is_over gone (ends f)) place) (ending_away gone flows place)
+    where
+      one : (t : Bool) → AllAway (cond t (effects.Ended (ends f) ∷ []) [])
+      one true = λ place. (Ends_flow, tt)
+      one false = λ place. tt
+
+  version_turns : (n : NodeState) (bytes : List ℕ) (t : Topology) → PlacesAre capacity n.parts.prio
+      → Turns capacity n.parts.prio (version_effects n t) (under_topology n bytes t).parts.prio
+  version_turns n bytes t h =
+      let least = weights_in t.edges in
+      let gone = removed_of (nodes_of t) t.edges in
+      let p = n.parts.prio in
+      let q = prio.closed p least gone in
+      let one = closed_turns p least gone h in
+      let two = turns_on capacity p q q (prio.closed_effects p least gone) (rel.closed_effects n.parts.rel gone) one
+      (turns_same capacity q q (rel.closed_effects n.parts.rel gone) (ending_away gone n.parts.rel.flows) refl refl one.are) in
+      turns_on capacity p p q (effects.Version t.version ∷ []) (prio.closed_effects p least gone ++ rel.closed_effects n.parts.rel gone)
+      (turns_same capacity p p (effects.Version t.version ∷ []) (λ place. (Tells_version, tt)) refl refl h) two
+
+  publish_turns : (arts : Arts) (n : NodeState) (bytes : List ℕ) → PlacesAre capacity n.parts.prio
+      → Turns capacity n.parts.prio (publish_effects arts n bytes) (after_publish arts n bytes).parts.prio
+  publish_turns arts n bytes h =
+      publishing arts n bytes (λ m told. Turns capacity n.parts.prio told m.parts.prio)
+      (turns_same capacity n.parts.prio n.parts.prio [] none_away refl refl h) (λ d reads by. version_turns n bytes d.topology h)
+
+  read_turns : (arts : Arts) (n : NodeState) (document : Option (List ℕ)) → PlacesAre capacity n.parts.prio
+      → Turns capacity n.parts.prio (document_effects arts n document) (read_by arts n document).parts.prio
+  read_turns arts n document h =
+      reading arts n document (λ m told. Turns capacity n.parts.prio told m.parts.prio)
+      (turns_same capacity n.parts.prio n.parts.prio [] none_away refl refl h) (λ bytes d is reads by. version_turns n bytes d.topology h)
+
   -- a signature first
   signed_turns : (p new : PrioState) (bytes : List ℕ) (es : List Effect) → PlacesAre capacity p → Turns capacity p es new
       → Turns capacity p (effects.Signed bytes ∷ es) new
@@ -274,10 +328,11 @@ module _ (x : Setting) (arts : Arts) (fits : SettingFits arts x) (P : Kept → T
   turned n (steps.Poll v) output after step input is h = go (call_refusal n v) (ap (λ (o : Output). o.effects) step.0) step.1
     where
       go : (r : Option NodeRefused) → output.effects ≡ (refused_call r (replied (steps.Frame (frame_to arts n v)))).effects
-          → after ≡ kept_or r n (called n (with_link n v (advanced (link_in n v))) (polled n.fixed n.parts v)) → Done n output after
+          → after ≡ kept_or r n (called n (with_link n v (advanced (link_in n v))) (parts_after n v)) → Done n output after
       go None e f =
-          by n output after (called n (with_link n v (advanced (link_in n v))) (polled n.fixed n.parts v)) [] e f
-          (carried_turns x.store x.topology.format n.parts.prio v.0 h)
+          by n output after (called n (with_link n v (advanced (link_in n v))) (parts_after n v)) [] e f
+          (cond_either (λ (p : Parts). Turns x.store n.parts.prio [] p.prio) (is_served n v) (polled n.fixed n.parts v) n.parts
+          (carried_turns x.store x.topology.format n.parts.prio v.0 h) (still n h))
       go (Some refused) e f = by n output after n [] e f (still n h)
   turned n (steps.Datagram v bytes) output after step input is h = go (call_refusal n v) (ap (λ (o : Output). o.effects) step.0) step.1
     where
@@ -286,11 +341,17 @@ module _ (x : Setting) (arts : Arts) (fits : SettingFits arts x) (P : Kept → T
           (step_fields (sizes_at x P u) arts n v bytes (arts_fit arts x P u n fits is) input is.holds)
 
       go : (r : Option NodeRefused) → output.effects ≡ (refused_call r (arrived arts n v bytes)).effects
-          → after ≡ kept_or r n (called n (with_link n v (link_after arts n v bytes)) (handled arts n v bytes).parts) → Done n output after
-      go None e f = by n output after (called n (with_link n v (link_after arts n v bytes)) (handled arts n v bytes).parts) (handled arts n v bytes).effects e f
-          (let first = greeted_turns x.store x.topology.format (n.fixed.epochs && has_risen (link_in n v) (link_after arts n v bytes)) v n.parts h in
+          → after ≡ kept_or r n (read_by arts (before_document arts n v bytes) (document_at arts n v bytes)) → Done n output after
+      go None e f =
+          let left = before_document arts n v bytes in
+          let document = document_at arts n v bytes in
+          let first = greeted_turns x.store x.topology.format (n.fixed.epochs && has_risen (link_in n v) (link_after arts n v bytes)) v n.parts h in
+          let one =
           turns_on x.store n.parts.prio (parts_met arts n v bytes).prio (handled arts n v bytes).parts.prio [] (handled arts n v bytes).effects first
-          (all_turns x.store x.topology.format arts (arrival_at n v) (parts_met arts n v bytes) (pieces_at arts n v bytes) news first.are))
+          (all_turns x.store x.topology.format arts (arrival_at n v) (parts_met arts n v bytes) (pieces_at arts n v bytes) news first.are) in
+          by n output after (read_by arts left document) ((handled arts n v bytes).effects ++ document_effects arts left document) e f
+          (turns_on x.store n.parts.prio left.parts.prio (read_by arts left document).parts.prio (handled arts n v bytes).effects
+          (document_effects arts left document) one (read_turns x.store x.topology.format arts left document one.are))
       go (Some refused) e f = by n output after n [] e f (still n h)
   turned n (steps.Tick now) output after step input is h =
       by n output after (settled_by arts (at_time n now) (due_now n) (signer_refusal n.signer))
@@ -354,3 +415,6 @@ module _ (x : Setting) (arts : Arts) (fits : SettingFits arts x) (P : Kept → T
   turned n steps.TakePrio output after step input is h =
       by n output after (after_take_prio n) (rows.gone 0 whys.Taken (oldest n.parts.prio.inbox)) (ap (λ (o : Output). o.effects) step.0) step.1
       (taken_turns x.store x.topology.format n.parts.prio h)
+  turned n (steps.Publish document) output after step input is h =
+      by n output after (after_publish arts n document) (publish_effects arts n document) (ap (λ (o : Output). o.effects) step.0) step.1
+      (publish_turns x.store x.topology.format arts n document h)

@@ -1,5 +1,5 @@
 -- The turns of a run without epochs, whether or not something of them is forged; and that signed objects are kept by them, whatever key files say.
-use Rattle.std.proofs.Common.{◌≡◌, true, false, List, [], ◌∷◌, ◌++◌, Some, None, sym, subst, ◌∙◌, inl, inr}
+use Rattle.std.proofs.Common.{◌≡◌, true, false, List, [], ◌∷◌, ◌++◌, Some, None, sym, subst, ◌∙◌, inl, inr, ap}
 use Rattle.std.specs.Prelude.{◌⊎◌}
 use Rattle.sp_rules.specs.Arts.{Arts}
 use Rattle.sp_runs.specs.Forgery.{forged}
@@ -7,11 +7,13 @@ use Rattle.sp_runs.specs.Runs.{Clean, InRange, Lives, Move, Moves, Spends, Stays
 use Rattle.sp_runs.specs.Settings.{Setting, StaysUp}
 use Rattle.sp_runs.specs.Worlds.{World, node_in}
 use Rattle.sp_journal.specs.declared.entry.Entry.{Entry}
+use Rattle.sp_schedule_events.specs.Documents.{with_list}
 use Rattle.sp_schedule_events.specs.declared.event.Event.{Event}
 use Rattle.laws_runs.specs.Premises.{Carries}
 use Rattle.laws_runs.specs.Signs.{Signs}
 use Rattle.laws_runs.proofs.Plain.{Goes, Plain, Rests, plain_turn}
 use Rattle.laws_runs.proofs.Ready.{ready_plain}
+use Rattle.laws_runs.proofs.Started.{craft_list}
 use Rattle.laws_runs.proofs.Signed.{EachFrame, moves_keep, stay_keep}
 
 -- a turn is a move in the world as it is, or the crafting signer is spent
@@ -40,6 +42,7 @@ plain_signs arts x es js old e j new fits reads h range turn unforged = go (plai
     go : Plain arts x es js old e j new → Signs arts x (es ++ e ∷ []) (js ++ j ∷ []) new
     go (Goes m none) = moves_keep arts x es js old e j new fits.fits reads h range.fields m none
     go (Rests s) =
-        stay_keep arts x es js old e j new h
+        stay_keep arts x es js old e j new h range.fields
+        (ap (λ (w : World). w.published) s.world ∙ sym (ap (with_list old.published) (craft_list s.key e s.is_craft)))
         (λ u n at. inl (subst (λ (w : World). node_in w.nodes u ≡ Some n) s.world at))
         (λ F all. subst (λ (w : World). EachFrame F w.directions) (sym s.world) all)

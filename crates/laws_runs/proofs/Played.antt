@@ -1,6 +1,7 @@
 -- What a place holds as its effects are played one after the other, and that it is what the stored entries without the gone ones are.
 use Rattle.laws_runs.specs.Places.{FreshIf, Shelf, Steps, less_held, no_shelf, shelf_after, shelf_by}
-use Rattle.std.proofs.Common.{◌≡◌, ◌<◌, ◌≤◌, ℕ, ◌==◌, ◌&&◌, ◌||◌, Bool, true, false, not, List, [], ◌∷◌, ◌++◌, filter, flat_map, refl, sym, ap, subst, ◌∙◌, inl, inr, arith, append_assoc}
+use Rattle.std.proofs.Common.{◌≡◌, ◌<◌, ◌≤◌, ℕ, ◌==◌, ◌&&◌, ◌||◌, Bool, true, false, not, List, [], ◌∷◌, ◌++◌, filter, flat_map, refl, sym, ap, subst, ◌∙◌, inl}
+use Rattle.std.proofs.Common.{inr, arith, append_assoc}
 use Rattle.std.specs.List.{list_any}
 use Rattle.std.proofs.Math.Bool.{or-false}
 use Rattle.std.proofs.lemmas.Bool.{cases_Bool, eq-eqb, eqb-true, ne_eqb}
@@ -116,6 +117,7 @@ one_more capacity p es st (effects.Signed bytes) fresh h = quiet p es st (effect
 one_more capacity p es st (effects.Delivered src seq payload) fresh h = quiet p es st (effects.Delivered src seq payload) refl (λ id. refl) h
 one_more capacity p es st (effects.DeliveredPrio src seq payload) fresh h = quiet p es st (effects.DeliveredPrio src seq payload) refl (λ id. refl) h
 one_more capacity p es st (effects.WeightHeld origin edge seq weight) fresh h = quiet p es st (effects.WeightHeld origin edge seq weight) refl (λ id. refl) h
+one_more capacity p es st (effects.Version version) fresh h = quiet p es st (effects.Version version) refl (λ id. refl) h
 one_more capacity p es st (effects.Ended flow) fresh h = quiet p es st (effects.Ended flow) refl (λ id. refl) h
 one_more capacity p es st (effects.Stored place id src seq prio) fresh h = elim (cases_Bool (place == p)) [
   | inl t ↦

@@ -1,13 +1,14 @@
 -- What is played is a run without forgery.
 use Rattle.std.proofs.Common.{cond, inl, inr, ◌≡◌, ℕ, Bool, true, false, List, [], ◌∷◌, ◌++◌, Option, Some, None, refl, sym, ap, subst, ◌∙◌}
-use Rattle.std.specs.Prelude.{nat_lt, option_map}
+use Rattle.std.specs.Prelude.{nat_lt, option_map, unwrap_or}
 use Rattle.std.proofs.lemmas.Bool.{cases_Bool}
+use Rattle.sp_frame.specs.Sections.{with_document}
 use Rattle.sp_rules.specs.Node.{NodeState}
 use Rattle.sp_rules.specs.Steps as steps
 use Rattle.sp_rules.specs.Steps.{Input, NodeStep}
 use Rattle.laws_node.specs.Story.{toys}
 use Rattle.sp_runs.specs.Forgery.{forged}
-use Rattle.sp_runs.specs.Inputs.{acting, crafted_contents, crafted_frame, flipped, input_of}
+use Rattle.sp_runs.specs.Inputs.{acting, crafted_contents, crafted_document, crafted_frame, flipped, input_of, last_weights, may_sign}
 use Rattle.sp_runs.specs.Journals.{reply_word}
 use Rattle.sp_runs.specs.Runs.{Clean, InRange, next_frame}
 use Rattle.sp_runs.specs.Settings.{Setting}
@@ -34,6 +35,7 @@ plain_step n (steps.SendPrio m) plain = absurd plain
 plain_step n (steps.SetWeight v weight) plain = (refl, refl)
 plain_step n (steps.TakeRel src) plain = (refl, refl)
 plain_step n steps.TakePrio plain = (refl, refl)
+plain_step n (steps.Publish document) plain = (refl, refl)
 
 abbrev IsClean : Setting → Played → Type 0
 IsClean x p = Clean toys x p.events p.journal p.world
@@ -91,6 +93,15 @@ plain_input x es w n (events.Weight a b c) i none is = just _ i tt is
 plain_input x es w n (events.Poll a b) i none is = just _ i tt is
 plain_input x es w n (events.Pass a b c) i none is = from_frame (steps.Datagram a) (λ bytes. tt) (frame_in w.directions a b c) i is
 plain_input x es w n (events.Flip a b c d f) i none is = from_frame (λ bytes. steps.Datagram a (flipped d f bytes)) (λ bytes. tt) (frame_in w.directions a b c) i is
+plain_input x es w n (events.Publish u weights) i none is = just _ i tt is
+plain_input x es w n (events.CraftDocument c v key version weights) i none is = go (may_sign x w.crafted key) is
+  where
+    bytes : List ℕ
+    bytes = crafted_frame toys n c (with_document (crafted_document toys x w.crafted key version (unwrap_or weights (last_weights x w.published))))
+
+    go : (t : Bool) → cond t (Some (steps.Datagram c bytes)) None ≡ Some i → IsPlain i
+    go true is = just _ i tt is
+    go false is = absurd cc
 plain_input x es w n (events.Inject a b c) i none is = just _ i tt is
 plain_input x es w n (events.Craft a b c d) i none is = go (nat_lt (crafts w.crafted c) x.total) is
   where

@@ -1,6 +1,6 @@
 -- What each change of the priority part of a node keeps of the numbers of a source that were told.
 use Rattle.std.proofs.Common.{◌≡◌, ◌<◌, ℕ, zero, suc, ◌+◌, ◌==◌, Bool, true, false, cond, eqb, List, [], ◌∷◌, ◌++◌, length, map, Option, Some, None, refl}
-use Rattle.std.proofs.Common.{sym, ap, subst, ◌∙◌, inl, inr, arith}
+use Rattle.std.proofs.Common.{sym, ap, subst, ◌∙◌, inl, inr, arith, filter}
 use Rattle.std.specs.Prelude.{◌⊎◌, ◌≢◌, ◌&&◌, slice_index_or, slice_set}
 use Rattle.std.specs.List.{flat_map}
 use Rattle.std.proofs.lemmas.Bool.{cases_Bool, cases_eq, eq-eqb, eqb-true}
@@ -13,9 +13,15 @@ use Rattle.sp_msg.specs.declared.body.Body.TheVariants as bodies
 use Rattle.sp_msg.specs.declared.effect.Effect.{Effect}
 use Rattle.sp_msg.specs.declared.effect.Effect.TheVariants as effects
 use Rattle.sp_msg.specs.declared.effect.Why.{Why}
-use Rattle.sp_msg.specs.declared.effect.Why.TheVariants.{Acked, Evicted, Expired}
+use Rattle.sp_msg.specs.declared.effect.Why.TheVariants.{Acked, Evicted, Expired, Withdrawn}
 use Rattle.sp_msg.specs.declared.kept.Kept.{Kept}
+use Rattle.sp_rules.specs.Documents.{version_effects}
 use Rattle.sp_rules.specs.Handle.{weight_effects}
+use Rattle.sp_rules.specs.Node.{NodeState}
+use Rattle.sp_rules.specs.Parts.{nodes_of}
+use Rattle.sp_rules.specs.Rel as rel
+use Rattle.sp_rules.specs.Topologies.{is_shut, removed_of, weights_in}
+use Rattle.sp_topology.specs.declared.topology.Topology.{Topology}
 use Rattle.sp_rules.specs.Prio as prio
 use Rattle.sp_rules.specs.Prio.{PrioState, admit_prio, acked_effects, is_here, is_node, judge_prio, marked, place_of, prio_effects, renewed, spread}
 use Rattle.sp_rules.specs.Prio.{window_at, window_in, windows_with}
@@ -92,14 +98,29 @@ mute_left place s (pair ∷ pairs) =
 pub mute_acked : (p : PrioState) (v number : ℕ) → Mute (acked_effects p v number)
 mute_acked p v number = let q = prio.peer_in p v in mute_left q.peer q.store (rows.landed q number)
 
-mute_expiring : (place : ℕ) (es : List Entry) → Mute (map (λ e. effects.Gone place e.id Expired) es)
-mute_expiring place [] = mute_none
-mute_expiring place (e ∷ es) = let rest = mute_expiring place es in record { none = λ s. rest.none s }
+mute_leaving : (why : Why) (place : ℕ) (es : List Entry) → Mute (map (λ e. effects.Gone place e.id why) es)
+mute_leaving why place [] = mute_none
+mute_leaving why place (e ∷ es) = let rest = mute_leaving why place es in record { none = λ s. rest.none s }
 
 pub mute_expired : (p : PrioState) (now : ℕ) → Mute (prio.expired_effects p now)
 mute_expired p now =
-    mute_append (rows.expired_effects 0 p.inbox now) _ (mute_expiring 0 (expired_entries p.inbox now))
-    (mute_flat (λ (q : PrioPeer). rows.expired_effects q.peer q.store now) (λ q. mute_expiring q.peer (expired_entries q.store now)) p.peers)
+    mute_append (rows.expired_effects 0 p.inbox now) _ (mute_leaving Expired 0 (expired_entries p.inbox now))
+    (mute_flat (λ (q : PrioPeer). rows.expired_effects q.peer q.store now) (λ q. mute_leaving Expired q.peer (expired_entries q.store now)) p.peers)
+
+mute_over : (t : Bool) (f : FlowState) → Mute (cond t (effects.Ended (ends f) ∷ []) [])
+mute_over true f = record { none = λ s. refl }
+mute_over false f = mute_none
+
+-- another version of the topology
+pub mute_version : (n : NodeState) (t : Topology) → Mute (version_effects n t)
+mute_version n t =
+    let least = weights_in t.edges in
+    let gone = removed_of (nodes_of t) t.edges in
+    let h =
+    mute_append (prio.closed_effects n.parts.prio least gone) (rel.closed_effects n.parts.rel gone)
+    (mute_flat (rows.closed_effects least gone) (λ q. mute_leaving Withdrawn q.peer (filter (rows.leaves (is_shut least q.edge) gone) q.store.entries)) n.parts.prio.peers)
+    (mute_flat (rel.ended_effect gone) (λ f. mute_over (f.active && rel.is_over gone (ends f)) f) n.parts.rel.flows) in
+    record { none = λ s. h.none s }
 
 pub mute_rel : (t : Bool) (body : Body) → Mute (cond t (delivery body ∷ []) [])
 mute_rel true body = record { none = λ s. refl }

@@ -23,13 +23,14 @@ use Rattle.laws_node.specs.Inputs.{InputFits}
 use Rattle.laws_node.proofs.Epochs.{own_boot_stays}
 use Rattle.laws_node.proofs.Spellings.{no_other_is_spelled_so}
 use Rattle.sp_runs.specs.Forgery.{forged_object, is_among}
-use Rattle.sp_runs.specs.Inputs.{acting, crafted_frame, flipped, input_of, slot_alone}
+use Rattle.sp_runs.specs.Inputs.{acting, crafted_frame, flipped, input_of, slot_alone, handed_out}
 use Rattle.sp_runs.specs.Lives.{ready}
 use Rattle.sp_runs.specs.Runs.{Move, next_frame}
 use Rattle.sp_runs.specs.Settings.{Setting, SettingFits, is_correct}
 use Rattle.sp_runs.specs.Told.{Message, prio_accepted_in, prio_by, signed, signed_by, told_at}
 use Rattle.sp_runs.specs.Worlds.{World, node_in}
 use Rattle.sp_journal.specs.declared.entry.Entry.{Entry}
+use Rattle.sp_schedule_events.specs.Documents.{with_list}
 use Rattle.sp_schedule_events.specs.declared.event.Event.{Event}
 use Rattle.sp_schedule_events.specs.declared.event.Event.TheVariants as events
 use Rattle.laws_runs.specs.HeldBoots.{BootClaims}
@@ -113,6 +114,8 @@ sends_prio arts x w n (events.Inject u v bytes) i b reaches kind = absurd (asked
 sends_prio arts x w n (events.Craft u v key body) i b reaches kind = absurd (brought i u b (crafted_bytes _ u _ i reaches) kind)
 sends_prio arts x w n (events.CraftStatus u v s d base have) i b reaches kind =
     absurd (asked i (steps.Datagram u (crafted_frame arts n u (slot_alone n.parts.lives (flow_of s d) base have None []))) b (cc) kind)
+sends_prio arts x w n (events.Publish u weights) i b reaches kind = absurd (asked i (steps.Publish (handed_out x (with_list w.published weights))) b (cc) kind)
+sends_prio arts x w n (events.CraftDocument u v key version weights) i b reaches kind = absurd (brought i u b (crafted_bytes _ u _ i reaches) kind)
 sends_prio arts x w n (events.Start u) i b reaches kind = absurd cc
 sends_prio arts x w n (events.Stop u) i b reaches kind = absurd cc
 

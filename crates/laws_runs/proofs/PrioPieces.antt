@@ -21,6 +21,7 @@ use Rattle.sp_rules.specs.Parts.{Parts, is_signed}
 use Rattle.sp_rules.specs.Pieces.{Piece, WeightPiece, PrioAckPiece, PrioPiece, ReportPiece, AckPiece, RelPiece, EpochPiece}
 use Rattle.sp_rules.specs.Prio as prio
 use Rattle.sp_rules.specs.Prio.{PrioState, admit_prio, acked_effects, is_here, is_node, judge_prio, marked, place_of, prio_effects, window_in, windows_with}
+use Rattle.sp_rules.specs.Prio.{is_there}
 use Rattle.sp_rules.specs.PrioPeer as rows
 use Rattle.sp_rules.specs.Rel.{admit_ack, admit_rel, is_to, judge_ack_of, judge_rel_of, rel_effects, reported, restart_effects}
 use Rattle.sp_rules.specs.Flow.{flow_said}
@@ -45,6 +46,7 @@ use Rattle.laws_runs.proofs.PrioFacts.{Mute, PrioIs, begun, marks, marks_told, m
 use Rattle.laws_runs.proofs.PrioFacts.{mute_weight, other_begun, prio_numbers, same_windows, spread_same}
 use Rattle.laws_runs.proofs.StartPieces.{StartLast, same_lives, start_follows}
 use Rattle.laws_runs.proofs.Tables.{same_node}
+use Rattle.laws_runs.proofs.Lists.{both}
 
 -- ---- a message comes
 
@@ -69,13 +71,13 @@ not_not false e = absurd (cc)
 
 pub new_prio : (p : PrioState) (body : Body) (now : ℕ) → judge_prio p body now ≡ judgements.New → NewPrio p body
 new_prio p (bodies.Prio b) now e =
-    let one = passes (not (is_node p.nodes b.src.0) || not (is_node p.nodes b.dst.0) || (b.src.0 == b.dst.0)) judgements.BadEnd _ (λ f. cc) e in
+    let one = passes (not (is_there p b.src.0) || not (is_there p b.dst.0) || (b.src.0 == b.dst.0)) judgements.BadEnd _ (λ f. cc) e in
     let two = passes (nat_lt b.expiry now) judgements.Expired _ (λ f. cc) one.1 in
     let three = passes ((b.src.0 == p.me) || is_seen (window_in p b.src.0) b.seq) judgements.Seen judgements.New (λ f. cc) two.1 in
     record {
       b = b;
       is = refl;
-      node = not_not _ (neither _ _ (neither _ _ one.0).0).0;
+      node = (both (is_node p.nodes b.src.0) _ (not_not (is_there p b.src.0) (neither _ _ (neither _ _ one.0).0).0)).0;
       unseen = (neither _ _ three.0).1;
     }
 new_prio p (bodies.Rel b) now e = absurd (cc)

@@ -19,10 +19,10 @@ use Rattle.sp_rules.specs.Prio.{window_in}
 use Rattle.sp_rules.specs.Window.{is_in, is_seen}
 use Rattle.laws_node.specs.Shapes.{Shape}
 use Rattle.laws_node.proofs.Spellings.{no_other_is_spelled_so}
-use Rattle.sp_runs.specs.Forgery.{forged_object, has_forged_tag, is_among}
+use Rattle.sp_runs.specs.Forgery.{forged_document, forged_object, has_forged_tag, is_among}
 use Rattle.sp_runs.specs.Inputs.{acting}
 use Rattle.sp_runs.specs.Lives.{IsStart, next_start, ready}
-use Rattle.sp_runs.specs.Runs.{Clean, InRange, IsCraftOf, Lives, Moves, Starts, Stays, Turn, Turned, forged_in}
+use Rattle.sp_runs.specs.Runs.{Clean, InRange, Lives, Moves, Starts, Stays, Turn, Turned, forged_in}
 use Rattle.sp_runs.specs.Settings.{Setting, SettingFits, fixed_at, link_keys, node_at_start, signer_from}
 use Rattle.sp_runs.specs.Told.{Message, prio_accepted_in, prio_by, prio_delivered, prio_sent, signed, signed_by, told_at}
 use Rattle.sp_runs.specs.Worlds.{World, at_start, node_in}
@@ -37,7 +37,7 @@ use Rattle.laws_runs.specs.Premises.{Carries}
 use Rattle.laws_runs.specs.Priority.{AreOnce, PriorityIsKept}
 use Rattle.laws_runs.specs.Signs.{Good, NodeIs, Signs}
 use Rattle.laws_runs.proofs.Begun.{good}
-use Rattle.laws_runs.proofs.Goods.{unforged_tag}
+use Rattle.laws_runs.proofs.Goods.{unforged_both}
 use Rattle.laws_runs.proofs.HeldBoots.{boots_ready, boots_rise, held_boots_are_born, turns_keep_boots}
 use Rattle.laws_runs.proofs.KeyFiles.{key_files_stand, ready_once}
 use Rattle.laws_runs.proofs.LifeCases.{Exhausts, LifeCase, Nobody, Starts_now, Stops, life_case}
@@ -48,6 +48,7 @@ use Rattle.laws_runs.proofs.PrioMoves.{PrioHold, numbers, prio_moved, prio_ready
 use Rattle.laws_runs.proofs.Reaches.{input_fits}
 use Rattle.laws_runs.proofs.Running.{more_found, without_left}
 use Rattle.laws_runs.proofs.Signed.{signs, signs_begin, signs_ready, turns_keep_signs}
+use Rattle.laws_runs.proofs.Started.{of_craft}
 
 -- ---- a turn in which no node moves
 
@@ -209,8 +210,9 @@ module _ (arts : Arts) (x : Setting) (es : List Event) (js : List Entry) (old : 
       let v = ready x old e in
       let there = signs_ready arts x es js old e keys signs in
       prio_moved arts x s d fits reads es js happened v new e j there (boots_ready arts x es js old e boots) m
-      (input_fits arts x es v m.node e m.input reads there.bytes range.fields m.reaches)
-      (unforged_tag (has_forged_tag arts x v m.node m.input) (forged_object arts x es js m.output.answered) unforged).1
+      (input_fits arts x es v m.node e m.input fits reads there.bytes range.fields m.reaches)
+      (unforged_both (has_forged_tag arts x v m.node m.input) (forged_object arts x es js m.output.answered)
+      (forged_document arts es m.output.adopted) unforged).1
       (prio_ready arts x s d es js happened old e h)
   prio_on (Stays spends) unforged = prio_stays (ap (λ (w : World). w.nodes) spends.world) (ap (λ (w : World). w.keys) spends.world) spends.effects
   prio_on (Lives on life) unforged =
@@ -273,22 +275,6 @@ life_priority_is_kept arts x es js w fits reads run s d correct =
     let h = prio_hold arts x es js w fits reads run s d in record { once = h.once; authentic = h.authentic }
 
 -- without epochs all is told under the boots 0
-quiet_craft : (s d key : NodeId) (e : Event) (j : Entry) → IsCraftOf key e → prio_accepted_in s d e j.reply ≡ []
-quiet_craft s d key (events.Craft c v k body) j is = refl
-quiet_craft s d key (events.Rel a b p) j is = absurd is
-quiet_craft s d key (events.Prio a b p q r t) j is = absurd is
-quiet_craft s d key (events.Take a b) j is = absurd is
-quiet_craft s d key (events.TakePrio a) j is = absurd is
-quiet_craft s d key (events.Tick a b) j is = absurd is
-quiet_craft s d key (events.Weight a b c) j is = absurd is
-quiet_craft s d key (events.Poll a b) j is = absurd is
-quiet_craft s d key (events.Pass a b c) j is = absurd is
-quiet_craft s d key (events.Flip a b c f g) j is = absurd is
-quiet_craft s d key (events.Inject a b c) j is = absurd is
-quiet_craft s d key (events.CraftStatus a b c f g i) j is = absurd is
-quiet_craft s d key (events.Start a) j is = absurd is
-quiet_craft s d key (events.Stop a) j is = absurd is
-
 pub priority_is_kept : PriorityIsKept
 priority_is_kept arts x es js w fits reads run s d correct =
     let claims = life_priority_is_kept arts x es js w fits.fits reads run s d correct in
@@ -300,7 +286,8 @@ priority_is_kept arts x es js w fits reads run s d correct =
     let sent : prio_sent_under (past arts x es js w run) s 0 d ≡ prio_sent es js s d =
     past_is_plain (λ (h : Happened). prio_sent_in s 0 d h h.mover) (λ p. prio_accepted_in s d p.0 p.1.reply)
     (λ e j n none. let zero = none s in rw zero refl)
-    (λ y old new e j spends. sym (quiet_craft s d spends.key e j spends.is_craft))
+    (λ y old new e j spends. sym (of_craft (λ f. prio_accepted_in s d f j.reply ≡ []) (λ c v key object. refl) (λ c v key version weights. refl)
+    spends.key e spends.is_craft))
     arts x es js w fits reads run in
     record {
       once = subst (λ (ms : List Message). AreOnce (numbers ms)) delivered (claims.once 0 0);

@@ -1,8 +1,11 @@
 -- What each step of a node tells and keeps of priority messages, and what it signs of them.
 use Rattle.std.proofs.Common.{◌≡◌, ℕ, ◌==◌, Bool, true, false, cond, List, [], ◌∷◌, ◌++◌, Option, Some, None, refl, sym, ap, ap₂, subst, ◌∙◌, inl, inr, arith}
+use Rattle.std.proofs.Common.{map, ◌<◌}
 use Rattle.std.specs.Prelude.{◌&&◌, ◌||◌, not, IsTrue}
-use Rattle.std.specs.List.{Contains, flat_map}
+use Rattle.std.specs.List.{Contains, flat_map, All}
 use Rattle.std.proofs.lemmas.Bool.{eq-eqb}
+use Rattle.std.proofs.lemmas.List.{append-nil}
+use Rattle.std.proofs.lemmas.List.Concat.{flat_map-append}
 use Rattle.sp_base.specs.declared.id.NodeId.{NodeId}
 use Rattle.sp_msg.specs.declared.body.Ack.{Ack}
 use Rattle.sp_msg.specs.declared.body.Body.{Body}
@@ -14,22 +17,26 @@ use Rattle.sp_msg.specs.declared.effect.Why.TheVariants.{Taken}
 use Rattle.sp_msg.specs.declared.kept.Kept.{Kept}
 use Rattle.sp_msg.specs.declared.refused.SendRefused.{SendRefused}
 use Rattle.sp_msg.specs.declared.refused.SendRefused.TheVariants as refusals
-use Rattle.sp_rules.specs.Arrivals.{arrival_at, greeted, handled, has_risen, link_after, parts_met, reply_at, sections_in}
+use Rattle.sp_rules.specs.Arrivals.{arrival_at, greeted, handled, has_risen, link_after, parts_met, reply_at, sections_in, before_document, document_at}
+use Rattle.sp_rules.specs.Arrivals.{read_by}
 use Rattle.sp_rules.specs.Arts.{Arts}
+use Rattle.sp_rules.specs.Documents.{publish_effects, under_topology, version_effects}
 use Rattle.sp_rules.specs.Handle.{weight_effects}
+use Rattle.sp_topology.specs.declared.topology.Topology.{Topology}
 use Rattle.sp_rules.specs.Lives.{held_boot}
 use Rattle.sp_rules.specs.Link.{advanced}
 use Rattle.sp_rules.specs.Masks.{Choice}
 use Rattle.sp_rules.specs.Node.{NodeState, call_refusal, called, kept_or, link_in, signed_now, signed_once, with_link}
-use Rattle.sp_rules.specs.Parts.{Fixed}
-use Rattle.sp_rules.specs.Polls.{frame_to, polled}
+use Rattle.sp_rules.specs.Parts.{Fixed, Parts}
+use Rattle.sp_rules.specs.Polls.{frame_to, polled, is_served, parts_after}
 use Rattle.sp_rules.specs.Prio as prio
 use Rattle.sp_rules.specs.Prio.{admit_prio, expired_effects, is_here, marked, prio_effects}
 use Rattle.sp_rules.specs.PrioPeer.{gone}
 use Rattle.sp_rules.specs.Rel.{pushed_in}
-use Rattle.sp_rules.specs.Sends.{PrioSend, is_unmet, mask_in, no_paths, own_prio, prio_body, prio_refusal, prio_sent as prio_told, rel_body, rel_number, rel_refusal, rel_sent, send_prio_refusal, signer_refusal, weight_body, weight_number, weight_refusal, weight_sent}
+use Rattle.sp_rules.specs.Sends.{PrioSend, is_unmet, mask_in, no_paths, own_prio, prio_body, prio_refusal, prio_sent as prio_told, rel_body, rel_number}
+use Rattle.sp_rules.specs.Sends.{rel_refusal, rel_sent, send_prio_refusal, signer_refusal, weight_body, weight_number, weight_refusal, weight_sent}
 use Rattle.sp_rules.specs.Steps as steps
-use Rattle.sp_rules.specs.Steps.{Input, NodeStep, Output, accepted, arrived, refused_call, refused_send, replied}
+use Rattle.sp_rules.specs.Steps.{Input, NodeStep, Output, accepted, arrived, refused_call, refused_send, replied, document_effects}
 use Rattle.sp_rules.specs.Store.{oldest, said}
 use Rattle.sp_rules.specs.Ticks.{ack_effects, at_time, due_now, settled_by, time_after}
 use Rattle.sp_rules.specs.Weights.{held}
@@ -40,11 +47,13 @@ use Rattle.laws_node.specs.Inputs.{InputFits, ReadsBack}
 use Rattle.laws_node.proofs.About.{prio_good}
 use Rattle.laws_node.proofs.Own.{either}
 use Rattle.laws_node.proofs.Spellings.{no_other_is_spelled_so}
+use Rattle.laws_node.proofs.Adopting.{publishing, reading}
+use Rattle.laws_node.proofs.Tables.{cond_either}
 use Rattle.sp_node_words.specs.Words.{refused_word}
 use Rattle.sp_runs.specs.Forgery.{is_among}
 use Rattle.sp_runs.specs.Journals.{Says, reply_word}
 use Rattle.sp_runs.specs.Settings.{Setting, SettingFits}
-use Rattle.sp_runs.specs.Told.{Message, prio_accepted_in, signed_by}
+use Rattle.sp_runs.specs.Told.{Message, prio_accepted_in, signed_by, prio_by}
 use Rattle.sp_journal.specs.declared.entry.Entry.{Entry}
 use Rattle.sp_journal.specs.declared.entry.Reply.{Reply}
 use Rattle.sp_journal.specs.declared.entry.Reply.TheVariants as replies
@@ -54,10 +63,11 @@ use Rattle.laws_runs.proofs.Goods.{arts_fit}
 use Rattle.laws_runs.proofs.Lists.{among_cons}
 use Rattle.laws_runs.proofs.NoStarts.{pieces_at}
 use Rattle.laws_runs.proofs.PrioFacts.{Mute, PrioIs, marks, mute_append, mute_expired, mute_gone, mute_none, mute_own, mute_signed, mute_weight, same_windows}
-use Rattle.laws_runs.proofs.PrioFacts.{spread_same}
-use Rattle.laws_runs.proofs.PrioPieces.{PrioCame, VouchedPrio, all_came, came_same, muted}
+use Rattle.laws_runs.proofs.PrioFacts.{spread_same, mute_version}
+use Rattle.laws_runs.proofs.PrioPieces.{PrioCame, VouchedPrio, all_came, came_same, muted, PrioEnds, Same_life, Next_life}
 use Rattle.laws_runs.proofs.Quiet.{quiet_prio}
 use Rattle.laws_runs.proofs.StartPieces.{greeted_lives, last_where}
+use Rattle.laws_runs.specs.Priority.{AreOnce}
 
 -- ---- steps that bring nothing, and send no priority message
 
@@ -80,18 +90,24 @@ calm_none n = record { mute = mute_none; lives = refl; me = refl; nodes = refl; 
 calm_as : (n done after : NodeState) (es told : List Effect) → told ≡ es → after ≡ done → Calm n done es → Calm n after told
 calm_as n done after es told e f calm = subst (Calm n after) (sym e) (subst (λ (m : NodeState). Calm n m es) (sym f) calm)
 
+-- another version of the topology
+version_calm : (n : NodeState) (bytes : List ℕ) (t : Topology) → Calm n (under_topology n bytes t) (version_effects n t)
+version_calm n bytes t = record { mute = mute_version n t; lives = refl; me = refl; nodes = refl; windows = refl }
+
+document_calm : (arts : Arts) (n : NodeState) (document : Option (List ℕ)) → Calm n (read_by arts n document) (document_effects arts n document)
+document_calm arts n document = reading arts n document (λ m told. Calm n m told) (calm_none n) (λ bytes d is reads by. version_calm n bytes d.topology)
+
 calm_step : (arts : Arts) (n : NodeState) (i : Input) (output : Output) (after : NodeState) → IsCalm i → NodeStep arts n i output after
     → Calm n after output.effects
 calm_step arts n (steps.Poll v) output after is step = go (call_refusal n v) (ap (λ (o : Output). o.effects) step.0) step.1
   where
-    done : NodeState
-    done = called n (with_link n v (advanced (link_in n v))) (polled n.fixed n.parts v)
-
     go : (r : Option NodeRefused) → output.effects ≡ (refused_call r (replied (steps.Frame (frame_to arts n v)))).effects
-        → after ≡ kept_or r n (called n (with_link n v (advanced (link_in n v))) (polled n.fixed n.parts v)) → Calm n after output.effects
+        → after ≡ kept_or r n (called n (with_link n v (advanced (link_in n v))) (parts_after n v)) → Calm n after output.effects
     go None e f =
-        calm_as n (called n (with_link n v (advanced (link_in n v))) (polled n.fixed n.parts v)) after [] output.effects e f
+        calm_as n (called n (with_link n v (advanced (link_in n v))) (parts_after n v)) after [] output.effects e f
+        (cond_either (λ (p : Parts). Calm n (called n (with_link n v (advanced (link_in n v))) p) []) (is_served n v) (polled n.fixed n.parts v) n.parts
         (record { mute = mute_none; lives = refl; me = refl; nodes = refl; windows = refl })
+        (record { mute = mute_none; lives = refl; me = refl; nodes = refl; windows = refl }))
     go (Some refused) e f = calm_as n n after [] output.effects e f (calm_none n)
 calm_step arts n (steps.Tick now) output after is step =
     calm_as n (settled_by arts (at_time n now) (due_now n) (signer_refusal n.signer)) after
@@ -147,6 +163,9 @@ calm_step arts n (steps.TakeRel src) output after is step =
 calm_step arts n steps.TakePrio output after is step =
     calm_as n _ after (gone 0 Taken (oldest n.parts.prio.inbox)) output.effects (ap (λ (o : Output). o.effects) step.0) step.1
     (record { mute = mute_gone 0 Taken (oldest n.parts.prio.inbox); lives = refl; me = refl; nodes = refl; windows = refl })
+calm_step arts n (steps.Publish document) output after is step =
+    calm_as n _ after (publish_effects arts n document) output.effects (ap (λ (o : Output). o.effects) step.0) step.1
+    (publishing arts n document (λ m told. Calm n m told) (calm_none n) (λ d reads by. version_calm n document d.topology))
 calm_step arts n (steps.Datagram v bytes) output after is step = absurd is
 calm_step arts n (steps.SendPrio m) output after is step = absurd is
 
@@ -170,6 +189,28 @@ module _ (C : Type 0) (s d : NodeId) (boot : ℕ) (S : List Message) (told : Lis
       let calm = calm_step arts n i output after is step in
       same_came output.effects calm.mute calm.lives (same_windows s d told n.parts.prio after.parts.prio calm.me calm.nodes calm.windows h)
 
+  -- nothing more is told
+  came_on : (left done : NodeState) (es more : List Effect) → Calm left done more → Came left es → Came done (es ++ more)
+  came_on left done es more calm came =
+      let same : flat_map (prio_by s) (es ++ more) ≡ flat_map (prio_by s) es =
+      flat_map-append (prio_by s) es more ∙ ap (λ t. flat_map (prio_by s) es ++ t) (calm.mute.none s) ∙ append-nil (flat_map (prio_by s) es) in
+      record {
+        ends = subst (λ (ms : List Message). PrioEnds s d boot (told_and ms) done.parts.lives done.parts.prio) (sym same) (go _ came.ends);
+        once = subst (λ (ms : List Message). AreOnce (told_and ms)) (sym same) came.once;
+        sent = λ k. subst (All (Contains S)) (sym same) (came.sent k);
+      }
+    where
+      told_and : List Message → List ℕ
+      told_and ms = told ++ map (λ (m : Message). m.0) ms
+
+      go : (t : List ℕ) → PrioEnds s d boot t left.parts.lives left.parts.prio → PrioEnds s d boot t done.parts.lives done.parts.prio
+      go t (Same_life held is) =
+          Same_life (ap (λ (ls : List Life). held_boot ls s) calm.lives ∙ held)
+          (same_windows s d t left.parts.prio done.parts.prio calm.me calm.nodes calm.windows is)
+      go t (Next_life above is) =
+          Next_life (subst (λ (ls : List Life). boot < held_boot ls s) (sym calm.lives) above)
+          (same_windows s d [] left.parts.prio done.parts.prio calm.me calm.nodes calm.windows is)
+
   greeted_is : (epochs risen : Bool) (v : NodeId) → PrioIs s d told (greeted epochs risen v n.parts).prio
   greeted_is true true v = same_windows s d told n.parts.prio _ refl refl refl h
   greeted_is true false v = h
@@ -185,19 +226,22 @@ module _ (C : Type 0) (s d : NodeId) (boot : ℕ) (S : List Message) (told : Lis
 
       go : (r : Option NodeRefused) → NewKeep (VouchedPrio C s d boot S) (refused_call r (arrived arts n v bytes)).answered
           → output.effects ≡ (refused_call r (arrived arts n v bytes)).effects
-          → after ≡ kept_or r n (called n (with_link n v (link_after arts n v bytes)) (handled arts n v bytes).parts) → Came after output.effects
+          → after ≡ kept_or r n (read_by arts (before_document arts n v bytes) (document_at arts n v bytes)) → Came after output.effects
       go None new e f =
-          came_as (called n (with_link n v (link_after arts n v bytes)) (handled arts n v bytes).parts) (handled arts n v bytes).effects e f
+          let left = before_document arts n v bytes in
+          let document = document_at arts n v bytes in
+          came_as (read_by arts left document) ((handled arts n v bytes).effects ++ document_effects arts left document) e f
+          (came_on left (read_by arts left document) (handled arts n v bytes).effects (document_effects arts left document) (document_calm arts left document)
           (all_came C s d boot S told arts (arrival_at n v) (parts_met arts n v bytes) (pieces_at arts n v bytes)
           (last_where (reply_at arts n v bytes) n.fixed (sections_in arts n.fixed bytes))
           (ap (λ (ls : List Life). held_boot ls s) (greeted_lives n.fixed.epochs (has_risen (link_in n v) (link_after arts n v bytes)) v n.parts) ∙ holding) new
-          (greeted_is n.fixed.epochs (has_risen (link_in n v) (link_after arts n v bytes)) v))
+          (greeted_is n.fixed.epochs (has_risen (link_in n v) (link_after arts n v bytes)) v)))
       go (Some refused) new e f =
           came_as n [] e f (came_same C s d boot S told n.parts.lives n.parts.prio [] holding (muted C s d boot S told n.parts.prio [] mute_none h))
 
-  first_false : (a b c : Bool) (q : SendRefused) (o : Option SendRefused) → cond (a || b || c) (Some q) o ≡ None → a ≡ false
-  first_false true b c q o e = absurd (cc)
-  first_false false b c q o e = refl
+  first_false : (a b c e : Bool) (q : SendRefused) (o : Option SendRefused) → cond (a || b || c || e) (Some q) o ≡ None → a ≡ false
+  first_false true b c e q o none = absurd (cc)
+  first_false false b c e q o none = refl
 
   -- an own message is for another node
   prio_came : (m : PrioSend) → NodeStep arts n (steps.SendPrio m) output after → n.fixed.me ≡ d → Came after output.effects
@@ -211,7 +255,7 @@ module _ (C : Type 0) (s d : NodeId) (boot : ℕ) (S : List Message) (told : Lis
           let p = n.parts.prio in
           let o = own_prio arts n m step.choice in
           let other : (m.dst.0 == n.fixed.me.0) ≡ false =
-          first_false (m.dst.0 == n.fixed.me.0) (not (prio.is_node n.parts.prio.nodes m.dst.0)) (is_unmet n m.dst) _ _
+          first_false (m.dst.0 == n.fixed.me.0) (not (prio.is_there n.parts.prio m.dst.0)) (not (prio.is_there n.parts.prio n.fixed.me.0)) (is_unmet n m.dst) _ _
           (either (prio_refusal n m) (no_paths step.choice) free).0 in
           let away : is_here p o.body ≡ false = ap (λ k. m.dst.0 == k) (h.me ∙ ap (λ (v : NodeId). v.0) (sym me)) ∙ other in
           let mute : Mute (prio_told arts n m step.choice) = mute_signed (arts.spell o.body) (prio_effects p o None) (mute_own p o away) in
@@ -232,6 +276,7 @@ module _ (C : Type 0) (s d : NodeId) (boot : ℕ) (S : List Message) (told : Lis
   step_came (steps.SetWeight v weight) step new me = calm_came (steps.SetWeight v weight) tt step
   step_came (steps.TakeRel src) step new me = calm_came (steps.TakeRel src) tt step
   step_came steps.TakePrio step new me = calm_came steps.TakePrio tt step
+  step_came (steps.Publish document) step new me = calm_came (steps.Publish document) tt step
 
 -- ---- a client's priority message
 

@@ -1,5 +1,5 @@
 -- Effects that say nothing of reliable messages and signatures.
-use Rattle.std.proofs.Common.{◌≡◌, ℕ, ◌+◌, Bool, true, false, cond, List, [], ◌∷◌, ◌++◌, map, Option, Some, None, refl, ◌∙◌}
+use Rattle.std.proofs.Common.{◌≡◌, ℕ, ◌+◌, Bool, true, false, cond, List, [], ◌∷◌, ◌++◌, map, Option, Some, None, refl, ◌∙◌, filter}
 use Rattle.std.specs.Prelude.{◌&&◌}
 use Rattle.std.specs.List.{flat_map}
 use Rattle.std.proofs.lemmas.List.Concat.{flat_map-append}
@@ -9,9 +9,18 @@ use Rattle.sp_msg.specs.declared.body.Body.TheVariants as bodies
 use Rattle.sp_msg.specs.declared.effect.Effect.{Effect}
 use Rattle.sp_msg.specs.declared.effect.Effect.TheVariants as effects
 use Rattle.sp_msg.specs.declared.effect.Why.{Why}
-use Rattle.sp_msg.specs.declared.effect.Why.TheVariants.{Acked, Evicted, Expired}
+use Rattle.sp_msg.specs.declared.effect.Why.TheVariants.{Acked, Evicted, Expired, Withdrawn}
 use Rattle.sp_msg.specs.declared.kept.Kept.{Kept}
+use Rattle.sp_rules.specs.Arts.{Arts}
+use Rattle.sp_rules.specs.Documents.{publish_effects, version_effects}
 use Rattle.sp_rules.specs.Handle.{weight_effects}
+use Rattle.sp_rules.specs.Node.{NodeState}
+use Rattle.sp_rules.specs.Parts.{Parts, closed_effects, nodes_of}
+use Rattle.sp_rules.specs.Rel as rel
+use Rattle.sp_rules.specs.Steps.{document_effects}
+use Rattle.sp_rules.specs.Topologies.{is_shut, removed_of, weights_in}
+use Rattle.sp_topology.specs.declared.topology.Topology.{Topology}
+use Rattle.laws_node.proofs.Adopting.{publishing, reading}
 use Rattle.sp_rules.specs.Prio as prio
 use Rattle.sp_rules.specs.Prio.{PrioState, acked_effects, prio_effects, expired_effects}
 use Rattle.sp_rules.specs.PrioPeer as rows
@@ -92,14 +101,15 @@ quiet_left place s (pair ∷ pairs) =
 pub quiet_acked : (p : PrioState) (v number : ℕ) → Quiet (acked_effects p v number)
 quiet_acked p v number = let q = prio.peer_in p v in quiet_left q.peer q.store (rows.landed q number)
 
-quiet_expiring : (place : ℕ) (es : List Entry) → Quiet (map (λ e. effects.Gone place e.id Expired) es)
-quiet_expiring place [] = quiet_none
-quiet_expiring place (e ∷ es) = let rest = quiet_expiring place es in record { no_delivery = λ a. rest.no_delivery a; no_signature = rest.no_signature }
+quiet_leaving : (why : Why) (place : ℕ) (es : List Entry) → Quiet (map (λ e. effects.Gone place e.id why) es)
+quiet_leaving why place [] = quiet_none
+quiet_leaving why place (e ∷ es) =
+    let rest = quiet_leaving why place es in record { no_delivery = λ a. rest.no_delivery a; no_signature = rest.no_signature }
 
 pub quiet_expired : (p : PrioState) (now : ℕ) → Quiet (expired_effects p now)
 quiet_expired p now =
-    quiet_append (rows.expired_effects 0 p.inbox now) _ (quiet_expiring 0 (expired_entries p.inbox now))
-    (quiet_flat (λ (q : PrioPeer). rows.expired_effects q.peer q.store now) (λ q. quiet_expiring q.peer (expired_entries q.store now)) p.peers)
+    quiet_append (rows.expired_effects 0 p.inbox now) _ (quiet_leaving Expired 0 (expired_entries p.inbox now))
+    (quiet_flat (λ (q : PrioPeer). rows.expired_effects q.peer q.store now) (λ q. quiet_leaving Expired q.peer (expired_entries q.store now)) p.peers)
 
 -- flows end where a node starts anew
 pub quiet_ended : (r : RelState) (v : NodeId) → Quiet (restart_effects r v)
@@ -108,3 +118,26 @@ quiet_ended r v = quiet_flat (ended_by v) (λ f. one f (is_end v (ends f) && f.a
     one : (f : FlowState) (t : Bool) → Quiet (cond t (effects.Ended (ends f) ∷ []) [])
     one f true = record { no_delivery = λ a. refl; no_signature = refl }
     one f false = quiet_none
+
+-- ---- another version of the topology
+
+quiet_over : (t : Bool) (f : FlowState) → Quiet (cond t (effects.Ended (ends f) ∷ []) [])
+quiet_over true f = record { no_delivery = λ a. refl; no_signature = refl }
+quiet_over false f = quiet_none
+
+quiet_closed : (p : Parts) (least : List ℕ) (gone : List NodeId) → Quiet (closed_effects p least gone)
+quiet_closed p least gone =
+    quiet_append (prio.closed_effects p.prio least gone) (rel.closed_effects p.rel gone)
+    (quiet_flat (rows.closed_effects least gone) (λ q. quiet_leaving Withdrawn q.peer (filter (rows.leaves (is_shut least q.edge) gone) q.store.entries)) p.prio.peers)
+    (quiet_flat (rel.ended_effect gone) (λ f. quiet_over (f.active && rel.is_over gone (ends f)) f) p.rel.flows)
+
+quiet_version : (n : NodeState) (t : Topology) → Quiet (version_effects n t)
+quiet_version n t =
+    let h = quiet_closed n.parts (weights_in t.edges) (removed_of (nodes_of t) t.edges) in
+    record { no_delivery = λ a. h.no_delivery a; no_signature = h.no_signature }
+
+pub quiet_publish : (arts : Arts) (n : NodeState) (bytes : List ℕ) → Quiet (publish_effects arts n bytes)
+quiet_publish arts n bytes = publishing arts n bytes (λ m told. Quiet told) quiet_none (λ d reads by. quiet_version n d.topology)
+
+pub quiet_document : (arts : Arts) (n : NodeState) (document : Option (List ℕ)) → Quiet (document_effects arts n document)
+quiet_document arts n document = reading arts n document (λ m told. Quiet told) quiet_none (λ bytes d is reads by. quiet_version n d.topology)

@@ -1,12 +1,13 @@
 -- What reaches a node is in its ranges, since the schedule is and all frames are bytes.
-use Rattle.std.proofs.Common.{◌≡◌, ◌<◌, ◌≤◌, ℕ, zero, suc, ◌-◌, ◌^◌, Bool, true, false, cond, List, [], ◌∷◌, length, Option, Some, None, refl, sym, subst, arith}
-use Rattle.std.specs.Prelude.{bit_xor, nat_lt, option_map, slice_get, slice_index_or}
+use Rattle.std.proofs.Common.{◌≡◌, ◌<◌, ◌≤◌, ℕ, zero, suc, ◌-◌, ◌^◌, Bool, true, false, cond, List}
+use Rattle.std.proofs.Common.{[], ◌∷◌, ◌++◌, length, Option, Some, None, refl, sym, subst, arith}
+use Rattle.std.specs.Prelude.{◌==◌, bit_xor, nat_lt, option_map, slice_get, slice_index_or, unwrap_or}
 use Rattle.std.specs.Option.{option_and_then}
 use Rattle.std.proofs.lemmas.List.Elements.{All-append, All-cons, All-head, All-nil, All-set, All-tail}
 use Rattle.std.proofs.lemmas.Nat.{xor_of_8}
 use Rattle.sp_base.specs.Spelling.{AreBytes}
 use Rattle.sp_base.specs.declared.id.NodeId.{NodeId}
-use Rattle.sp_frame.specs.Sections.{Contents}
+use Rattle.sp_frame.specs.Sections.{Contents, with_document}
 use Rattle.sp_msg.specs.Bodies.{payload_of}
 use Rattle.sp_msg.specs.declared.body.Body.{Body}
 use Rattle.sp_msg.specs.declared.body.Body.TheVariants as bodies
@@ -18,11 +19,13 @@ use Rattle.sp_rules.specs.Steps.{Input}
 use Rattle.laws_node.specs.Asked.{payload_in}
 use Rattle.laws_node.specs.Inputs.{InputFits}
 use Rattle.sp_rules.specs.declared.lives.Life.{Life}
-use Rattle.sp_runs.specs.Inputs.{crafted_contents, crafted_frame, crafted_head, crafted_object, dated, flipped, input_of, object_alone, slot_alone}
+use Rattle.sp_runs.specs.Inputs.{crafted_contents, crafted_document, crafted_frame, crafted_head, crafted_object, dated, flipped, handed_out, input_of}
+use Rattle.sp_runs.specs.Inputs.{last_weights, may_sign, object_alone, slot_alone}
 use Rattle.sp_runs.specs.Runs.{AreFields}
-use Rattle.sp_runs.specs.Settings.{Setting}
-use Rattle.sp_runs.specs.Worlds.{Direction, World, crafts, frame_in, frames_in}
+use Rattle.sp_runs.specs.Settings.{Setting, SettingFits}
+use Rattle.sp_runs.specs.Worlds.{Crafted, Direction, World, crafts, frame_in, frames_in}
 use Rattle.sp_schedule_crafts.specs.Objects.{body_of}
+use Rattle.sp_schedule_events.specs.Documents.{with_list}
 use Rattle.sp_schedule_events.specs.declared.event.Event.{Event}
 use Rattle.sp_schedule_events.specs.declared.event.Event.TheVariants as events
 use Rattle.laws_runs.specs.Premises.{AreOfBytes, Carries, IsOfBytes, IsPlain}
@@ -100,11 +103,36 @@ plain_alone lives (bodies.Krel r) o = record { document = refl; paths = refl; pr
 plain_alone lives (bodies.Kack a) o = record { document = refl; paths = refl; probe = refl }
 plain_alone lives (bodies.Epoch e) o = record { document = refl; paths = refl; probe = refl }
 
+under_tag : (format : ℕ) (arts : Arts) (n : NodeState) (c : NodeId) (s : Contents) → Carries format arts → AreBytes (arts.frame (crafted_head n c) s)
+    → AreBytes (crafted_frame arts n c s)
+under_tag format arts n c s carries are =
+    All-append (λ (b : ℕ). b < 256) (arts.frame (crafted_head n c) s) (arts.tag (link_in n c).key (arts.frame (crafted_head n c) s))
+    are (carries.tags (link_in n c).key (arts.frame (crafted_head n c) s))
+
 crafted_bytes : (format : ℕ) (arts : Arts) (n : NodeState) (c : NodeId) (s : Contents) → Carries format arts → IsPlain s → AreOfBytes s
     → AreBytes (crafted_frame arts n c s)
-crafted_bytes format arts n c s carries none of =
-    All-append (λ (b : ℕ). b < 256) (arts.frame (crafted_head n c) s) (arts.tag (link_in n c).key (arts.frame (crafted_head n c) s))
-    (carries.frames (crafted_head n c) s none of) (carries.tags (link_in n c).key (arts.frame (crafted_head n c) s))
+crafted_bytes format arts n c s carries none of = under_tag format arts n c s carries (carries.frames (crafted_head n c) s none of)
+
+-- ---- a crafted document
+
+-- what is signed of a document is bytes
+unsigned_bytes : (arts : Arts) (x : Setting) → SettingFits arts x → (version : ℕ) (weights : List ℕ) → AreBytes (x.unsigned version weights)
+unsigned_bytes arts x fits version weights = fits.unsigned version weights
+
+document_bytes : (arts : Arts) (x : Setting) (crafted : List Crafted) (key version : ℕ) (weights : List ℕ) → SettingFits arts x
+    → Carries x.topology.format arts → AreBytes (crafted_document arts x crafted key version weights)
+document_bytes arts x crafted key version weights fits carries = go (key == 0)
+  where
+    unsigned : List ℕ
+    unsigned = x.unsigned version weights
+
+    signature : List ℕ
+    signature = arts.sign x.topology.height (x.seed key) (crafts crafted (record { 0 = key })) unsigned
+
+    go : (t : Bool) → AreBytes (cond t (x.document version weights) (unsigned ++ signature))
+    go true = (fits.room version weights).0
+    go false = All-append (λ (b : ℕ). b < 256) unsigned signature (unsigned_bytes arts x fits version weights)
+        (carries.signatures x.topology.height (x.seed key) (crafts crafted (record { 0 = key })) unsigned)
 
 -- ---- all events
 
@@ -117,25 +145,25 @@ FramesAreBytes w = (u v : NodeId) (k : ℕ) (bytes : List ℕ) → slice_get (fr
 same_input : (a b : Input) → Some a ≡ Some b → a ≡ b
 same_input a b e = cc
 
-pub input_fits : (arts : Arts) (x : Setting) (es : List Event) (w : World) (n : NodeState) (e : Event) (input : Input) → Carries x.topology.format arts
-    → FramesAreBytes w → AreFields x es e
+pub input_fits : (arts : Arts) (x : Setting) (es : List Event) (w : World) (n : NodeState) (e : Event) (input : Input) → SettingFits arts x
+    → Carries x.topology.format arts → FramesAreBytes w → AreFields x es e
     → input_of arts x w n e ≡ Some input → InputFits input
-input_fits arts x es w n (events.Rel s d payload) input carries are range reaches = subst InputFits (same_input _ input reaches) range.2
-input_fits arts x es w n (events.Prio s d prio expiry paths payload) input carries are range reaches =
+input_fits arts x es w n (events.Rel s d payload) input fits carries are range reaches = subst InputFits (same_input _ input reaches) range.2
+input_fits arts x es w n (events.Prio s d prio expiry paths payload) input fits carries are range reaches =
     subst InputFits (same_input _ input reaches) (range.2, range.3, range.4, range.6)
-input_fits arts x es w n (events.Take d s) input carries are range reaches = subst InputFits (same_input _ input reaches) tt
-input_fits arts x es w n (events.TakePrio d) input carries are range reaches = subst InputFits (same_input _ input reaches) tt
-input_fits arts x es w n (events.Tick u now) input carries are range reaches = subst InputFits (same_input _ input reaches) range.1
-input_fits arts x es w n (events.Weight u v weight) input carries are range reaches = subst InputFits (same_input _ input reaches) (range.2, range.3)
-input_fits arts x es w n (events.Poll u v) input carries are range reaches = subst InputFits (same_input _ input reaches) tt
-input_fits arts x es w n (events.Pass u v number) input carries are range reaches =
+input_fits arts x es w n (events.Take d s) input fits carries are range reaches = subst InputFits (same_input _ input reaches) tt
+input_fits arts x es w n (events.TakePrio d) input fits carries are range reaches = subst InputFits (same_input _ input reaches) tt
+input_fits arts x es w n (events.Tick u now) input fits carries are range reaches = subst InputFits (same_input _ input reaches) range.1
+input_fits arts x es w n (events.Weight u v weight) input fits carries are range reaches = subst InputFits (same_input _ input reaches) (range.2, range.3)
+input_fits arts x es w n (events.Poll u v) input fits carries are range reaches = subst InputFits (same_input _ input reaches) tt
+input_fits arts x es w n (events.Pass u v number) input fits carries are range reaches =
     let it = came w.directions u v number (steps.Datagram u) input reaches in
     subst InputFits (sym it.is) (are u v it.place it.bytes it.there)
-input_fits arts x es w n (events.Flip u v number back bit) input carries are range reaches =
+input_fits arts x es w n (events.Flip u v number back bit) input fits carries are range reaches =
     let it = came w.directions u v number (λ bytes. steps.Datagram u (flipped back bit bytes)) input reaches in
     subst InputFits (sym it.is) (flip_bytes back bit it.bytes range.6 (are u v it.place it.bytes it.there))
-input_fits arts x es w n (events.Inject u v bytes) input carries are range reaches = subst InputFits (same_input _ input reaches) range.3
-input_fits arts x es w n (events.Craft c v key object) input carries are range reaches = go (nat_lt (crafts w.crafted key) x.total) reaches
+input_fits arts x es w n (events.Inject u v bytes) input fits carries are range reaches = subst InputFits (same_input _ input reaches) range.3
+input_fits arts x es w n (events.Craft c v key object) input fits carries are range reaches = go (nat_lt (crafts w.crafted key) x.total) reaches
   where
     said : Body
     said = dated n.parts.lives (body_of object)
@@ -157,12 +185,32 @@ input_fits arts x es w n (events.Craft c v key object) input carries are range r
     go : (t : Bool) → cond t (Some (steps.Datagram c frame)) None ≡ Some input → InputFits input
     go true e = subst InputFits (same_input (steps.Datagram c frame) input e) bytes
     go false e = absurd cc
-input_fits arts x es w n (events.CraftStatus c v s d base have) input carries are range reaches =
+input_fits arts x es w n (events.CraftStatus c v s d base have) input fits carries are range reaches =
     let contents = slot_alone n.parts.lives (record { src = s; dst = d }) base have None [] in
     subst InputFits (same_input (steps.Datagram c (crafted_frame arts n c contents)) input reaches)
     (crafted_bytes x.topology.format arts n c contents carries (record { document = refl; paths = refl; probe = refl }) (All-nil IsOfBytes))
-input_fits arts x es w n (events.Start u) input carries are range reaches = absurd cc
-input_fits arts x es w n (events.Stop u) input carries are range reaches = absurd cc
+input_fits arts x es w n (events.Publish u weights) input fits carries are range reaches =
+    let last = with_list w.published weights in
+    subst InputFits (same_input (steps.Publish (handed_out x last)) input reaches) (fits.room last.version (last_weights x last))
+input_fits arts x es w n (events.CraftDocument c v key version weights) input fits carries are range reaches = go (may_sign x w.crafted key) reaches
+  where
+    document : List ℕ
+    document = crafted_document arts x w.crafted key version (unwrap_or weights (last_weights x w.published))
+
+    frame : List ℕ
+    frame = crafted_frame arts n c (with_document document)
+
+    bytes : AreBytes frame
+    bytes =
+        under_tag x.topology.format arts n c (with_document document) carries
+        (carries.document_frames (crafted_head n c) document
+        (document_bytes arts x w.crafted key version (unwrap_or weights (last_weights x w.published)) fits carries))
+
+    go : (t : Bool) → cond t (Some (steps.Datagram c frame)) None ≡ Some input → InputFits input
+    go true e = subst InputFits (same_input (steps.Datagram c frame) input e) bytes
+    go false e = absurd cc
+input_fits arts x es w n (events.Start u) input fits carries are range reaches = absurd cc
+input_fits arts x es w n (events.Stop u) input fits carries are range reaches = absurd cc
 
 -- the payload that a client asks to be sent is bytes
 pub payload_fits : (arts : Arts) (x : Setting) (es : List Event) (w : World) (n : NodeState) (e : Event) (input : Input) → AreFields x es e
@@ -194,5 +242,15 @@ payload_fits arts x es w n (events.Craft c v key object) input range reaches = g
     go false e = absurd cc
 payload_fits arts x es w n (events.CraftStatus c v s d base have) input range reaches =
     subst (λ (i : Input). AreBytes (payload_in i)) (same_input _ input reaches) no_bytes
+payload_fits arts x es w n (events.Publish u weights) input range reaches =
+    subst (λ (i : Input). AreBytes (payload_in i)) (same_input _ input reaches) no_bytes
+payload_fits arts x es w n (events.CraftDocument c v key version weights) input range reaches = go (may_sign x w.crafted key) reaches
+  where
+    frame : List ℕ
+    frame = crafted_frame arts n c (with_document (crafted_document arts x w.crafted key version (unwrap_or weights (last_weights x w.published))))
+
+    go : (t : Bool) → cond t (Some (steps.Datagram c frame)) None ≡ Some input → AreBytes (payload_in input)
+    go true e = subst (λ (i : Input). AreBytes (payload_in i)) (same_input (steps.Datagram c frame) input e) no_bytes
+    go false e = absurd cc
 payload_fits arts x es w n (events.Start u) input range reaches = absurd cc
 payload_fits arts x es w n (events.Stop u) input range reaches = absurd cc

@@ -1,5 +1,6 @@
 -- The world in which a node acts: it is as before, but for indexes that its node may have reserved.
-use Rattle.std.proofs.Common.{◌≡◌, ◌<◌, ◌≤◌, ◌-◌, ℕ, zero, suc, Bool, true, false, cond, List, [], ◌∷◌, Option, Some, None, refl, sym, ap, subst, ◌∙◌, inl, inr, arith}
+use Rattle.std.proofs.Common.{◌≡◌, ◌<◌, ◌≤◌, ◌-◌, ℕ, zero, suc, Bool, true, false, cond, List, [], ◌∷◌, Option, Some, None, refl, sym, ap, subst, ◌∙◌, inl, inr}
+use Rattle.std.proofs.Common.{arith}
 use Rattle.std.specs.Prelude.{◌⊎◌, ◌&&◌, nat_lt, slice_index_or, slice_set}
 use Rattle.std.specs.List.{list_any}
 use Rattle.std.proofs.lemmas.Bool.{cases_Bool, ltb-false}
@@ -28,22 +29,23 @@ use Rattle.laws_runs.proofs.Tables.{node_is, node_put}
 pub ready_plain : (x : Setting) (w : World) (e : Event) → x.epochs ≡ false → ready x w e ≡ w
 ready_plain x w e plain = rw plain refl
 
--- ---- frames and crafts are as before
+-- ---- frames, crafts and what was published are as before
 
 record Beside (w v : World) : Type 0 where
   directions : v.directions ≡ w.directions
   crafted : v.crafted ≡ w.crafted
+  published : v.published ≡ w.published
 
 beside : (x : Setting) (w : World) (e : Event) → Beside w (ready x w e)
 beside x w e = go x.epochs (node_in w.nodes (acting e))
   where
     short : (b : NodeState) (t : Bool) → Beside w (cond t (reserved x w b) w)
-    short b true = record { directions = refl; crafted = refl }
-    short b false = record { directions = refl; crafted = refl }
+    short b true = record { directions = refl; crafted = refl; published = refl }
+    short b false = record { directions = refl; crafted = refl; published = refl }
 
     go : (on : Bool) (found : Option NodeState) → Beside w (cond on (reserved_if x w found) w)
-    go false found = record { directions = refl; crafted = refl }
-    go true None = record { directions = refl; crafted = refl }
+    go false found = record { directions = refl; crafted = refl; published = refl }
+    go true None = record { directions = refl; crafted = refl; published = refl }
     go true (Some b) = short b (is_short b)
 
 pub ready_frames : (x : Setting) (w : World) (e : Event) → (ready x w e).directions ≡ w.directions
@@ -51,6 +53,9 @@ ready_frames x w e = (beside x w e).directions
 
 pub ready_crafts : (x : Setting) (w : World) (e : Event) → (ready x w e).crafted ≡ w.crafted
 ready_crafts x w e = (beside x w e).crafted
+
+pub ready_published : (x : Setting) (w : World) (e : Event) → (ready x w e).published ≡ w.published
+ready_published x w e = (beside x w e).published
 
 -- and what is crafted makes no difference
 pub ready_with : (x : Setting) (w : World) (e : Event) (crafted : List Crafted) → ready x (record w { crafted = crafted }) e ≡ record (ready x w e) { crafted = crafted }
@@ -121,6 +126,10 @@ pub readied_parts : (x : Setting) (w : World) (b n : NodeState) → Readied x w 
 readied_parts x w b n (As_was same) = (ap (λ (m : NodeState). m.parts) same, ap (λ (m : NodeState). m.fixed) same)
 readied_parts x w b n (Extended on short same) = (ap (λ (m : NodeState). m.parts) same, ap (λ (m : NodeState). m.fixed) same)
 
+pub readied_live : (x : Setting) (w : World) (b n : NodeState) → Readied x w b n → n.live ≡ b.live
+readied_live x w b n (As_was same) = ap (λ (m : NodeState). m.live) same
+readied_live x w b n (Extended on short same) = ap (λ (m : NodeState). m.live) same
+
 -- ---- a reserve takes no boot
 
 same_boot : (ks : List Numbers) (i k : ℕ) (n : Numbers) → n.boot ≡ (slice_index_or ks i first_numbers).boot
@@ -162,6 +171,7 @@ extended_is x P u n upto on above within is = record {
   shape = ap (λ (s : Shape). record s { bound = upto }) is.shape;
   holds = record {
     fixed = is.holds.fixed;
+    live = is.holds.live;
     now = is.holds.now;
     calls = is.holds.calls;
     links = is.holds.links;
@@ -173,6 +183,7 @@ extended_is x P u n upto on above within is = record {
     parts = is.holds.parts;
   };
   acks = is.acks;
+  obeys = record { least = is.obeys.least; prio = is.obeys.prio; rows = is.obeys.rows; rel = is.obeys.rel; flows = is.obeys.flows };
   dated = is.dated;
   plain = λ off. absurd (let wrong : false ≡ true = sym off ∙ on in cc);
 }

@@ -1,51 +1,59 @@
 -- The part on links and signed objects: all that correct nodes keep, and all that their frames carry, is signed and known.
 use Rattle.std.proofs.Common.{◌≡◌, ◌<◌, ℕ, true, List, [], ◌∷◌, ◌++◌, length, Option, Some, None, Result, Ok, Err, refl, sym, ap, ap₂, subst, ◌∙◌, inl, inr}
-use Rattle.std.proofs.Common.{arith}
-use Rattle.std.specs.Prelude.{◌⊎◌, IsTrue, slice_get}
+use Rattle.std.proofs.Common.{arith, Bool, nat_lt, false}
+use Rattle.std.specs.Prelude.{◌⊎◌, IsTrue, cond, slice_get, IfSome, ◌&&◌}
 use Rattle.std.proofs.lemmas.Option.{same_Some}
 use Rattle.std.specs.List.{All}
 use Rattle.std.proofs.lemmas.List.{length_push}
-use Rattle.std.proofs.lemmas.List.Elements.{All-append}
+use Rattle.std.proofs.lemmas.List.Elements.{All-append, All-nil}
 use Rattle.sp_base.specs.Spelling.{AreBytes}
 use Rattle.sp_frame.specs.Ranges.{IsContentsIn}
 use Rattle.sp_base.specs.declared.id.NodeId.{NodeId}
-use Rattle.sp_frame.specs.Sections.{Contents}
+use Rattle.sp_frame.specs.Sections.{Contents, with_document}
 use Rattle.sp_frame.specs.declared.refused.SectionRefused.{SectionRefused}
 use Rattle.sp_msg.specs.declared.kept.Kept.{Kept}
 use Rattle.sp_rules.specs.Arrivals.{arrival_at, parts_met, pieces_in, reply_at, sections_in}
 use Rattle.sp_rules.specs.Arts.{Arts}
-use Rattle.sp_rules.specs.Link.{next_head}
-use Rattle.sp_rules.specs.Node.{NodeState, call_refusal, link_in, signed_now}
-use Rattle.sp_rules.specs.Parts.{Fixed, is_signed}
+use Rattle.sp_rules.specs.Node.{NodeState, call_refusal, link_in, signed_now, is_behind, is_shut_to, version_of}
+use Rattle.sp_rules.specs.Parts.{Fixed, changes, is_signed, nodes_of}
 use Rattle.sp_rules.specs.Pieces.{Piece, pieces_of}
-use Rattle.sp_rules.specs.Polls.{contents_to, frame_to}
+use Rattle.sp_rules.specs.Polls.{contents_at, contents_to, frame_to, head_to, no_contents, untagged}
 use Rattle.sp_rules.specs.Sends.{rel_refusal, send_prio_refusal, weight_refusal}
 use Rattle.sp_rules.specs.Steps as steps
 use Rattle.sp_rules.specs.Steps.{Input, NodeStep, Output, arrived, poll_output, refused_call, replied}
 use Rattle.sp_rules.specs.declared.node.NodeRefused.{NodeRefused}
+use Rattle.sp_rules.specs.Topologies.{weights_in}
+use Rattle.sp_rules.specs.Versions.{Live}
+use Rattle.sp_topology.specs.declared.topology.Topology.{Topology}
+use Rattle.sp_epoch.specs.declared.started.Started.{Started}
 use Rattle.laws_node.specs.Inputs.{InputFits}
 use Rattle.laws_node.specs.Shapes.{shape_at_start}
 use Rattle.laws_node.specs.Asked.{NewKeep, OwnKeep, payload_in}
 use Rattle.laws_node.specs.Objects.{objects_in}
 use Rattle.laws_node.proofs.AskedLemmas.{none_new}
 use Rattle.laws_node.proofs.Carried.{AllKeep, all_less, contents_kept, pieces_new}
-use Rattle.laws_node.proofs.Frames.{contents_fit}
+use Rattle.laws_node.proofs.Frames.{frame_fits}
 use Rattle.laws_node.proofs.Own.{own_is_signed}
 use Rattle.laws_node.proofs.Steps.{none_called, none_sent, step_holds, step_new}
 use Rattle.laws_runs.proofs.Lives.{step_stays}
 use Rattle.laws_node.proofs.Shapes.{shapes_stay}
 use Rattle.laws_node.proofs.Weaker.{node_weaker}
-use Rattle.sp_runs.specs.Forgery.{forged, forged_object, has_forged_tag}
+use Rattle.laws_node.proofs.Tables.{cond_either, cond_where}
+use Rattle.laws_node.proofs.Withdrawing.{sized, step_obeys}
+use Rattle.sp_runs.specs.Forgery.{forged, forged_document, forged_object, has_forged_tag}
 use Rattle.sp_runs.specs.Inputs.{acting, input_of}
 use Rattle.sp_runs.specs.Lives.{directions_missed, next_start, ready}
 use Rattle.sp_runs.specs.Runs.{AreFields, Clean, InRange, Lives, Starts, Turned, Moves, Stays, Move, directions_after}
-use Rattle.sp_runs.specs.Settings.{Setting, SettingFits, fixed_at, link_keys, node_at_start, signer_from}
+use Rattle.sp_runs.specs.Settings.{Setting, SettingFits, fixed_at, link_keys, may_change, node_at_start, signer_from}
 use Rattle.sp_runs.specs.Worlds.{Direction, World, frames_in, node_in}
 use Rattle.sp_journal.specs.declared.entry.Entry.{Entry}
+use Rattle.sp_schedule_events.proofs.PublishedLemmas.{published_more}
+use Rattle.sp_schedule_events.specs.Documents.{list_in, with_list}
 use Rattle.sp_schedule_events.specs.declared.event.Event.{Event}
 use Rattle.sp_schedule_events.specs.declared.event.Event.TheVariants as events
 use Rattle.laws_runs.specs.KeyFiles.{KeysStand}
 use Rattle.laws_runs.specs.Signs.{Good, NodeIs, Signs, SignsBegin, TurnsKeepSigns, sizes_at}
+use Rattle.laws_runs.specs.Versions.{Brings, IsPublished, RunsUnder}
 use Rattle.laws_runs.specs.Premises.{Carries, HasGoodMessages, IsOfBytes}
 use Rattle.laws_runs.specs.Unborn.{HoldNone}
 use Rattle.laws_runs.proofs.Acks.{step_ack}
@@ -53,13 +61,17 @@ use Rattle.laws_runs.proofs.NoStarts.{in_keep, pieces_at, without}
 use Rattle.laws_runs.proofs.Dated.{step_dated}
 use Rattle.laws_runs.proofs.Unborn.{lives_stay, unborn_of}
 use Rattle.laws_runs.proofs.KeyFiles.{key_files_stand, ready_once}
-use Rattle.laws_runs.proofs.Ready.{readied_is, ready_frames, was_there}
+use Rattle.laws_runs.proofs.Ready.{readied_is, readied_live, ready_frames, ready_published, was_there}
 use Rattle.laws_runs.proofs.Running.{more_found, without_left}
 use Rattle.laws_runs.proofs.Begun.{start_is}
 use Rattle.laws_runs.proofs.LifeCases.{Exhausts, LifeCase, Nobody, Starts_now, Stops, life_case}
 use Rattle.laws_runs.proofs.Reaches.{input_fits, payload_fits}
 use Rattle.laws_runs.proofs.Tables.{frame_put, node_put}
-use Rattle.laws_runs.proofs.Goods.{all_of, of_all, where_keep, unforged_tag, new_known, good_new, new_less, good_more, own_known, arts_fit, starts}
+use Rattle.laws_runs.proofs.Adopted.{first_runs, goes_on, still_brings, still_runs, weights_under}
+use Rattle.laws_runs.proofs.Published.{lists_begin, lists_on}
+use Rattle.laws_runs.proofs.Started.{craft_list}
+use Rattle.laws_runs.proofs.Goods.{all_of, of_all, where_keep, new_known, good_new, new_less, good_more}
+use Rattle.laws_runs.proofs.Goods.{own_known, arts_fit, plain_start, started, starts, unforged_both}
 
 -- ---- one event
 
@@ -101,6 +113,7 @@ new_have P arts n (steps.SetWeight v weight) output after reads are s =
     none_new _ output.answered (ap (λ (o : Output). o.answered) s.0 ∙ none_sent _ (weight_refusal n v weight) refl)
 new_have P arts n (steps.TakeRel src) output after reads are s = none_new _ output.answered (ap (λ (o : Output). o.answered) s.0)
 new_have P arts n steps.TakePrio output after reads are s = none_new _ output.answered (ap (λ (o : Output). o.answered) s.0)
+new_have P arts n (steps.Publish document) output after reads are s = none_new _ output.answered (ap (λ (o : Output). o.answered) s.0)
 
 -- the acting node keeps what it keeps
 acted : (arts : Arts) (x : Setting) (es : List Event) (js : List Entry) (w new : World) (e : Event) (j : Entry) (m : Move arts x w e j new)
@@ -134,7 +147,8 @@ acted arts x es js w new e j m fits carries reach asked same unforged is =
           ∙ ap₂ (λ (f : Fixed) (bound : ℕ). shape_at_start (fixed_at x (acting e) f.boot) (signer_from x (acting e) 0 bound) (link_keys x (acting e)) x.buffer x.store)
           (sym stays.fixed) (sym stays.bound);
       holds = step_holds (sizes_at x Q (acting e)) arts m.node m.input m.output m.after fit reach news owns m.step (node_weaker (sizes_at x P (acting e)) Q more m.node is.holds);
-      acks = step_ack arts m.node m.input m.output m.after m.step is.acks;
+      acks = step_ack arts m.node m.input m.output m.after m.step is.obeys is.acks;
+      obeys = step_obeys arts m.node m.input m.output m.after (sized (sizes_at x P (acting e)) m.node is.holds) m.step is.obeys;
       dated = step_dated arts m.node m.input m.output m.after m.step is.dated;
       plain = λ off.
           let was = is.plain off in
@@ -147,27 +161,76 @@ acted arts x es js w new e j m fits carries reach asked same unforged is =
           };
     }
 
--- a frame that a poll gave carries what the node keeps
-polled_frame : (arts : Arts) (x : Setting) (P : Kept → Type 0) → ((o : Kept) → P o → IsTrue (arts.is_good o.body))
-    → (n : NodeState) (u v : NodeId) (output : Output) (bytes : List ℕ) (s : Contents) → Carries x.topology.format arts → NodeIs x P u n
-    → output ≡ poll_output arts n v → output.reply ≡ steps.Frame bytes → arts.sections x.signature_len bytes ≡ Ok s → AllKeep P (pieces_of s)
-polled_frame arts x P good n u v output bytes s reads is out reply read =
-    let len : n.fixed.signature_len ≡ x.signature_len = ap (λ (f : Fixed). f.signature_len) is.fixed in
+-- what stands in a frame
+contents_keep : (P : Kept → Type 0) (n : NodeState) (v : NodeId) → AllKeep P (pieces_of (contents_to n.fixed n.parts v)) → AllKeep P (pieces_of (contents_at n v))
+contents_keep P n v h =
+    cond_either (λ (c : Contents). AllKeep P (pieces_of c)) (is_behind n v) (with_document n.live.document)
+    (cond (is_shut_to n v) no_contents (contents_to n.fixed n.parts v)) (tt, tt)
+    (cond_either (λ (c : Contents). AllKeep P (pieces_of c)) (is_shut_to n v) no_contents (contents_to n.fixed n.parts v) (tt, tt) h)
+
+-- and the document in it is the node's
+own_document : (arts : Arts) (x : Setting) (es : List Event) (P : Kept → Type 0) (u : NodeId) (n : NodeState) (v : NodeId) → NodeIs x P u n
+    → RunsUnder arts x es n.live → IfSome (contents_at n v).document (Brings arts x es)
+own_document arts x es P u n v is runs =
+    cond_where (λ (c : Contents). IfSome c.document (Brings arts x es)) (is_behind n v) (with_document n.live.document)
+    (cond (is_shut_to n v) no_contents (contents_to n.fixed n.parts v))
+    (λ behind. held_brings (ap (λ (f : Fixed). changes f) (sym is.fixed)
+    ∙ first_true (changes n.fixed) (nat_lt 0 (version_of n v)) (nat_lt (version_of n v) n.live.version) behind))
+    (λ level. cond_either (λ (c : Contents). IfSome c.document (Brings arts x es)) (is_shut_to n v) no_contents (contents_to n.fixed n.parts v) tt tt)
+  where
+    first_true : (a b c : Bool) → (a && b && c) ≡ true → a ≡ true
+    first_true true b c e = refl
+    first_true false b c e = absurd (let wrong : false ≡ true = e in cc)
+
+    held_brings : may_change x ≡ true → Brings arts x es n.live.document
+    held_brings may =
+        let h = runs.held may in
+        let weights : weights_in h.document.topology.edges ≡ n.live.weights =
+        ap (λ (t : Topology). weights_in t.edges) h.topology
+        ∙ weights_under x.topology.edges n.live.weights (is.holds.live.count) in
+        record {
+          may = may;
+          document = h.document;
+          reads = h.reads;
+          published = subst (λ (k : ℕ). IsPublished x es k (weights_in h.document.topology.edges)) (sym (ap (λ (t : Topology). t.version) h.topology))
+              (subst (λ (ws : List ℕ). IsPublished x es n.live.version ws) (sym weights) runs.published);
+        }
+
+-- the frame of a node with good messages is read back as what stands in turn
+pub frame_back : (arts : Arts) (x : Setting) (P : Kept → Type 0) → ((o : Kept) → P o → IsTrue (arts.is_good o.body))
+    → (n : NodeState) (u v : NodeId) → Carries x.topology.format arts → NodeIs x P u n
+    → arts.sections x.signature_len (frame_to arts n v) ≡ Ok (contents_at n v)
+frame_back arts x P good n u v reads is =
+    let c = contents_at n v in
     let format : n.fixed.topology.format ≡ x.topology.format = ap (λ (f : Fixed). f.topology.format) is.fixed in
-    let c = contents_to n.fixed n.parts v in
-    let kept : AllKeep P (pieces_of c) = contents_kept (sizes_at x P u) n v is.holds in
+    let kept : AllKeep P (pieces_of c) = contents_keep P n v (contents_kept (sizes_at x P u) n v is.holds) in
     let goods : HasGoodMessages arts c = all_of (λ o. IsTrue (arts.is_good o.body)) (pieces_of c) (all_less P (λ o. IsTrue (arts.is_good o.body)) good (pieces_of c) kept) in
-    let back : arts.sections n.fixed.signature_len (frame_to arts n v) ≡ Ok c =
-    reads.back n.fixed.signature_len (next_head (link_in n v) n.fixed.topology.version n.fixed.topology.format) c (link_in n v).key format
-    (subst (λ (f : ℕ). IsContentsIn f n.fixed.signature_len c) format (contents_fit (sizes_at x P u) n v is.holds)) goods in
+    ap (λ (f : Fixed). arts.sections f.signature_len (frame_to arts n v)) (sym is.fixed)
+    ∙ reads.back n.fixed.signature_len (head_to n v) c (link_in n v).key format
+    (subst (λ (f : ℕ). IsContentsIn f n.fixed.signature_len c) format (frame_fits (sizes_at x P u) n v is.holds)) goods
+
+-- a frame that a poll gave has what stands in turn, which is what the node keeps
+polled_contents : (arts : Arts) (x : Setting) (P : Kept → Type 0) → ((o : Kept) → P o → IsTrue (arts.is_good o.body))
+    → (n : NodeState) (u v : NodeId) (output : Output) (bytes : List ℕ) (s : Contents) → Carries x.topology.format arts → NodeIs x P u n
+    → output ≡ poll_output arts n v → output.reply ≡ steps.Frame bytes → arts.sections x.signature_len bytes ≡ Ok s
+    → (s ≡ contents_at n v) × AllKeep P (pieces_of (contents_at n v))
+polled_contents arts x P good n u v output bytes s reads is out reply read =
+    let c = contents_at n v in
     let bytes_are : frame_to arts n v ≡ bytes = gives (call_refusal n v) (ap (λ (o : Output). o.reply) (sym out) ∙ reply) in
-    let here : Ok s ≡ Ok c = sym read ∙ ap (λ (l : ℕ). arts.sections l bytes) (sym len) ∙ ap (arts.sections n.fixed.signature_len) (sym bytes_are) ∙ back in
+    let here : Ok s ≡ Ok c = sym read ∙ ap (arts.sections x.signature_len) (sym bytes_are) ∙ frame_back arts x P good n u v reads is in
     let same : s ≡ c = cc in
-    subst (λ (y : Contents). AllKeep P (pieces_of y)) (sym same) kept
+    (same, contents_keep P n v (contents_kept (sizes_at x P u) n v is.holds))
   where
     gives : (r : Option NodeRefused) → (refused_call r (replied (steps.Frame (frame_to arts n v)))).reply ≡ steps.Frame bytes → frame_to arts n v ≡ bytes
     gives None e = cc
     gives (Some refused) e = absurd cc
+
+polled_frame : (arts : Arts) (x : Setting) (P : Kept → Type 0) → ((o : Kept) → P o → IsTrue (arts.is_good o.body))
+    → (n : NodeState) (u v : NodeId) (output : Output) (bytes : List ℕ) (s : Contents) → Carries x.topology.format arts → NodeIs x P u n
+    → output ≡ poll_output arts n v → output.reply ≡ steps.Frame bytes → arts.sections x.signature_len bytes ≡ Ok s → AllKeep P (pieces_of s)
+polled_frame arts x P good n u v output bytes s reads is out reply read =
+    let it = polled_contents arts x P good n u v output bytes s reads is out reply read in
+    subst (λ (y : Contents). AllKeep P (pieces_of y)) (sym it.0) it.1
 
 -- what holds of all frames that were made, and of a new one, holds of all
 abbrev pub EachFrame : (F : NodeId → NodeId → List ℕ → Type 0) → List Direction → Type 0
@@ -189,6 +252,7 @@ frames_after F ds (events.Poll a b) (steps.Refused refused) new old u v k bytes 
 frames_after F ds (events.Poll a b) (steps.NotCalled refused) new old u v k bytes at = old u v k bytes at
 frames_after F ds (events.Poll a b) (steps.Payload payload) new old u v k bytes at = old u v k bytes at
 frames_after F ds (events.Poll a b) (steps.Message entry) new old u v k bytes at = old u v k bytes at
+frames_after F ds (events.Poll a b) (steps.Replaced answer) new old u v k bytes at = old u v k bytes at
 frames_after F ds (events.Rel a b p) r new old u v k bytes at = old u v k bytes at
 frames_after F ds (events.Prio a b c d f p) r new old u v k bytes at = old u v k bytes at
 frames_after F ds (events.Take a b) r new old u v k bytes at = old u v k bytes at
@@ -200,6 +264,8 @@ frames_after F ds (events.Flip a b c d f) r new old u v k bytes at = old u v k b
 frames_after F ds (events.Inject a b c) r new old u v k bytes at = old u v k bytes at
 frames_after F ds (events.Craft a b c d) r new old u v k bytes at = old u v k bytes at
 frames_after F ds (events.CraftStatus a b c d f g) r new old u v k bytes at = old u v k bytes at
+frames_after F ds (events.Publish u' weights) r new old u v k bytes at = old u v k bytes at
+frames_after F ds (events.CraftDocument c' v' key' version weights) r new old u v k bytes at = old u v k bytes at
 frames_after F ds (events.Start a) r new old u v k bytes at = old u v k bytes at
 frames_after F ds (events.Stop a) r new old u v k bytes at = old u v k bytes at
 
@@ -220,6 +286,8 @@ frames_missed F ds (events.Flip a b c d f) old u v k bytes at = old u v k bytes 
 frames_missed F ds (events.Inject a b c) old u v k bytes at = old u v k bytes at
 frames_missed F ds (events.Craft a b c d) old u v k bytes at = old u v k bytes at
 frames_missed F ds (events.CraftStatus a b c d f g) old u v k bytes at = old u v k bytes at
+frames_missed F ds (events.Publish u' weights) old u v k bytes at = old u v k bytes at
+frames_missed F ds (events.CraftDocument c' v' key' version weights) old u v k bytes at = old u v k bytes at
 frames_missed F ds (events.Start a) old u v k bytes at = old u v k bytes at
 frames_missed F ds (events.Stop a) old u v k bytes at = old u v k bytes at
 
@@ -232,16 +300,23 @@ polled arts x es w n a b input output after made reaches step reply =
     let moves : NodeStep arts n (steps.Poll b) output after = subst (λ i. NodeStep arts n i output after) same step in
     moves.0
 
--- the frame of a node whose objects are of bytes is bytes
+-- the frame of a node whose document and objects are of bytes is bytes
 made_bytes : (format : ℕ) (arts : Arts) (n : NodeState) (v : NodeId) (output : Output) (made : List ℕ) → Carries format arts
-    → AllKeep IsOfBytes (pieces_of (contents_to n.fixed n.parts v))
+    → AreBytes n.live.document → AllKeep IsOfBytes (pieces_of (contents_to n.fixed n.parts v))
     → output ≡ poll_output arts n v → output.reply ≡ steps.Frame made → AreBytes made
-made_bytes format arts n v output made carries of out reply =
-    let h = next_head (link_in n v) n.fixed.topology.version n.fixed.topology.format in
+made_bytes format arts n v output made carries document of out reply =
+    let h = head_to n v in
     let c = contents_to n.fixed n.parts v in
+    let of_bytes : Contents → Type 0 = λ (s : Contents). AreBytes (arts.frame h s) in
+    let before_tag : AreBytes (untagged arts n v) =
+    cond_either of_bytes (is_behind n v) (with_document n.live.document) (cond (is_shut_to n v) no_contents c)
+    (carries.document_frames h n.live.document document)
+    (cond_either of_bytes (is_shut_to n v) no_contents c
+    (carries.frames h no_contents (record { document = refl; paths = refl; probe = refl }) (All-nil IsOfBytes))
+    (carries.frames h c (record { document = refl; paths = refl; probe = refl }) (all_of IsOfBytes (pieces_of c) of))) in
     let is : frame_to arts n v ≡ made = gives (call_refusal n v) (ap (λ (o : Output). o.reply) (sym out) ∙ reply) in
-    subst AreBytes is (All-append (λ (b : ℕ). b < 256) (arts.frame h c) (arts.tag (link_in n v).key (arts.frame h c))
-    (carries.frames h c (record { document = refl; paths = refl; probe = refl }) (all_of IsOfBytes (pieces_of c) of)) (carries.tags (link_in n v).key (arts.frame h c)))
+    subst AreBytes is (All-append (λ (b : ℕ). b < 256) (untagged arts n v) (arts.tag (link_in n v).key (untagged arts n v))
+    before_tag (carries.tags (link_in n v).key (untagged arts n v)))
   where
     gives : (r : Option NodeRefused) → (refused_call r (replied (steps.Frame (frame_to arts n v)))).reply ≡ steps.Frame made → frame_to arts n v ≡ made
     gives None e = cc
@@ -261,6 +336,7 @@ node_more x P Q u n less is = record {
   shape = is.shape;
   holds = node_weaker (sizes_at x P u) Q less n is.holds;
   acks = is.acks;
+  obeys = is.obeys;
   dated = is.dated;
   plain = is.plain;
 }
@@ -271,6 +347,11 @@ signs_begin arts x fits = record {
   nodes = starts arts x (Good arts x [] []) fits;
   frames = λ u v k bytes s at read. absurd (no_frames u v k bytes at);
   bytes = λ u v k bytes at. absurd (no_frames u v k bytes at);
+  documents = λ u v k bytes s at read. absurd (no_frames u v k bytes at);
+  live = λ u n at.
+      subst (λ (m : NodeState). RunsUnder arts x [] m.live) (sym (started x (nodes_of x.topology) u n (plain_start x u n at).1).0) (first_runs arts x [] fits);
+  published = refl;
+  lists = lists_begin arts x fits;
 }
 
 -- the world in which a node acts
@@ -284,19 +365,37 @@ signs_ready arts x es js w e keys h = record {
   frames = subst (λ (ds : List Direction). (u v : NodeId) (k : ℕ) (bytes : List ℕ) (s : Contents) → slice_get (frames_in ds u v) k ≡ Some (Some bytes)
       → arts.sections x.signature_len bytes ≡ Ok s → All (Good arts x es js) (objects_in (pieces_of s))) (sym (ready_frames x w e)) h.frames;
   bytes = subst (EachFrame (λ u v bytes. AreBytes bytes)) (sym (ready_frames x w e)) h.bytes;
+  documents = subst (λ (ds : List Direction). (u v : NodeId) (k : ℕ) (bytes : List ℕ) (s : Contents) → slice_get (frames_in ds u v) k ≡ Some (Some bytes)
+      → arts.sections x.signature_len bytes ≡ Ok s → IfSome s.document (Brings arts x es)) (sym (ready_frames x w e)) h.documents;
+  live = λ u n at.
+      let was = was_there x w e u n at in
+      subst (RunsUnder arts x es) (sym (readied_live x w was.before n was.readied)) (h.live u was.before was.is_there);
+  published = ready_published x w e ∙ h.published;
+  lists = h.lists;
 }
+
+-- a frame that brings what was handed out goes on so
+brings_more : (arts : Arts) (x : Setting) (es : List Event) (e : Event) (o : Option (List ℕ)) → IfSome o (Brings arts x es)
+    → IfSome o (Brings arts x (es ++ e ∷ []))
+brings_more arts x es e None h = tt
+brings_more arts x es e (Some bytes) h = still_brings arts x es e bytes h
+
+pub of_setting : (x : Setting) (P : Kept → Type 0) (u : NodeId) (n : NodeState) → NodeIs x P u n
+    → (n.fixed.topology ≡ x.topology) × (n.fixed.admin ≡ x.admin) × (length n.live.weights ≡ length x.topology.edges)
+of_setting x P u n is = (ap (λ (f : Fixed). f.topology) is.fixed, ap (λ (f : Fixed). f.admin) is.fixed, is.holds.live.count)
 
 -- a node moves in the world in which it acts
 pub moves_keep : (arts : Arts) (x : Setting) (es : List Event) (js : List Entry) (old : World) (e : Event) (j : Entry) (new : World) → SettingFits arts x
     → Carries x.topology.format arts → Signs arts x es js old → AreFields x es e → (m : Move arts x old e j new) → forged arts x es js old m.node m.input m.output ≡ None
     → Signs arts x (es ++ e ∷ []) (js ++ j ∷ []) new
 moves_keep arts x es' js' old e j new fits reads h range m unforged =
-    let reach = input_fits arts x es' old m.node e m.input reads h.bytes range m.reaches in
+    let reach = input_fits arts x es' old m.node e m.input fits reads h.bytes range m.reaches in
     let same = h.entries in
     let P = Good arts x es' js' in
     let Q = Good arts x (es' ++ e ∷ []) (js' ++ j ∷ []) in
     let more = good_more arts x es' js' e j same in
-    let nothing = unforged_tag (has_forged_tag arts x old m.node m.input) (forged_object arts x es' js' m.output.answered) unforged in
+    let nothing = unforged_both (has_forged_tag arts x old m.node m.input) (forged_object arts x es' js' m.output.answered)
+    (forged_document arts es' m.output.adopted) unforged in
     let is = h.nodes (acting e) m.node m.is_there in
     let asked = payload_fits arts x es' old m.node e m.input range m.reaches in
     let done = acted arts x es' js' old new e j m fits reads reach asked same nothing.1 is in
@@ -312,18 +411,39 @@ moves_keep arts x es' js' old e j new fits reads h range m unforged =
           (polled arts x es' old m.node a b m.input m.output m.after made (subst (λ (y : Event). input_of arts x old m.node y ≡ Some m.input) poll m.reaches) m.step reply) reply read))
           (λ u v k bs at s read. all_less P Q more (pieces_of s) (of_all P (pieces_of s) (h.frames u v k bs s at read))) u v k bytes at s read);
       bytes = frames_after (λ (u v : NodeId) (bs : List ℕ). AreBytes bs) old.directions e m.output.reply
-          (λ a b made poll reply. made_bytes x.topology.format arts m.node b m.output made reads
+          (λ a b made poll reply. made_bytes x.topology.format arts m.node b m.output made reads is.holds.live.document.0
           (all_less P IsOfBytes (λ o good. good.bytes) (pieces_of (contents_to m.node.fixed m.node.parts b)) (contents_kept (sizes_at x P (acting e)) m.node b is.holds))
           (polled arts x es' old m.node a b m.input m.output m.after made (subst (λ (y : Event). input_of arts x old m.node y ≡ Some m.input) poll m.reaches) m.step reply) reply)
           h.bytes;
+      documents = λ u v k bytes s at read. frames_after
+          (λ (u v : NodeId) (bs : List ℕ). (s : Contents) → arts.sections x.signature_len bs ≡ Ok s → IfSome s.document (Brings arts x (es' ++ e ∷ [])))
+          old.directions e m.output.reply
+          (λ a b made poll reply s read.
+          let out = polled arts x es' old m.node a b m.input m.output m.after made
+          (subst (λ (y : Event). input_of arts x old m.node y ≡ Some m.input) poll m.reaches) m.step reply in
+          let it = polled_contents arts x P (λ o is_it. is_it.good) m.node (acting e) b m.output made s reads is out reply read in
+          brings_more arts x es' e s.document (subst (λ (c : Contents). IfSome c.document (Brings arts x es')) (sym it.0)
+          (own_document arts x es' P (acting e) m.node b is (h.live (acting e) m.node m.is_there))))
+          (λ u v k bs at s read. brings_more arts x es' e s.document (h.documents u v k bs s at read)) u v k bytes at s read;
+      live = λ u n at. elim (node_put u (acting e) m.after n old.nodes (ap (λ (f : Fixed). f.me) done.fixed) at) [
+        | inl here ↦ subst (λ (y : NodeState). RunsUnder arts x (es' ++ e ∷ []) y.live) (sym here.1)
+            (goes_on arts x es' old e m.node m.input m.output m.after fits range m.reaches m.step nothing.2 h.published h.lists
+            (of_setting x P (acting e) m.node is) (of_setting x Q (acting e) m.after done) (sized (sizes_at x P (acting e)) m.node is.holds)
+            (h.live (acting e) m.node m.is_there))
+        | inr other ↦ still_runs arts x es' e n.live (h.live u n other.1)
+      ];
+      published = published_more es' old.published e h.published;
+      lists = lists_on x es' e range h.lists;
     })
 
 -- nodes that were there, or are new and good, and frames that were there
 pub stay_keep : (arts : Arts) (x : Setting) (es : List Event) (js : List Entry) (old : World) (e : Event) (j : Entry) (new : World) → Signs arts x es js old
-    → ((u : NodeId) (n : NodeState) → node_in new.nodes u ≡ Some n → (node_in old.nodes u ≡ Some n) ⊎ NodeIs x (Good arts x (es ++ e ∷ []) (js ++ j ∷ [])) u n)
+    → AreFields x es e → new.published ≡ with_list old.published (list_in e)
+    → ((u : NodeId) (n : NodeState) → node_in new.nodes u ≡ Some n
+    → (node_in old.nodes u ≡ Some n) ⊎ (NodeIs x (Good arts x (es ++ e ∷ []) (js ++ j ∷ [])) u n × RunsUnder arts x (es ++ e ∷ []) n.live))
     → ((F : NodeId → NodeId → List ℕ → Type 0) → EachFrame F old.directions → EachFrame F new.directions)
     → Signs arts x (es ++ e ∷ []) (js ++ j ∷ []) new
-stay_keep arts x es js old e j new h nodes frames =
+stay_keep arts x es js old e j new h range last nodes frames =
     let same = h.entries in
     let P = Good arts x es js in
     let Q = Good arts x (es ++ e ∷ []) (js ++ j ∷ []) in
@@ -332,37 +452,64 @@ stay_keep arts x es js old e j new h nodes frames =
       entries = omega (arith, same, length_push es e, length_push js j);
       nodes = λ u n at. elim (nodes u n at) [
         | inl was ↦ node_more x P Q u n more (h.nodes u n was)
-        | inr new ↦ new
+        | inr new ↦ new.0
       ];
       frames = λ u v k bytes c at read. all_of Q (pieces_of c) (all_less P Q more (pieces_of c)
           (of_all P (pieces_of c) (frames (λ (a b : NodeId) (bs : List ℕ). (s : Contents) → arts.sections x.signature_len bs ≡ Ok s → All P (objects_in (pieces_of s)))
           (λ a b i bs there s is. h.frames a b i bs s there is) u v k bytes at c read)));
       bytes = frames (λ a b bs. AreBytes bs) h.bytes;
+      documents = λ u v k bytes c at read.
+          frames (λ (a b : NodeId) (bs : List ℕ). (s : Contents) → arts.sections x.signature_len bs ≡ Ok s → IfSome s.document (Brings arts x (es ++ e ∷ [])))
+          (λ a b i bs there s is. brings_more arts x es e s.document (h.documents a b i bs s there is)) u v k bytes at c read;
+      live = λ u n at. elim (nodes u n at) [
+        | inl was ↦ still_runs arts x es e n.live (h.live u n was)
+        | inr new ↦ new.1
+      ];
+      published = last ∙ published_more es old.published e h.published;
+      lists = lists_on x es e range h.lists;
     }
+
+-- a node that starts runs under the first version
+start_runs : (arts : Arts) (x : Setting) (es : List Event) → SettingFits arts x → x.epochs ≡ true → (u : NodeId) (s : Started)
+    → RunsUnder arts x es (node_at_start arts x u s).live
+start_runs arts x es fits on u s =
+    let first : Live = record {
+      version = x.topology.version;
+      weights = weights_in x.topology.edges;
+      document = x.document x.topology.version (weights_in x.topology.edges);
+    } in
+    let same : (node_at_start arts x u s).live ≡ first = rw on refl in
+    subst (RunsUnder arts x es) (sym same) (first_runs arts x es fits)
 
 life_keeps : (arts : Arts) (x : Setting) (es : List Event) (js : List Entry) (old : World) (e : Event) (j : Entry) (new : World) → SettingFits arts x
     → Carries x.topology.format arts → x.epochs ≡ true → KeysStand x es old → Signs arts x es js old → InRange x es e → LifeCase arts x old e j new
     → Signs arts x (es ++ e ∷ []) (js ++ j ∷ []) new
 life_keeps arts x es js old e j new fits reads on keys h range (Starts_now u is start) =
     subst (λ (f : Event). Signs arts x (es ++ f ∷ []) (js ++ j ∷ []) new) (sym is)
-    (stay_keep arts x es js old (events.Start u) j new h
+    (stay_keep arts x es js old (events.Start u) j new h (subst (AreFields x es) is range.fields) (ap (λ (w : World). w.published) start.world)
     (λ v n at. elim (more_found v n (node_at_start arts x u (next_start x old u)) old.nodes (subst (λ (w : World). node_in w.nodes v ≡ Some n) start.world at)) [
       | inl was ↦ inl was
-      | inr it ↦ inr (start_is arts x es js old new u j fits reads on keys h.entries (subst (InRange x es) is range) start v n it)
+      | inr it ↦ inr (
+        start_is arts x es js old new u j fits reads on keys h.entries (subst (InRange x es) is range) start v n it,
+        subst (λ (m : NodeState). RunsUnder arts x (es ++ events.Start u ∷ []) m.live) (sym it.1)
+            (start_runs arts x (es ++ events.Start u ∷ []) fits on u (next_start x old u)),
+      )
     ])
     (λ F all. subst (λ (w : World). EachFrame F w.directions) (sym start.world) all))
 life_keeps arts x es js old e j new fits reads on keys h range (Exhausts u is none) =
-    stay_keep arts x es js old e j new h
+    stay_keep arts x es js old e j new h range.fields
+    (ap (λ (w : World). w.published) none.world ∙ ap (λ (f : Event). with_list old.published (list_in f)) (sym is))
     (λ v n at. inl (subst (λ (w : World). node_in w.nodes v ≡ Some n) none.world at))
     (λ F all. subst (λ (w : World). EachFrame F w.directions) (sym none.world) all)
 life_keeps arts x es js old e j new fits reads on keys h range (Stops u is stop) =
     let there = signs_ready arts x es js old (events.Stop u) keys h in
-    stay_keep arts x es js (ready x old (events.Stop u)) e j new there
+    stay_keep arts x es js (ready x old (events.Stop u)) e j new there range.fields
+    (ap (λ (w : World). w.published) stop.world ∙ ap (λ (f : Event). with_list (ready x old (events.Stop u)).published (list_in f)) (sym is))
     (λ v n at. inl (without_left v u n (ready x old (events.Stop u)).nodes (subst (λ (w : World). node_in w.nodes v ≡ Some n) stop.world at)
     (ready_once x es old (events.Stop u) on keys)))
     (λ F all. subst (λ (w : World). EachFrame F w.directions) (sym stop.world) all)
 life_keeps arts x es js old e j new fits reads on keys h range (Nobody other down) =
-    stay_keep arts x es js old e j new h
+    stay_keep arts x es js old e j new h range.fields (ap (λ (w : World). w.published) down.world)
     (λ u n at. inl (subst (λ (w : World). node_in w.nodes u ≡ Some n) down.world at))
     (λ F all. subst (λ (w : World). EachFrame F w.directions) (sym down.world) (frames_missed F old.directions e all))
 
@@ -370,7 +517,8 @@ pub turns_keep_signs : TurnsKeepSigns
 turns_keep_signs arts x es js old e j new fits reads keys h range (Moves m) unforged =
     moves_keep arts x es js (ready x old e) e j new fits reads (signs_ready arts x es js old e keys h) range.fields m unforged
 turns_keep_signs arts x es js old e j new fits reads keys h range (Stays s) unforged =
-    stay_keep arts x es js old e j new h
+    stay_keep arts x es js old e j new h range.fields
+    (ap (λ (w : World). w.published) s.world ∙ sym (ap (with_list old.published) (craft_list s.key e s.is_craft)))
     (λ u n at. inl (subst (λ (w : World). node_in w.nodes u ≡ Some n) s.world at))
     (λ F all. subst (λ (w : World). EachFrame F w.directions) (sym s.world) all)
 turns_keep_signs arts x es js old e j new fits reads keys h range (Lives on life) unforged =
@@ -392,4 +540,4 @@ pub reached : (arts : Arts) (x : Setting) (es : List Event) (js : List Entry) (w
     → Carries x.topology.format arts
     → Clean arts x es js w → InRange x es e → (m : Move arts x (ready x w e) e j new) → InputFits m.input
 reached arts x es js w new e j fits carries run range m =
-    input_fits arts x es (ready x w e) m.node e m.input carries (signs_there arts x es js w e fits carries run).bytes range.fields m.reaches
+    input_fits arts x es (ready x w e) m.node e m.input fits carries (signs_there arts x es js w e fits carries run).bytes range.fields m.reaches

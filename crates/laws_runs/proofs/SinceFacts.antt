@@ -92,6 +92,8 @@ no_start u (events.Flip a b k back bit) is = refl
 no_start u (events.Inject a b bytes) is = refl
 no_start u (events.Craft c v key object) is = refl
 no_start u (events.CraftStatus c v s d base have) is = refl
+no_start u (events.Publish u' weights) is = refl
+no_start u (events.CraftDocument c' v' key' version weights) is = refl
 no_start u (events.Start v) is = absurd is
 no_start u (events.Stop v) is = absurd is
 

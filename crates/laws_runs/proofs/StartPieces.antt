@@ -1,5 +1,6 @@
 -- Of a frame the last piece alone may say of a start: what that makes of the boots that are held, and that no other piece changes them.
-use Rattle.std.proofs.Common.{◌≡◌, ◌≤◌, ℕ, Bool, true, false, cond, List, [], ◌∷◌, ◌++◌, map, Option, Some, None, Result, Ok, Err, refl, sym, ap, subst, ◌∙◌, inl, inr, arith, append_assoc}
+use Rattle.std.proofs.Common.{◌≡◌, ◌≤◌, ℕ, Bool, true, false, cond, List, [], ◌∷◌, ◌++◌, map, Option, Some, None, Result, Ok, Err, refl, sym, ap, subst, ◌∙◌}
+use Rattle.std.proofs.Common.{inl, inr, arith, append_assoc}
 use Rattle.std.specs.Prelude.{◌⊎◌}
 use Rattle.std.proofs.lemmas.Bool.{cases_Bool, cases_eq}
 use Rattle.sp_base.specs.declared.id.NodeId.{NodeId}
@@ -11,7 +12,7 @@ use Rattle.sp_msg.specs.declared.body.Ack.{Ack}
 use Rattle.sp_msg.specs.declared.kept.Kept.{Kept}
 use Rattle.sp_msg.specs.declared.refused.SendRefused.{SendRefused}
 use Rattle.sp_rules.specs.Answers.{ack_answer, epoch_answer, is_new, prio_answer, rel_answer, weight_answer}
-use Rattle.sp_rules.specs.Arrivals.{arrival_at, greeted, handled, has_risen, heeded, link_after, parts_met, pieces_in, pieces_where}
+use Rattle.sp_rules.specs.Arrivals.{arrival_at, greeted, heeded, parts_met, pieces_in, pieces_where, before_document, document_at, read_by, rises}
 use Rattle.sp_rules.specs.Arts.{Arts}
 use Rattle.sp_rules.specs.Handle.{Arrival, handle, handle_all, heard_where, met, offer_to}
 use Rattle.sp_rules.specs.Lives.{are_held, boot_said, held_boot, is_dated, judge_epoch, origin_said}
@@ -34,11 +35,15 @@ use Rattle.sp_rules.specs.declared.lives.Life.{Life}
 use Rattle.sp_rules.specs.declared.node.LinkReply.{LinkReply}
 use Rattle.sp_rules.specs.declared.node.LinkReply.TheVariants as links
 use Rattle.sp_rules.specs.declared.node.NodeRefused.{NodeRefused}
+use Rattle.sp_rules.specs.Link.{advanced}
+use Rattle.sp_rules.specs.Polls.{is_served, parts_after, polled}
+use Rattle.laws_node.proofs.Adopting.{publishing, reading}
 use Rattle.laws_node.specs.Asked.{NewKeep}
 use Rattle.laws_node.specs.Epochs.{Follows}
 use Rattle.laws_node.proofs.AskedLemmas.{new_left, new_right}
 use Rattle.laws_node.proofs.Epochs.{epoch_taken}
-use Rattle.laws_runs.proofs.NoStarts.{NoStart, pieces_at}
+use Rattle.laws_node.proofs.Tables.{cond_either}
+use Rattle.laws_runs.proofs.NoStarts.{NoStart, pieces_at, beside}
 
 -- ---- the last piece
 
@@ -74,7 +79,7 @@ last_of s =
     ))
 
 last_in : (f : Fixed) (r : Result Contents SectionRefused) → StartLast (pieces_in f r)
-last_in f (Ok s) = last_of (heeded f s)
+last_in f (Ok s) = beside StartLast s.document (pieces_of (heeded f s)) tt (last_of (heeded f s))
 last_in f (Err refused) = tt
 
 pub last_where : (reply : LinkReply) (f : Fixed) (r : Result Contents SectionRefused) → StartLast (pieces_where reply (pieces_in f r))
@@ -89,6 +94,7 @@ last_where (links.Learned boot) f r = tt
 last_where (links.Stale boot counter) f r = tt
 last_where (links.OtherTopology theirs) f r = tt
 last_where (links.Section refused) f r = tt
+last_where links.Withdrawn f r = tt
 
 -- ---- held boots
 
@@ -207,16 +213,19 @@ module _ (arts : Arts) (v : NodeId) (most : ℕ) where
 
   pub step_below : (n : NodeState) (input : Input) (output : Output) (after : NodeState) → NodeStep arts n input output after
       → NewKeep (SaysMost v most) output.answered → Below n → Below after
-  step_below n (steps.Poll u) output after step new low = or_below (call_refusal n u) n _ after step.1 low low
+  step_below n (steps.Poll u) output after step new low =
+      or_below (call_refusal n u) n (called n (with_link n u (advanced (link_in n u))) (parts_after n u)) after step.1 low
+      (cond_either (λ (p : Parts). held_boot p.lives v ≤ most) (is_served n u) (polled n.fixed n.parts u) n.parts low low)
   step_below n (steps.Datagram u bytes) output after step new low =
       go (call_refusal n u) (subst (λ (o : Output). NewKeep (SaysMost v most) o.answered) step.0 new) step.1
     where
       go : (r : Option NodeRefused) → NewKeep (SaysMost v most) (refused_call r (arrived arts n u bytes)).answered
-          → after ≡ kept_or r n (called n (with_link n u (link_after arts n u bytes)) (handled arts n u bytes).parts) → Below after
+          → after ≡ kept_or r n (read_by arts (before_document arts n u bytes) (document_at arts n u bytes)) → Below after
       go None new e =
-          let same = greeted_lives n.fixed.epochs (has_risen (link_in n u) (link_after arts n u bytes)) u n.parts in
+          let same = greeted_lives n.fixed.epochs (rises arts n u bytes) u n.parts in
           let met : held_boot (parts_met arts n u bytes).lives v ≤ most = subst (λ (lives : List Life). held_boot lives v ≤ most) (sym same) low in
-          subst Below (sym e) (all_below (arrival_at n u) (parts_met arts n u bytes) (pieces_at arts n u bytes) new met)
+          let first = all_below (arrival_at n u) (parts_met arts n u bytes) (pieces_at arts n u bytes) new met in
+          subst Below (sym e) (reading arts (before_document arts n u bytes) (document_at arts n u bytes) (λ m told. Below m) first (λ document d is reads by. first))
       go (Some refused) new e = subst Below (sym e) low
   step_below n (steps.Tick now) output after step new low =
       subst Below (sym step.1) (settled_below (at_time n now) (due_now n) (signer_refusal n.signer) low)
@@ -225,3 +234,5 @@ module _ (arts : Arts) (v : NodeId) (most : ℕ) where
   step_below n (steps.SetWeight u weight) output after step new low = or_below (weight_refusal n u weight) n _ after step.1 low low
   step_below n (steps.TakeRel src) output after step new low = subst Below (sym step.1) low
   step_below n steps.TakePrio output after step new low = subst Below (sym step.1) low
+  step_below n (steps.Publish document) output after step new low =
+      subst Below (sym step.1) (publishing arts n document (λ m told. Below m) low (λ d reads by. low))

@@ -9,24 +9,26 @@ use Rattle.sp_msg.specs.declared.effect.Effect.{Effect}
 use Rattle.sp_msg.specs.declared.effect.Effect.TheVariants.{Signed}
 use Rattle.sp_msg.specs.declared.effect.Why.TheVariants.{Taken}
 use Rattle.sp_msg.specs.declared.refused.SendRefused.{SendRefused}
-use Rattle.sp_rules.specs.Arrivals.{arrival_at, handled, link_after, parts_met}
+use Rattle.sp_rules.specs.Arrivals.{arrival_at, handled, parts_met, before_document, document_at, read_by}
 use Rattle.sp_rules.specs.Arts.{Arts}
 use Rattle.sp_rules.specs.Link.{advanced}
 use Rattle.sp_rules.specs.Node.{NodeState, call_refusal, called, kept_or, link_in, signed_now, signed_once, with_link}
-use Rattle.sp_rules.specs.Polls.{frame_to, polled}
+use Rattle.sp_rules.specs.Polls.{frame_to, parts_after}
 use Rattle.sp_rules.specs.Prio.{admit_prio, expired_effects}
 use Rattle.sp_rules.specs.Rel.{pushed_in}
-use Rattle.sp_rules.specs.Sends.{mask_in, own_prio, prio_body, prio_sent, rel_body, rel_number, rel_refusal, rel_sent, send_prio_refusal, signer_refusal, weight_body, weight_number, weight_refusal, weight_sent}
+use Rattle.sp_rules.specs.Sends.{mask_in, own_prio, prio_body, prio_sent, rel_body, rel_number, rel_refusal, rel_sent, send_prio_refusal, signer_refusal}
+use Rattle.sp_rules.specs.Sends.{weight_body, weight_number, weight_refusal, weight_sent}
 use Rattle.sp_rules.specs.Steps as steps
-use Rattle.sp_rules.specs.Steps.{Input, NodeStep, Output, accepted, arrived, refused_call, refused_send, replied}
+use Rattle.sp_rules.specs.Steps.{Input, NodeStep, Output, accepted, arrived, refused_call, refused_send, replied, document_effects}
 use Rattle.sp_rules.specs.Store.{oldest}
 use Rattle.sp_rules.specs.Ticks.{ack_effects, at_time, due_now, settled_by, time_after}
 use Rattle.sp_rules.specs.Weights.{held}
 use Rattle.sp_rules.specs.declared.node.NodeRefused.{NodeRefused}
 use Rattle.sp_runs.specs.Told.{signed_by}
 use Rattle.laws_runs.proofs.NoStarts.{pieces_at}
-use Rattle.laws_runs.proofs.Quiet.{quiet_expired, quiet_gone, quiet_prio, quiet_weight}
+use Rattle.laws_runs.proofs.Quiet.{quiet_expired, quiet_gone, quiet_prio, quiet_weight, quiet_document, quiet_publish}
 use Rattle.laws_runs.proofs.StepSigns.{unsigned_all}
+use Rattle.laws_node.proofs.Adopting.{publishing, reading}
 
 pub data Uses (n : NodeState) (es : List Effect) (after : NodeState) : Type 0 where
   Uses_none : flat_map signed_by es ≡ [] → after.signer.index ≡ n.signer.index → Uses n es after
@@ -36,16 +38,20 @@ pub step_uses : (arts : Arts) (n : NodeState) (i : Input) (output : Output) (aft
 step_uses arts n (steps.Poll v) output after step = go (call_refusal n v) (ap (λ (o : Output). o.effects) step.0) step.1
   where
     go : (r : Option NodeRefused) → output.effects ≡ (refused_call r (replied (steps.Frame (frame_to arts n v)))).effects
-        → after ≡ kept_or r n (called n (with_link n v (advanced (link_in n v))) (polled n.fixed n.parts v)) → Uses n output.effects after
+        → after ≡ kept_or r n (called n (with_link n v (advanced (link_in n v))) (parts_after n v)) → Uses n output.effects after
     go None e f = Uses_none (ap (flat_map signed_by) e) (ap (λ (m : NodeState). m.signer.index) f)
     go (Some refused) e f = Uses_none (ap (flat_map signed_by) e) (ap (λ (m : NodeState). m.signer.index) f)
 step_uses arts n (steps.Datagram v bytes) output after step = go (call_refusal n v) (ap (λ (o : Output). o.effects) step.0) step.1
   where
     go : (r : Option NodeRefused) → output.effects ≡ (refused_call r (arrived arts n v bytes)).effects
-        → after ≡ kept_or r n (called n (with_link n v (link_after arts n v bytes)) (handled arts n v bytes).parts) → Uses n output.effects after
+        → after ≡ kept_or r n (read_by arts (before_document arts n v bytes) (document_at arts n v bytes)) → Uses n output.effects after
     go None e f =
-        Uses_none (ap (flat_map signed_by) e ∙ unsigned_all arts (arrival_at n v) (parts_met arts n v bytes) (pieces_at arts n v bytes))
-        (ap (λ (m : NodeState). m.signer.index) f)
+        let left = before_document arts n v bytes in
+        let document = document_at arts n v bytes in
+        let same = reading arts left document (λ m told. m.signer.index ≡ left.signer.index) refl (λ bytes d is reads by. refl) in
+        Uses_none (ap (flat_map signed_by) e ∙ flat_map-append signed_by (handled arts n v bytes).effects (document_effects arts left document)
+        ∙ rw (unsigned_all arts (arrival_at n v) (parts_met arts n v bytes) (pieces_at arts n v bytes), (quiet_document arts left document).no_signature) refl)
+        (ap (λ (m : NodeState). m.signer.index) f ∙ same)
     go (Some refused) e f = Uses_none (ap (flat_map signed_by) e) (ap (λ (m : NodeState). m.signer.index) f)
 step_uses arts n (steps.Tick now) output after step =
     subst (λ (es : List Effect). Uses n es after) (sym (ap (λ (o : Output). o.effects) step.0))
@@ -98,3 +104,7 @@ step_uses arts n (steps.TakeRel src) output after step =
 step_uses arts n steps.TakePrio output after step =
     Uses_none (ap (λ (o : Output). flat_map signed_by o.effects) step.0 ∙ (quiet_gone 0 Taken (oldest n.parts.prio.inbox)).no_signature)
     (ap (λ (m : NodeState). m.signer.index) step.1)
+step_uses arts n (steps.Publish document) output after step =
+    let same = publishing arts n document (λ m told. m.signer.index ≡ n.signer.index) refl (λ d reads by. refl) in
+    Uses_none (ap (λ (o : Output). flat_map signed_by o.effects) step.0 ∙ (quiet_publish arts n document).no_signature)
+    (ap (λ (m : NodeState). m.signer.index) step.1 ∙ same)

@@ -14,7 +14,7 @@ use Rattle.sp_msg.specs.declared.effect.Why.TheVariants.{Taken}
 use Rattle.sp_msg.specs.declared.kept.Kept.{Kept}
 use Rattle.sp_msg.specs.declared.refused.SendRefused.{SendRefused}
 use Rattle.sp_rules.specs.Answers.{ack_answer, epoch_answer, is_new, prio_answer, rel_answer, weight_answer}
-use Rattle.sp_rules.specs.Arrivals.{arrival_at, parts_met}
+use Rattle.sp_rules.specs.Arrivals.{arrival_at, parts_met, before_document, document_at, handled}
 use Rattle.sp_rules.specs.Arts.{Arts}
 use Rattle.sp_rules.specs.Flow.{FlowState, ends, flow_said}
 use Rattle.sp_rules.specs.Handle.{Arrival, handle, handle_all, offer_to, weight_effects}
@@ -25,9 +25,10 @@ use Rattle.sp_rules.specs.Pieces.{Piece, WeightPiece, PrioAckPiece, PrioPiece, R
 use Rattle.sp_rules.specs.Polls.{frame_to}
 use Rattle.sp_rules.specs.Prio.{expired_effects, judge_prio, prio_effects}
 use Rattle.sp_rules.specs.Rel.{delivery, ended_by, is_end, is_to, judge_ack_of, judge_rel_of, rel_effects, restart_effects}
-use Rattle.sp_rules.specs.Sends.{PrioSend, mask_in, no_paths, own_prio, prio_body, prio_refusal, prio_sent, rel_body, rel_number, rel_refusal, rel_sent, send_prio_refusal, signer_refusal, weight_body, weight_number, weight_refusal, weight_sent}
+use Rattle.sp_rules.specs.Sends.{PrioSend, mask_in, no_paths, own_prio, prio_body, prio_refusal, prio_sent, rel_body, rel_number, rel_refusal, rel_sent}
+use Rattle.sp_rules.specs.Sends.{send_prio_refusal, signer_refusal, weight_body, weight_number, weight_refusal, weight_sent}
 use Rattle.sp_rules.specs.Steps as steps
-use Rattle.sp_rules.specs.Steps.{Input, NodeStep, Output, accepted, arrived, refused_call, refused_send, replied}
+use Rattle.sp_rules.specs.Steps.{Input, NodeStep, Output, accepted, arrived, refused_call, refused_send, replied, document_effects}
 use Rattle.sp_rules.specs.Store.{oldest}
 use Rattle.sp_rules.specs.Ticks.{ack_effects, due_now, time_after}
 use Rattle.sp_rules.specs.declared.answers.Item.TheVariants as items
@@ -40,7 +41,7 @@ use Rattle.sp_runs.specs.Told.{signed_by}
 use Rattle.laws_runs.specs.Signs.{NodeIs, sizes_at}
 use Rattle.laws_runs.proofs.Goods.{arts_fit}
 use Rattle.laws_runs.proofs.NoStarts.{pieces_at}
-use Rattle.laws_runs.proofs.Quiet.{quiet_acked, quiet_expired, quiet_gone, quiet_prio, quiet_weight}
+use Rattle.laws_runs.proofs.Quiet.{quiet_acked, quiet_expired, quiet_gone, quiet_prio, quiet_weight, quiet_document, quiet_publish}
 
 -- ---- pieces sign nothing
 
@@ -115,6 +116,7 @@ no_start_asked input body e kind is = go input (subst (IsAskedBy input) is kind)
     go (steps.SetWeight v weight) k = k
     go (steps.TakeRel src) k = k
     go steps.TakePrio k = k
+    go (steps.Publish document) k = k
 
 module _ (arts : Arts) (x : Setting) (P : Kept → Type 0) (fits : SettingFits arts x) (u : NodeId) (n : NodeState) (output : Output) (after : NodeState)
     (is : NodeIs x P u n) where
@@ -180,7 +182,11 @@ module _ (arts : Arts) (x : Setting) (P : Kept → Type 0) (fits : SettingFits a
   step_signs (steps.Datagram v bytes) input step = Signs_none (ap (λ (o : Output). flat_map signed_by o.effects) step.0 ∙ go (call_refusal n v))
     where
       go : (r : Option NodeRefused) → flat_map signed_by (refused_call r (arrived arts n v bytes)).effects ≡ []
-      go None = unsigned_all arts (arrival_at n v) (parts_met arts n v bytes) (pieces_at arts n v bytes)
+      go None =
+          let left = before_document arts n v bytes in
+          let document = document_at arts n v bytes in
+          flat_map-append signed_by (handled arts n v bytes).effects (document_effects arts left document)
+          ∙ rw (unsigned_all arts (arrival_at n v) (parts_met arts n v bytes) (pieces_at arts n v bytes), (quiet_document arts left document).no_signature) refl
       go (Some refused) = refl
   step_signs (steps.Tick now) input step = tick_signs now step
   step_signs (steps.SendRel dst payload) input step = rel_signs dst payload input step
@@ -189,3 +195,5 @@ module _ (arts : Arts) (x : Setting) (P : Kept → Type 0) (fits : SettingFits a
   step_signs (steps.TakeRel src) input step = Signs_none (ap (λ (o : Output). flat_map signed_by o.effects) step.0)
   step_signs steps.TakePrio input step =
       Signs_none (ap (λ (o : Output). flat_map signed_by o.effects) step.0 ∙ (quiet_gone 0 Taken (oldest n.parts.prio.inbox)).no_signature)
+  step_signs (steps.Publish document) input step =
+      Signs_none (ap (λ (o : Output). flat_map signed_by o.effects) step.0 ∙ (quiet_publish arts n document).no_signature)

@@ -1,6 +1,8 @@
 -- What a store's effects say that it holds, and that each eviction leaves the fullest source its share.
+use Rattle.sp_base.specs.declared.id.Flow.{Flow}
 use Rattle.laws_runs.specs.Places.{FreshIf, Rising, Shelf, Steps, StoreIs, all_held, as_held, less_held, shelf, shelf_after, shelf_by}
-use Rattle.std.proofs.Common.{◌≡◌, ◌<◌, ◌≤◌, ℕ, ◌+◌, ◌==◌, Bool, true, false, cond, List, [], ◌∷◌, ◌++◌, length, map, filter, Option, Some, None, refl, sym, ap, subst, ◌∙◌, inl, inr, arith, not, nat_lt}
+use Rattle.std.proofs.Common.{◌≡◌, ◌<◌, ◌≤◌, ℕ, ◌+◌, ◌==◌, Bool, true, false, cond, List, [], ◌∷◌, ◌++◌, length, map, filter, Option, Some, None, refl, sym, ap}
+use Rattle.std.proofs.Common.{subst, ◌∙◌, inl, inr, arith, not, nat_lt}
 use Rattle.std.specs.Prelude.{drop, find, slice_get}
 use Rattle.std.specs.List.{All, list_any}
 use Rattle.std.proofs.lemmas.Bool.{cases_Bool, eq-eqb, eqb-true, ne_eqb}
@@ -19,7 +21,8 @@ use Rattle.sp_msg.specs.declared.effect.Why.TheVariants as whys
 use Rattle.sp_msg.specs.declared.kept.Kept.{Kept}
 use Rattle.sp_rules.specs.Choices.{less_first}
 use Rattle.sp_rules.specs.PrioPeer as rows
-use Rattle.sp_rules.specs.Store.{Store, arriving, entry_in, evicted, expired_entries, has_id, is_expired, less_expired, less_oldest, oldest, removed, said, source, victim, without}
+use Rattle.sp_rules.specs.Store.{Store, arriving, entry_in, evicted, expired_entries, has_id, is_expired, less_expired, less_oldest, oldest, removed, said}
+use Rattle.sp_rules.specs.Store.{source, victim, without}
 use Rattle.sp_rules.specs.declared.store.Entry.{Entry}
 use Rattle.sp_rules.specs.declared.store.TheConstants.{IDS}
 use Rattle.laws_node.specs.Stores.{IsPrio}
@@ -59,6 +62,7 @@ pub data IsAway (p : ℕ) : Effect → Type 0 where
   Tells_prio : {src : NodeId} {seq : ℕ} {payload : List ℕ} → IsAway p (effects.DeliveredPrio src seq payload)
   Tells_weight : {origin : NodeId} {edge : EdgeId} {seq weight : ℕ} → IsAway p (effects.WeightHeld origin edge seq weight)
   Ends_flow : {flow : Flow} → IsAway p (effects.Ended flow)
+  Tells_version : {version : ℕ} → IsAway p (effects.Version version)
   Stores : {place id seq prio : ℕ} {src : NodeId} → (place ≡ p → ⊥) → IsAway p (effects.Stored place id src seq prio)
   Leaves : {place id : ℕ} {why : Why} → (place ≡ p → ⊥) → IsAway p (effects.Gone place id why)
 
@@ -76,6 +80,7 @@ one_away capacity p st (effects.Delivered src seq payload) is = (refl, (tt, tt))
 one_away capacity p st (effects.DeliveredPrio src seq payload) is = (refl, (tt, tt))
 one_away capacity p st (effects.WeightHeld origin edge seq weight) is = (refl, (tt, tt))
 one_away capacity p st (effects.Ended flow) is = (refl, (tt, tt))
+one_away capacity p st (effects.Version version) is = (refl, (tt, tt))
 one_away capacity p st (effects.Stored place id src seq prio) (Stores other) =
     let f : (place == p) ≡ false = ne_eqb place p other in (rw f refl, (λ same. absurd (other same), tt))
 one_away capacity p st (effects.Gone place id whys.Evicted) (Leaves other) =
@@ -85,6 +90,8 @@ one_away capacity p st (effects.Gone place id whys.Expired) (Leaves other) =
 one_away capacity p st (effects.Gone place id whys.Acked) (Leaves other) =
     let f : (place == p) ≡ false = ne_eqb place p other in (rw f refl, (λ same. absurd (other same), tt))
 one_away capacity p st (effects.Gone place id whys.Taken) (Leaves other) =
+    let f : (place == p) ≡ false = ne_eqb place p other in (rw f refl, (λ same. absurd (other same), tt))
+one_away capacity p st (effects.Gone place id whys.Withdrawn) (Leaves other) =
     let f : (place == p) ≡ false = ne_eqb place p other in (rw f refl, (λ same. absurd (other same), tt))
 
 pub leads_away : (capacity p : ℕ) (st : Shelf) (es : List Effect) → AreAway p es → Leads capacity p st es st
@@ -118,6 +125,7 @@ unfolding less_shelf
 gone_here capacity p st id whys.Evicted given share = let t : (p == p) ≡ true = eq-eqb p p refl in record { held = rw t refl; shares = ((λ same. given, λ same. share refl), tt) }
 gone_here capacity p st id whys.Expired given share = let t : (p == p) ≡ true = eq-eqb p p refl in record { held = rw t refl; shares = ((λ same. given, tt), tt) }
 gone_here capacity p st id whys.Acked given share = let t : (p == p) ≡ true = eq-eqb p p refl in record { held = rw t refl; shares = ((λ same. given, tt), tt) }
+gone_here capacity p st id whys.Withdrawn given share = let t : (p == p) ≡ true = eq-eqb p p refl in record { held = rw t refl; shares = ((λ same. given, tt), tt) }
 gone_here capacity p st id whys.Taken given share = let t : (p == p) ≡ true = eq-eqb p p refl in record { held = rw t refl; shares = ((λ same. given, tt), tt) }
 
 -- the shelf of these entries
@@ -277,8 +285,11 @@ oldest_is capacity s h = record {
 }
 
 -- all that expired leave
+abbrev leaving_by : Why → ℕ → List Entry → List Effect
+leaving_by why p es = map (λ e. effects.Gone p e.id why) es
+
 abbrev leaving : ℕ → List Entry → List Effect
-leaving p es = map (λ e. effects.Gone p e.id whys.Expired) es
+leaving p es = leaving_by whys.Expired p es
 
 -- what is left of a list when these leave
 abbrev less_all : List Held → List Entry → List Held
@@ -308,18 +319,42 @@ filter_held b test (e ∷ es) rising = go (test e) (filter_held e.id test es ris
     go false rest =
         stays_first (as_held e) (all_held es) (filter test es) (all_filter (λ (g : Entry). e.id < g.id) test es (above_all e.id es rising.1)) ∙ ap (λ hs. as_held e ∷ hs) rest
 
-all_leave : (capacity p : ℕ) (st : Shelf) (gs : List Entry) → All (λ g. g.id ≤ st.top) gs → Leads capacity p st (leaving p gs) (record { top = st.top; held = less_all st.held gs })
+all_leave : (why : Why) → (why ≡ whys.Evicted → ⊥) → (capacity p : ℕ) (st : Shelf) (gs : List Entry) → All (λ g. g.id ≤ st.top) gs
+    → Leads capacity p st (leaving_by why p gs) (record { top = st.top; held = less_all st.held gs })
 unfolding less_shelf
-all_leave capacity p st [] all = leads_nowhere capacity p st
-all_leave capacity p st (g ∷ gs) all =
-    let first = gone_here capacity p st g.id whys.Expired (All-head (λ (x : Entry). x.id ≤ st.top) g gs all) (λ why. absurd (cc)) in
-    leads_on capacity p st (less_shelf g.id st) (record { top = st.top; held = less_all st.held (g ∷ gs) }) (effects.Gone p g.id whys.Expired ∷ []) (leaving p gs) first
-    (all_leave capacity p (less_shelf g.id st) gs (All-tail (λ (x : Entry). x.id ≤ st.top) g gs all))
+all_leave why never capacity p st [] all = leads_nowhere capacity p st
+all_leave why never capacity p st (g ∷ gs) all =
+    let first = gone_here capacity p st g.id why (All-head (λ (x : Entry). x.id ≤ st.top) g gs all) (λ is. absurd (never is)) in
+    leads_on capacity p st (less_shelf g.id st) (record { top = st.top; held = less_all st.held (g ∷ gs) }) (effects.Gone p g.id why ∷ []) (leaving_by why p gs) first
+    (all_leave why never capacity p (less_shelf g.id st) gs (All-tail (λ (x : Entry). x.id ≤ st.top) g gs all))
+
+-- entries that pass leave for a reason that isn't an eviction
+abbrev pub less_by : (Entry → Bool) → Store → Store
+less_by test s = record s { entries = filter (λ e. not (test e)) s.entries }
+
+pub left_by_leads : (why : Why) → (why ≡ whys.Evicted → ⊥) → (capacity p : ℕ) (s : Store) (test : Entry → Bool) → StoreIs capacity s
+    → Leads capacity p (shelf s) (leaving_by why p (filter test s.entries)) (shelf (less_by test s))
+left_by_leads why never capacity p s test h =
+    subst (λ (hs : List Held). Leads capacity p (shelf s) (leaving_by why p (filter test s.entries)) (record { top = s.last; held = hs })) (filter_held 0 test s.entries h.rising)
+    (all_leave why never capacity p (shelf s) (filter test s.entries) (all_filter (λ (e : Entry). e.id ≤ s.last) test s.entries h.last))
+
+pub left_by_is : (capacity : ℕ) (s : Store) (test : Entry → Bool) → StoreIs capacity s → StoreIs capacity (less_by test s)
+left_by_is capacity s test h = record {
+  capacity_is = h.capacity_is;
+  rising = rising_filter 0 (λ e. not (test e)) s.entries h.rising;
+  last = all_filter (λ (e : Entry). e.id ≤ s.last) (λ e. not (test e)) s.entries h.last;
+  few = let less = filter_shorter (λ e. not (test e)) s.entries in omega (arith, less, h.few);
+  small = all_filter (λ (e : Entry). source e < IDS) (λ e. not (test e)) s.entries h.small;
+}
+
+pub left_by_away : (why : Why) (p place : ℕ) (es : List Entry) → (place ≡ p → ⊥) → AreAway p (leaving_by why place es)
+left_by_away why p place [] other = tt
+left_by_away why p place (e ∷ es) other = (Leaves other, left_by_away why p place es other)
 
 pub expired_leads : (capacity p : ℕ) (s : Store) (now : ℕ) → StoreIs capacity s → Leads capacity p (shelf s) (rows.expired_effects p s now) (shelf (less_expired s now))
 expired_leads capacity p s now h =
     subst (λ (hs : List Held). Leads capacity p (shelf s) (rows.expired_effects p s now) (record { top = s.last; held = hs })) (filter_held 0 (is_expired now) s.entries h.rising)
-    (all_leave capacity p (shelf s) (filter (is_expired now) s.entries) (all_filter (λ (e : Entry). e.id ≤ s.last) (is_expired now) s.entries h.last))
+    (all_leave whys.Expired (λ is. absurd (cc)) capacity p (shelf s) (filter (is_expired now) s.entries) (all_filter (λ (e : Entry). e.id ≤ s.last) (is_expired now) s.entries h.last))
 
 pub expired_is : (capacity : ℕ) (s : Store) (now : ℕ) → StoreIs capacity s → StoreIs capacity (less_expired s now)
 expired_is capacity s now h = record {

@@ -1,12 +1,16 @@
 -- Each event in its range has a turn.
-use Rattle.std.proofs.Common.{◌≡◌, ◌<◌, ◌≤◌, ℕ, zero, suc, Bool, true, false, cond, List, [], ◌∷◌, ◌++◌, length, Option, Some, None, option_map, refl, sym, ap, subst, ◌∙◌, arith}
-use Rattle.std.specs.Prelude.{IsTrue, ◌||◌, is_some, nat_lt, not, slice_get}
+use Rattle.std.proofs.Common.{◌≡◌, ◌<◌, ◌≤◌, ℕ, zero, suc, Bool, true, false, cond, List, [], ◌∷◌, ◌++◌, length, Option, Some, None, option_map, refl, sym, ap}
+use Rattle.std.proofs.Common.{subst, ◌∙◌, arith}
+use Rattle.std.specs.Prelude.{IsTrue, ◌==◌, ◌||◌, is_some, nat_lt, not, slice_get, unwrap_or}
 use Rattle.std.specs.Option.{option_and_then}
 use Rattle.std.proofs.lemmas.Bool.{ltb-false, ltb-true}
+use Rattle.std.proofs.lemmas.Bool.Decides.{nat_tests}
 use Rattle.sp_base.specs.declared.id.NodeId.{NodeId}
+use Rattle.sp_frame.specs.Sections.{with_document}
 use Rattle.sp_epoch.specs.Numbers.{after_start, numbers_at, with_numbers}
 use Rattle.sp_rules.specs.Arrivals.{after_datagram}
 use Rattle.sp_rules.specs.Arts.{Arts}
+use Rattle.sp_rules.specs.Documents.{after_publish}
 use Rattle.sp_rules.specs.Masks.{Choice, IsChoice, graph_of}
 use Rattle.sp_rules.specs.Node.{NodeState, start_effects}
 use Rattle.sp_rules.specs.Parts.{Fixed}
@@ -17,7 +21,7 @@ use Rattle.sp_rules.specs.Steps as steps
 use Rattle.sp_rules.specs.Steps.{Input, NodeStep, Output}
 use Rattle.sp_rules.specs.Ticks.{after_tick}
 use Rattle.sp_rules.specs.declared.node.TheConstants.{MAX_CALLS}
-use Rattle.sp_runs.specs.Inputs.{acting, crafted_contents, crafted_frame, flipped, input_of}
+use Rattle.sp_runs.specs.Inputs.{acting, crafted_contents, crafted_document, crafted_frame, flipped, input_of, last_weights, may_sign}
 use Rattle.sp_runs.specs.Journals.{reply_word}
 use Rattle.sp_runs.specs.Lives.{IsOther, comes_to_nobody, directions_missed, is_missing, next_start, ready}
 use Rattle.sp_runs.specs.Runs.{AreFields, Clean, InRange, IsCraftOf, IsMade, Lives, Moves, Stays, crafted_after, directions_after, is_other, next_frame, polls}
@@ -27,6 +31,7 @@ use Rattle.sp_journal.specs.declared.entry.Entry.{Entry}
 use Rattle.sp_journal.specs.declared.entry.Reply.{Reply}
 use Rattle.sp_journal.specs.declared.entry.Reply.TheVariants as replies
 use Rattle.sp_schedule_crafts.specs.Objects.{body_of}
+use Rattle.sp_schedule_events.specs.Documents.{list_in, with_list}
 use Rattle.sp_schedule_events.specs.Lives.{is_started}
 use Rattle.sp_schedule_events.specs.declared.event.Event.{Event}
 use Rattle.sp_schedule_events.specs.declared.event.Event.TheVariants as events
@@ -46,7 +51,7 @@ use Rattle.laws_runs.proofs.Words.{each_reply_has_words}
 
 -- and for a priority message where there is a choice of edges
 abbrev Choosable : NodeState → Input → Type 0
-Choosable n (steps.SendPrio m) = (choice : Choice) × IsChoice (graph_of n.fixed.topology n.parts.weights) n.fixed.me m.dst m.paths choice
+Choosable n (steps.SendPrio m) = (choice : Choice) × IsChoice n.parts.weights (graph_of n.fixed.topology n.parts.weights) n.fixed.me m.dst m.paths choice
 Choosable n _ = Unit {0}
 
 record Stepped (arts : Arts) (n : NodeState) (input : Input) : Type 0 where
@@ -67,6 +72,7 @@ stepped arts n (steps.SendPrio m) c = record {
 stepped arts n (steps.SetWeight v weight) c = record { output = steps.set_weight_output arts n v weight; after = after_set_weight arts n v weight; step = (refl, refl) }
 stepped arts n (steps.TakeRel src) c =
     record { output = steps.replied (steps.Payload (rel.oldest n.parts.rel src)); after = after_take_rel n src; step = (refl, refl) }
+stepped arts n (steps.Publish document) c = record { output = steps.publish_output arts n document; after = after_publish arts n document; step = (refl, refl) }
 stepped arts n steps.TakePrio c = record { output = steps.take_prio_output n; after = after_take_prio n; step = (refl, refl) }
 
 -- ---- what reaches the node that acts
@@ -83,7 +89,7 @@ there_is (Some bytes) here = (bytes, refl)
 reached : (arts : Arts) (x : Setting) (es : List Event) (w v : World) (n : NodeState) (e : Event) → v.directions ≡ w.directions
     → AreFields x es e → IsOther e → is_missing w e ≡ false
     → ((d : NodeId) (paths : ℕ) (s : NodeId) → acting e ≡ s → IsTrue (is_correct x s) → IsTrue (is_other x s d)
-    → (choice : Choice) × IsChoice (graph_of n.fixed.topology n.parts.weights) n.fixed.me d paths choice)
+    → (choice : Choice) × IsChoice n.parts.weights (graph_of n.fixed.topology n.parts.weights) n.fixed.me d paths choice)
     → Reached arts x v n e
 reached arts x es w v n (events.Rel s d payload) same range other here choices = Comes (steps.SendRel d payload) refl tt
 reached arts x es w v n (events.Prio s d p expiry paths payload) same range other here choices =
@@ -111,6 +117,22 @@ reached arts x es w v n (events.Craft c u key object) same range other here choi
     go true some = Comes (steps.Datagram c bytes) (ap (λ t. cond t (Some (steps.Datagram c bytes)) None) some) tt
     go false none = Spent key refl (ltb-false (crafts v.crafted key) x.total none)
 reached arts x es w v n (events.CraftStatus c u s d base have) same range other here choices = Comes _ refl tt
+reached arts x es w v n (events.Publish u weights) same range other here choices = Comes _ refl tt
+reached arts x es w v n (events.CraftDocument c u key version weights) same range other here choices = go (key == 0) refl (nat_lt count x.total) refl
+  where
+    bytes : List ℕ
+    bytes = crafted_frame arts n c (with_document (crafted_document arts x v.crafted key version (unwrap_or weights (last_weights x v.published))))
+
+    count : ℕ
+    count = crafts v.crafted (record { 0 = key })
+
+    comes : may_sign x v.crafted key ≡ true → Reached arts x v n (events.CraftDocument c u key version weights)
+    comes may = Comes (steps.Datagram c bytes) (ap (λ t. cond t (Some (steps.Datagram c bytes)) None) may) tt
+
+    go : (a : Bool) → (key == 0) ≡ a → (b : Bool) → nat_lt count x.total ≡ b → Reached arts x v n (events.CraftDocument c u key version weights)
+    go true admin b left = comes (rw admin refl)
+    go false node true some = comes (rw (node, some) refl)
+    go false node false none = Spent (record { 0 = key }) (refl, grind (arith, nat_tests, node)) (ltb-false count x.total none)
 reached arts x es w v n (events.Start u) same range other here choices = absurd other
 reached arts x es w v n (events.Stop u) same range other here choices = absurd other
 
@@ -154,6 +176,8 @@ brought x es w (events.Flip u v k back bit) off range full count =
 brought x es w (events.Inject u v bytes) off range full count = record { other = tt; here = refl }
 brought x es w (events.Craft c v key object) off range full count = record { other = tt; here = refl }
 brought x es w (events.CraftStatus c v s d base have) off range full count = record { other = tt; here = refl }
+brought x es w (events.Publish u weights) off range full count = record { other = tt; here = refl }
+brought x es w (events.CraftDocument c v key version weights) off range full count = record { other = tt; here = refl }
 brought x es w (events.Start u) off range full count =
     absurd (let wrong : false ≡ true = sym off ∙ (both x.epochs (not (is_started es u.0)) range.may).0 in cc)
 brought x es w (events.Stop u) off range full count =
@@ -173,6 +197,8 @@ acts x es (events.Flip u v k back bit) range = range.1
 acts x es (events.Inject u v bytes) range = range.0
 acts x es (events.Craft c v key object) range = range.0
 acts x es (events.CraftStatus c v s d base have) range = range.0
+acts x es (events.Publish u weights) range = range.0
+acts x es (events.CraftDocument c v key version weights) range = range.0
 acts x es (events.Start u) range = range.0
 acts x es (events.Stop u) range = range
 
@@ -194,13 +220,13 @@ comes arts x es js w fits carries choices run few e range other here runs =
     n = there.0
 
     choose : (d : NodeId) (paths : ℕ) (s : NodeId) → acting e ≡ s → IsTrue (is_correct x s) → IsTrue (is_other x s d)
-        → (choice : Choice) × IsChoice (graph_of n.fixed.topology n.parts.weights) n.fixed.me d paths choice
+        → (choice : Choice) × IsChoice n.parts.weights (graph_of n.fixed.topology n.parts.weights) n.fixed.me d paths choice
     choose d paths s me correct other =
         let fixed = ((signs_there arts x es js w e fits carries run).nodes (acting e) n there.1).fixed in
         let c = choices n.parts.weights s d paths correct other in (
           c.0,
-          subst (λ (f : Fixed). IsChoice (graph_of f.topology n.parts.weights) f.me d paths c.0) (sym fixed)
-              (subst (λ u. IsChoice (graph_of x.topology n.parts.weights) u d paths c.0) (sym me) c.1),
+          subst (λ (f : Fixed). IsChoice n.parts.weights (graph_of f.topology n.parts.weights) f.me d paths c.0) (sym fixed)
+              (subst (λ u. IsChoice n.parts.weights (graph_of x.topology n.parts.weights) u d paths c.0) (sym me) c.1),
         )
 
     turn : (input : Input) → input_of arts x v n e ≡ Some input → (s : Stepped arts n input) → (o : Option Reply)
@@ -215,6 +241,7 @@ comes arts x es js w fits carries choices run few e range other here runs =
         nodes = with_node v.nodes (acting e) s.after;
         directions = directions_after v.directions e s.output.reply;
         crafted = crafted_after v.crafted e;
+        published = with_list v.published (list_in e);
       };
       turn = Moves (record {
         node = n;
@@ -290,7 +317,7 @@ misses : (arts : Arts) (x : Setting) (es : List Event) (w : World) (e : Event) �
     → Happens arts x es w e
 misses arts x es w e on other nobody = record {
   entry = record { reply = replies.Down; effects = [] };
-  new = record w { directions = directions_missed w.directions e };
+  new = record w { directions = directions_missed w.directions e; published = with_list w.published (list_in e) };
   turn = Lives on (life_of arts x w e _ _ (Nobody other (record { nobody = nobody; reply = refl; effects = refl; world = refl })));
 }
 

@@ -10,20 +10,23 @@ use Rattle.sp_msg.specs.declared.body.Body.{Body}
 use Rattle.sp_msg.specs.declared.body.Body.TheVariants as bodies
 use Rattle.sp_msg.specs.declared.kept.Kept.{Kept}
 use Rattle.sp_msg.specs.declared.refused.SendRefused.{SendRefused}
-use Rattle.sp_rules.specs.Arrivals.{arrival_at, parts_met}
+use Rattle.sp_rules.specs.Arrivals.{arrival_at, parts_met, before_document, document_at, read_by}
 use Rattle.sp_rules.specs.Arts.{Arts}
 use Rattle.sp_rules.specs.Flow.{FlowState, ends, is_flow, no_flow}
 use Rattle.sp_rules.specs.Handle.{Arrival, handle, handle_all}
 use Rattle.sp_rules.specs.Lives.{are_held, held_boot, is_dated, start}
-use Rattle.sp_rules.specs.Node.{NodeState, call_refusal, kept_or}
+use Rattle.sp_rules.specs.Node.{NodeState, call_refusal, kept_or, called, link_in, with_link}
 use Rattle.sp_rules.specs.Parts.{Parts}
 use Rattle.sp_rules.specs.Pieces.{Piece}
 use Rattle.sp_rules.specs.Rel.{RelState, flow_in}
 use Rattle.sp_rules.specs.Sends.{rel_refusal, send_prio_refusal, signer_refusal, weight_refusal}
-use Rattle.sp_rules.specs.Steps.{Input, NodeStep, Output, Poll, Datagram, Tick, SendRel, SendPrio, SetWeight, TakeRel, TakePrio}
+use Rattle.sp_rules.specs.Steps.{Input, NodeStep, Output, Poll, Datagram, Tick, SendRel, SendPrio, SetWeight, TakeRel, TakePrio, Publish}
 use Rattle.sp_rules.specs.Ticks.{at_time, due_now, settled_by}
 use Rattle.sp_rules.specs.declared.lives.Life.{Life}
-use Rattle.laws_node.proofs.Tables.{all_first, all_weaker}
+use Rattle.sp_rules.specs.Link.{advanced}
+use Rattle.sp_rules.specs.Polls.{is_served, parts_after, polled}
+use Rattle.laws_node.proofs.Tables.{all_first, all_weaker, cond_either}
+use Rattle.laws_node.proofs.Adopting.{publishing, reading}
 use Rattle.laws_runs.specs.Dated.{AreDated, FlowDated, NamesHeld}
 use Rattle.laws_runs.specs.Unborn.{FlowUnborn, HoldNone, NamesNone, Unborn}
 use Rattle.laws_runs.proofs.NoStarts.{NoStarts, met_as_it_was, no_starts_at, pieces_at}
@@ -88,11 +91,17 @@ kept_lives (Some x) n m same = refl
 -- without epochs no held boot changes
 pub lives_stay : (arts : Arts) (n : NodeState) (input : Input) (output : Output) (new : NodeState) → NodeStep arts n input output new → n.fixed.epochs ≡ false
     → new.parts.lives ≡ n.parts.lives
-lives_stay arts n (Poll v) output new s without = ap (λ (m : NodeState). m.parts.lives) s.1 ∙ kept_lives (call_refusal n v) n _ refl
+lives_stay arts n (Poll v) output new s without =
+    ap (λ (m : NodeState). m.parts.lives) s.1
+    ∙ kept_lives (call_refusal n v) n (called n (with_link n v (advanced (link_in n v))) (parts_after n v))
+    (cond_either (λ (p : Parts). p.lives ≡ n.parts.lives) (is_served n v) (polled n.fixed n.parts v) n.parts refl refl)
 lives_stay arts n (Datagram v bytes) output new s without =
-    ap (λ (m : NodeState). m.parts.lives) s.1 ∙ kept_lives (call_refusal n v) n _
-    (pieces_stay arts (arrival_at n v) (parts_met arts n v bytes) (pieces_at arts n v bytes) (no_starts_at arts n v bytes without)
-    ∙ ap (λ (p : Parts). p.lives) (met_as_it_was arts n v bytes without))
+    let left = before_document arts n v bytes in
+    let first : left.parts.lives ≡ n.parts.lives =
+    pieces_stay arts (arrival_at n v) (parts_met arts n v bytes) (pieces_at arts n v bytes) (no_starts_at arts n v bytes without)
+    ∙ ap (λ (p : Parts). p.lives) (met_as_it_was arts n v bytes without) in
+    ap (λ (m : NodeState). m.parts.lives) s.1 ∙ kept_lives (call_refusal n v) n (read_by arts left (document_at arts n v bytes))
+    (reading arts left (document_at arts n v bytes) (λ m told. m.parts.lives ≡ n.parts.lives) first (λ document d is reads by. first))
 lives_stay arts n (Tick now) output new s without = ap (λ (m : NodeState). m.parts.lives) s.1 ∙ go (due_now n) (signer_refusal n.signer)
   where
     go : (o : Option Ack) (r : Option SendRefused) → (settled_by arts (at_time n now) o r).parts.lives ≡ n.parts.lives
@@ -104,6 +113,8 @@ lives_stay arts n (SendPrio m) output new s without = ap (λ (y : NodeState). y.
 lives_stay arts n (SetWeight v weight) output new s without = ap (λ (m : NodeState). m.parts.lives) s.1 ∙ kept_lives (weight_refusal n v weight) n _ refl
 lives_stay arts n (TakeRel src) output new s without = ap (λ (m : NodeState). m.parts.lives) s.1
 lives_stay arts n TakePrio output new s without = ap (λ (m : NodeState). m.parts.lives) s.1
+lives_stay arts n (Publish document) output new s without =
+    ap (λ (m : NodeState). m.parts.lives) s.1 ∙ publishing arts n document (λ m told. m.parts.lives ≡ n.parts.lives) refl (λ d reads by. refl)
 
 -- ---- the start
 

@@ -53,6 +53,7 @@ each_both P (effects.Gone place id why ∷ xs) ys one two = each_both P xs ys on
 each_both P (effects.Delivered src seq payload ∷ xs) ys one two = each_both P xs ys one two
 each_both P (effects.DeliveredPrio src seq payload ∷ xs) ys one two = each_both P xs ys one two
 each_both P (effects.Ended flow ∷ xs) ys one two = each_both P xs ys one two
+each_both P (effects.Version version ∷ xs) ys one two = each_both P xs ys one two
 
 pub each_less : (P Q : WeightBody → Type 0) → ((u : WeightBody) → P u → Q u) → (es : List Effect) → EachHeld P es → EachHeld Q es
 each_less P Q less [] h = tt
@@ -64,6 +65,7 @@ each_less P Q less (effects.Gone place id why ∷ es) h = each_less P Q less es 
 each_less P Q less (effects.Delivered src seq payload ∷ es) h = each_less P Q less es h
 each_less P Q less (effects.DeliveredPrio src seq payload ∷ es) h = each_less P Q less es h
 each_less P Q less (effects.Ended flow ∷ es) h = each_less P Q less es h
+each_less P Q less (effects.Version version ∷ es) h = each_less P Q less es h
 
 pub no_both : (xs ys : List Effect) → NoUpdates xs → NoUpdates ys → NoUpdates (xs ++ ys)
 no_both xs ys h k = record {
@@ -78,7 +80,7 @@ pub no_either : (t : Bool) (es : List Effect) → NoUpdates es → NoUpdates (co
 no_either true es h = h
 no_either false es h = no_none
 
-no_flat : {X : Type 0} (f : X → List Effect) → ((x : X) → NoUpdates (f x)) → (xs : List X) → NoUpdates (flat_map f xs)
+pub no_flat : {X : Type 0} (f : X → List Effect) → ((x : X) → NoUpdates (f x)) → (xs : List X) → NoUpdates (flat_map f xs)
 no_flat f each [] = no_none
 no_flat f each (x ∷ xs) = no_both (f x) (flat_map f xs) (each x) (no_flat f each xs)
 

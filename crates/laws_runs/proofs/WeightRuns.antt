@@ -1,6 +1,7 @@
 -- The part on weights over a whole run: where nodes move, start and stop; and the laws that it gives.
-use Rattle.std.proofs.Common.{◌≡◌, ℕ, ◌+◌, ◌*◌, ◌==◌, max, Bool, true, false, cond, List, [], ◌∷◌, ◌++◌, length, Some, None, refl, sym, ap, subst, ◌∙◌, inl, inr, arith}
-use Rattle.std.specs.Prelude.{IsTrue}
+use Rattle.std.proofs.Common.{◌≡◌, ℕ, ◌+◌, ◌*◌, ◌==◌, max, Bool, true, false, cond, List, [], ◌∷◌, ◌++◌, length, Some, None, refl, sym, ap, subst, ◌∙◌, inl}
+use Rattle.std.proofs.Common.{inr, arith}
+use Rattle.std.specs.Prelude.{IsTrue, slice_index_or}
 use Rattle.std.specs.List.{flat_map, slice_get}
 use Rattle.std.proofs.lemmas.Bool.{eq-eqb, ne_eqb}
 use Rattle.std.proofs.lemmas.List.{append-nil}
@@ -13,13 +14,13 @@ use Rattle.sp_msg.specs.declared.kept.Kept.{Kept}
 use Rattle.sp_rules.specs.Arts.{Arts}
 use Rattle.sp_rules.specs.Node.{NodeState}
 use Rattle.sp_rules.specs.Parts.{Fixed, Parts, nodes_of}
-use Rattle.sp_rules.specs.Weights.{WeightState, minimum, minimum_of, row_of}
+use Rattle.sp_rules.specs.Weights.{WeightState, minimum, row_of}
 use Rattle.sp_rules.specs.declared.answers.Item.{Item}
 use Rattle.laws_node.specs.Asked.{NewKeep}
 use Rattle.laws_node.specs.Shapes.{Shape}
 use Rattle.laws_node.proofs.LastWeights.{At, HasRows, said as row_said}
 use Rattle.laws_node.proofs.UpdateRows.{ends_differ, nothing_held}
-use Rattle.sp_runs.specs.Forgery.{forged_object, has_forged_tag, is_among}
+use Rattle.sp_runs.specs.Forgery.{forged_document, forged_object, has_forged_tag, is_among}
 use Rattle.sp_runs.specs.Inputs.{acting}
 use Rattle.sp_runs.specs.Lives.{ready}
 use Rattle.sp_runs.specs.Runs.{Clean, InRange, Lives, Move, Moves, Starts, Stays, Turn, Turned, forged_in}
@@ -35,7 +36,7 @@ use Rattle.laws_runs.specs.Premises.{Carries}
 use Rattle.laws_runs.specs.Signs.{Good, Known, NodeIs, Signs}
 use Rattle.laws_runs.specs.Since.{effects_since}
 use Rattle.laws_runs.specs.Weights.{EachHeld, IsSaid, WeightsAreKept}
-use Rattle.laws_runs.proofs.Goods.{new_known, own_known, plain_start, started, unforged_tag}
+use Rattle.laws_runs.proofs.Goods.{new_known, own_known, plain_start, started, unforged_both}
 use Rattle.laws_runs.proofs.KeyFiles.{key_files_stand}
 use Rattle.laws_runs.proofs.LifeCases.{life_case}
 use Rattle.laws_runs.proofs.Lists.{among_left, as_they_are, told_more}
@@ -193,7 +194,7 @@ weights_on arts x es js old e j new fits reads keys signs range (Moves m) unforg
     let there = signs_ready arts x es js old e keys signs in
     let same = signs.entries in
     let is = there.nodes (acting e) m.node m.is_there in
-    let nothing = unforged_tag (has_forged_tag arts x w m.node m.input) (forged_object arts x es js m.output.answered) unforged in
+    let nothing = unforged_both (has_forged_tag arts x w m.node m.input) (forged_object arts x es js m.output.answered) (forged_document arts es m.output.adopted) unforged in
     let before : m.node.fixed.me ≡ acting e = node_is w.nodes (acting e) m.node m.is_there in
     let me : m.after.fixed.me ≡ acting e = ap (λ (f : Fixed). f.me) (step_stays arts m.node m.input m.output m.after m.step).fixed ∙ before in
     let P = Good arts x es js in
@@ -201,7 +202,7 @@ weights_on arts x es js old e j new fits reads keys signs range (Moves m) unforg
     moved_on arts x es js e j same w new m me (λ edge joined end row. row_at x P (acting e) m.node is edge joined end row)
     (weights_ready arts x es js old e h)
     (turned x arts P Q (acting e) m.node m.input m.output m.after m.step
-    (input_fits arts x es w m.node e m.input reads there.bytes range.fields m.reaches) is
+    (input_fits arts x es w m.node e m.input fits reads there.bytes range.fields m.reaches) is
     (known_weights arts x es js Q (said_more arts x es js e j same) m.output.answered (new_known arts x es js m.output.answered nothing.1))
     (λ u own correct. own_known arts x es js w new e j m same before (bodies.Weight u) own) (rows_of x P (acting e) m.node is))
 weights_on arts x es js old e j new fits reads keys signs range (Stays spends) unforged h =
@@ -242,10 +243,12 @@ claims_of arts x es js w fits signs h = record {
       rw (f, t) refl in
       let low = h.last u n edge e e.low (2 * edge) at there low_is in
       let high = h.last u n edge e e.high (2 * edge + 1) at there high_is in
-      let least : minimum s edge ≡ e.weight = ap minimum_of here in
+      let least : minimum s edge ≡ slice_index_or n.live.weights edge 0 =
+      ap (λ (ws : List ℕ). slice_index_or ws edge 0) (signs.nodes u n at).obeys.least in
+      let bound = slice_index_or n.live.weights edge 0 in
       ap (λ a. max a (max (row_said s (2 * edge)) (row_said s (2 * edge + 1)))) least
-      ∙ ap (λ b. max e.weight (max b (row_said s (2 * edge + 1)))) low
-      ∙ ap (λ c. max e.weight (max (last_weight edge e.low 0 (effects_since es js u)) c)) high;
+      ∙ ap (λ b. max bound (max b (row_said s (2 * edge + 1)))) low
+      ∙ ap (λ c. max bound (max (last_weight edge e.low 0 (effects_since es js u)) c)) high;
   said = h.said;
 }
 
@@ -263,7 +266,7 @@ weights_are_kept arts x es js w fits reads run =
     record {
       effective_is = λ u n edge e at there.
           claims.effective_is u n edge e at there
-          ∙ ap (λ (es : List Effect). max e.weight (max (last_weight edge e.low 0 es) (last_weight edge e.high 0 es)))
+          ∙ ap (λ (es : List Effect). max (slice_index_or n.live.weights edge 0) (max (last_weight edge e.low 0 es) (last_weight edge e.high 0 es)))
           (since_is_all arts x es js w fits.plain run u);
       said = claims.said;
     }

@@ -1,5 +1,6 @@
 -- What each step tells and keeps of weights.
-use Rattle.std.proofs.Common.{◌≡◌, ℕ, ◌*◌, ◌==◌, Bool, true, false, cond, List, [], ◌∷◌, ◌++◌, length, Option, Some, None, refl, sym, ap, subst, ◌∙◌, inl, inr, nat_lt}
+use Rattle.std.proofs.Common.{◌≡◌, ℕ, ◌*◌, ◌==◌, Bool, true, false, cond, List, [], ◌∷◌, ◌++◌, length, Option, Some, None, refl, sym, ap, subst, ◌∙◌, inl, inr}
+use Rattle.std.proofs.Common.{nat_lt, filter, map}
 use Rattle.std.specs.Prelude.{◌&&◌}
 use Rattle.std.specs.Option.{option_and_then}
 use Rattle.std.specs.List.{slice_get}
@@ -15,28 +16,35 @@ use Rattle.sp_msg.specs.declared.effect.Why.TheVariants as whys
 use Rattle.sp_msg.specs.declared.kept.Kept.{Kept}
 use Rattle.sp_msg.specs.declared.refused.SendRefused.{SendRefused}
 use Rattle.sp_rules.specs.Answers.{ack_answer, epoch_answer, is_new, prio_answer, rel_answer, weight_answer}
-use Rattle.sp_rules.specs.Arrivals.{arrival_at, handled, has_risen, link_after, parts_met}
+use Rattle.sp_rules.specs.Arrivals.{arrival_at, handled, has_risen, link_after, parts_met, before_document, document_at, read_by}
 use Rattle.sp_rules.specs.Arts.{Arts}
-use Rattle.sp_rules.specs.Flow.{flow_said}
+use Rattle.sp_rules.specs.Documents.{after_publish, publish_effects, under_topology, version_effects}
+use Rattle.sp_rules.specs.Flow.{FlowState, ends, flow_said}
+use Rattle.sp_rules.specs.Parts as parts
+use Rattle.sp_rules.specs.Topologies.{is_shut, removed_of, weights_in}
+use Rattle.sp_rules.specs.declared.store.Entry.{Entry}
+use Rattle.sp_topology.specs.declared.topology.Topology.{Topology}
 use Rattle.sp_rules.specs.Handle.{Arrival, handle, handle_all, heard_where, met, offer_of, offer_to, weight_effects}
 use Rattle.sp_rules.specs.Link.{advanced}
 use Rattle.sp_rules.specs.Lives.{are_held, is_dated, judge_epoch, origin_said}
 use Rattle.sp_rules.specs.Node.{NodeState, call_refusal, called, kept_or, link_in, signed_now, signed_once, with_link}
-use Rattle.sp_rules.specs.Parts.{Fixed, Parts, is_signed}
+use Rattle.sp_rules.specs.Parts.{Fixed, Parts, is_signed, nodes_of}
 use Rattle.sp_rules.specs.Pieces.{Piece, WeightPiece, PrioAckPiece, PrioPiece, ReportPiece, AckPiece, RelPiece, EpochPiece}
-use Rattle.sp_rules.specs.Polls.{frame_to, polled}
+use Rattle.sp_rules.specs.Polls.{frame_to, polled, is_served, parts_after}
 use Rattle.sp_rules.specs.Prio as prio
 use Rattle.sp_rules.specs.Prio.{PrioState, admit_prio, judge_prio, prio_effects}
 use Rattle.sp_rules.specs.PrioPeer as rows
 use Rattle.sp_rules.specs.PrioPeer.{PrioPeer}
 use Rattle.sp_rules.specs.Rel as rel
-use Rattle.sp_rules.specs.Rel.{RelState, admit_ack, admit_rel, delivery, ended_by, is_end, is_to, judge_ack_of, judge_rel_of, pushed_in, rel_effects, reported, restart_effects}
-use Rattle.sp_rules.specs.Sends.{after_take_prio, after_take_rel, mask_in, own_prio, prio_body, prio_sent, rel_body, rel_number, rel_refusal, rel_sent, send_prio_refusal, signer_refusal, weight_body, weight_number, weight_refusal, weight_sent}
+use Rattle.sp_rules.specs.Rel.{RelState, admit_ack, admit_rel, delivery, ended_by, is_end, is_to, judge_ack_of, judge_rel_of, pushed_in, rel_effects, reported}
+use Rattle.sp_rules.specs.Rel.{restart_effects}
+use Rattle.sp_rules.specs.Sends.{after_take_prio, after_take_rel, mask_in, own_prio, prio_body, prio_sent, rel_body, rel_number, rel_refusal, rel_sent}
+use Rattle.sp_rules.specs.Sends.{send_prio_refusal, signer_refusal, weight_body, weight_number, weight_refusal, weight_sent}
 use Rattle.sp_rules.specs.Steps as steps
-use Rattle.sp_rules.specs.Steps.{Input, NodeStep, Output, accepted, arrived, refused_call, refused_send, replied}
+use Rattle.sp_rules.specs.Steps.{Input, NodeStep, Output, accepted, arrived, refused_call, refused_send, replied, document_effects}
 use Rattle.sp_rules.specs.Store.{oldest}
 use Rattle.sp_rules.specs.Ticks.{ack_effects, at_time, due_now, settled_by, time_after}
-use Rattle.sp_rules.specs.Weights.{WeightState, held, held_in, offer, row_for, row_of, weight_of}
+use Rattle.sp_rules.specs.Weights.{WeightState, held, held_in, offer, row_for, row_of, weight_of, replaced}
 use Rattle.sp_rules.specs.declared.answers.Item.TheVariants as items
 use Rattle.sp_rules.specs.declared.answers.PrioAnswer.{PrioAnswer}
 use Rattle.sp_rules.specs.declared.answers.PrioAnswer.TheVariants as prios
@@ -53,12 +61,15 @@ use Rattle.laws_node.proofs.About.{weight_about}
 use Rattle.laws_node.proofs.Own.{in_own_format, left, weight_sent_fits}
 use Rattle.laws_node.specs.HeldUpdates as lists
 use Rattle.laws_node.proofs.LastWeights.{At, HasRows, IsUpdateAt, held_said, length_stays, new_at, said as row_said}
+use Rattle.laws_node.proofs.Adopting.{publishing, reading}
+use Rattle.laws_node.proofs.Tables.{cond_either}
 use Rattle.sp_runs.specs.Settings.{Setting}
 use Rattle.laws_runs.specs.Weights.{EachHeld}
 use Rattle.laws_runs.specs.Signs.{NodeIs, sizes_at}
 use Rattle.laws_runs.proofs.Lists.{both}
 use Rattle.laws_runs.proofs.NoStarts.{pieces_at}
-use Rattle.laws_runs.proofs.WeightFacts.{NoUpdates, each_both, last_both, last_weight, no_acked, no_both, no_either, no_expired, no_gone, no_none, no_prio, no_rel, no_restart, no_signed}
+use Rattle.laws_runs.proofs.WeightFacts.{NoUpdates, each_both, last_both, last_weight, no_acked, no_both, no_either, no_expired, no_gone, no_none, no_prio}
+use Rattle.laws_runs.proofs.WeightFacts.{no_rel, no_restart, no_signed, no_flat}
 
 -- ---- what a step makes of the weights
 
@@ -202,6 +213,42 @@ module _ (P : WeightBody → Type 0) where
       all_turns arts at first.parts pieces (new_right (λ o. (u : WeightBody) → o.body ≡ bodies.Weight u → P u) first.answered others.answered new) one.rows in
       w_on P p.weights first.parts.weights others.parts.weights first.effects others.effects one rest
 
+-- ---- another version of the topology
+
+no_leaving : (place : ℕ) (es : List Entry) → NoUpdates (map (λ e. effects.Gone place e.id whys.Withdrawn) es)
+no_leaving place [] = no_none
+no_leaving place (e ∷ es) = let rest = no_leaving place es in record { last = λ edge end w. rest.last edge end w; each = λ P. rest.each P }
+
+no_ending : (gone : List NodeId) (f : FlowState) → NoUpdates (rel.ended_effect gone f)
+no_ending gone f = no_either (f.active && rel.is_over gone (ends f)) (effects.Ended (ends f) ∷ []) (record { last = λ edge end w. refl; each = λ P. tt })
+
+no_closed : (p : Parts) (least : List ℕ) (gone : List NodeId) → NoUpdates (parts.closed_effects p least gone)
+no_closed p least gone =
+    no_both (prio.closed_effects p.prio least gone) (rel.closed_effects p.rel gone)
+    (no_flat (rows.closed_effects least gone) (λ q. no_leaving q.peer (filter (rows.leaves (is_shut least q.edge) gone) q.store.entries)) p.prio.peers)
+    (no_flat (rel.ended_effect gone) (no_ending gone) p.rel.flows)
+
+version_turns : (P : WeightBody → Type 0) (n : NodeState) (bytes : List ℕ) (t : Topology) → HasRows n.parts.weights
+    → WTurns P n.parts.weights (version_effects n t) (under_topology n bytes t).parts.weights
+version_turns P n bytes t h =
+    let least = weights_in t.edges in
+    let gone = removed_of (nodes_of t) t.edges in
+    let none = no_closed n.parts least gone in
+    w_same P n.parts.weights (replaced n.parts.weights least) (version_effects n t)
+    (record { last = λ edge end w. none.last edge end w; each = λ Q. none.each Q }) refl refl h
+
+publish_turns : (P : WeightBody → Type 0) (arts : Arts) (n : NodeState) (bytes : List ℕ) → HasRows n.parts.weights
+    → WTurns P n.parts.weights (publish_effects arts n bytes) (after_publish arts n bytes).parts.weights
+publish_turns P arts n bytes h =
+    publishing arts n bytes (λ m told. WTurns P n.parts.weights told m.parts.weights)
+    (w_same P n.parts.weights n.parts.weights [] no_none refl refl h) (λ d reads by. version_turns P n bytes d.topology h)
+
+read_turns : (P : WeightBody → Type 0) (arts : Arts) (n : NodeState) (document : Option (List ℕ)) → HasRows n.parts.weights
+    → WTurns P n.parts.weights (document_effects arts n document) (read_by arts n document).parts.weights
+read_turns P arts n document h =
+    reading arts n document (λ m told. WTurns P n.parts.weights told m.parts.weights)
+    (w_same P n.parts.weights n.parts.weights [] no_none refl refl h) (λ bytes d is reads by. version_turns P n bytes d.topology h)
+
 -- ---- all cases
 
 module _ (x : Setting) (arts : Arts) (K : Kept → Type 0) (P : WeightBody → Type 0) (u : NodeId) where
@@ -223,10 +270,11 @@ module _ (x : Setting) (arts : Arts) (K : Kept → Type 0) (P : WeightBody → T
   turned n (steps.Poll v) output after step input is new own h = go (call_refusal n v) (ap (λ (o : Output). o.effects) step.0) step.1
     where
       go : (r : Option NodeRefused) → output.effects ≡ (refused_call r (replied (steps.Frame (frame_to arts n v)))).effects
-          → after ≡ kept_or r n (called n (with_link n v (advanced (link_in n v))) (polled n.fixed n.parts v)) → Done n output after
+          → after ≡ kept_or r n (called n (with_link n v (advanced (link_in n v))) (parts_after n v)) → Done n output after
       go None e f =
-          by n output after (called n (with_link n v (advanced (link_in n v))) (polled n.fixed n.parts v)) [] e f
-          (w_same P n.parts.weights (polled n.fixed n.parts v).weights [] no_none refl refl h)
+          by n output after (called n (with_link n v (advanced (link_in n v))) (parts_after n v)) [] e f
+          (cond_either (λ (p : Parts). WTurns P n.parts.weights [] p.weights) (is_served n v) (polled n.fixed n.parts v) n.parts
+          (w_same P n.parts.weights (polled n.fixed n.parts v).weights [] no_none refl refl h) (plain n [] no_none h))
       go (Some refused) e f = by n output after n [] e f (plain n [] no_none h)
   turned n (steps.Datagram v bytes) output after step input is new own h =
       go (call_refusal n v) (subst (λ (o : Output). NewKeep (λ y. (w : WeightBody) → y.body ≡ bodies.Weight w → P w) o.answered) step.0 new)
@@ -234,12 +282,17 @@ module _ (x : Setting) (arts : Arts) (K : Kept → Type 0) (P : WeightBody → T
     where
       go : (r : Option NodeRefused) → NewKeep (λ y. (w : WeightBody) → y.body ≡ bodies.Weight w → P w) (refused_call r (arrived arts n v bytes)).answered
           → output.effects ≡ (refused_call r (arrived arts n v bytes)).effects
-          → after ≡ kept_or r n (called n (with_link n v (link_after arts n v bytes)) (handled arts n v bytes).parts) → Done n output after
+          → after ≡ kept_or r n (read_by arts (before_document arts n v bytes) (document_at arts n v bytes)) → Done n output after
       go None new e f =
-          by n output after (called n (with_link n v (link_after arts n v bytes)) (handled arts n v bytes).parts) (handled arts n v bytes).effects e f
-          (let met = w_greeted (n.fixed.epochs && has_risen (link_in n v) (link_after arts n v bytes)) v n.parts in
+          let left = before_document arts n v bytes in
+          let document = document_at arts n v bytes in
+          let met = w_greeted (n.fixed.epochs && has_risen (link_in n v) (link_after arts n v bytes)) v n.parts in
+          let one : WTurns P n.parts.weights (handled arts n v bytes).effects (handled arts n v bytes).parts.weights =
           subst (λ (s : WeightState). WTurns P s (handled arts n v bytes).effects (handled arts n v bytes).parts.weights) met
-          (all_turns P arts (arrival_at n v) (parts_met arts n v bytes) (pieces_at arts n v bytes) new (subst HasRows (sym met) h)))
+          (all_turns P arts (arrival_at n v) (parts_met arts n v bytes) (pieces_at arts n v bytes) new (subst HasRows (sym met) h)) in
+          by n output after (read_by arts left document) ((handled arts n v bytes).effects ++ document_effects arts left document) e f
+          (w_on P n.parts.weights left.parts.weights (read_by arts left document).parts.weights (handled arts n v bytes).effects
+          (document_effects arts left document) one (read_turns P arts left document one.rows))
       go (Some refused) new e f = by n output after n [] e f (plain n [] no_none h)
   turned n (steps.Tick now) output after step input is new own h =
       by n output after (settled_by arts (at_time n now) (due_now n) (signer_refusal n.signer))
@@ -311,3 +364,6 @@ module _ (x : Setting) (arts : Arts) (K : Kept → Type 0) (P : WeightBody → T
       by n output after (after_take_prio n) (rows.gone 0 whys.Taken (oldest n.parts.prio.inbox)) (ap (λ (o : Output). o.effects) step.0) step.1
       (w_same P n.parts.weights n.parts.weights (rows.gone 0 whys.Taken (oldest n.parts.prio.inbox))
       (no_gone 0 whys.Taken (oldest n.parts.prio.inbox)) refl refl h)
+  turned n (steps.Publish document) output after step input is new own h =
+      by n output after (after_publish arts n document) (publish_effects arts n document) (ap (λ (o : Output). o.effects) step.0) step.1
+      (publish_turns P arts n document h)

@@ -1,56 +1,59 @@
 -- Each answer to an event in its range has words.
-use Rattle.std.proofs.Common.{◌≡◌, ◌≢◌, ◌<◌, ℕ, ◌==◌, ◌&&◌, Bool, true, false, cond, not, nat_lt, List, [], ◌∷◌, length, Option, Some, None, refl, sym, ap, subst, ◌∙◌, inl, inr, arith}
-use Rattle.std.specs.Prelude.{IsTrue, slice_get, position}
+use Rattle.std.proofs.Common.{◌≡◌, ◌≢◌, ◌<◌, ℕ, ◌==◌, Bool, true, false, cond, not, nat_lt, List, [], ◌∷◌, length, Option, Some, None, refl, sym, ap}
+use Rattle.std.proofs.Common.{subst, ◌∙◌, inl, inr, arith}
+use Rattle.std.specs.Prelude.{◌+◌, ◌||◌, Err, Ok, slice_get, position, unwrap_or}
 use Rattle.std.specs.List.{All, list_any, position_or_len}
-use Rattle.std.proofs.lemmas.Bool.{cases_Bool, eq-eqb, ne_eqb}
+use Rattle.std.proofs.lemmas.Bool.{cases_Bool, ne_eqb}
 use Rattle.std.proofs.lemmas.Bool.Decides.{nat_tests}
 use Rattle.std.proofs.lemmas.List.Elements.{All-head}
 use Rattle.sp_base.specs.Cursor.{or_else}
 use Rattle.sp_base.specs.declared.id.NodeId.{NodeId}
+use Rattle.sp_frame.specs.Sections.{with_document}
 use Rattle.sp_msg.specs.declared.body.Body.{Body}
 use Rattle.sp_msg.specs.declared.body.Body.TheVariants as bodies
 use Rattle.sp_msg.specs.declared.effect.Effect.{Effect}
 use Rattle.sp_msg.specs.declared.kept.Kept.{Kept}
 use Rattle.sp_msg.specs.declared.refused.SendRefused.{SendRefused}
 use Rattle.sp_rules.specs.Arts.{Arts}
-use Rattle.sp_rules.specs.Flow.{is_full}
+use Rattle.sp_msg.specs.declared.refused.SendRefused.TheVariants as refusals
+use Rattle.sp_rules.specs.declared.rel.RelRefused.TheVariants as room_refusals
+use Rattle.sp_rules.specs.Flow.{is_full, FlowState}
 use Rattle.sp_rules.specs.Node.{NodeState, Signer, call_refusal}
-use Rattle.sp_rules.specs.Parts.{edge_to, nodes_of}
+use Rattle.sp_rules.specs.Parts.{edge_to}
 use Rattle.sp_rules.specs.Polls.{frame_to}
 use Rattle.sp_rules.specs.Prio as prio
-use Rattle.sp_rules.specs.Rel as rel
-use Rattle.sp_rules.specs.Rel.{RelState, flow_in, own_flow, room}
+use Rattle.sp_rules.specs.Rel.{RelState, flow_in, own_flow, room, are_ends}
 use Rattle.sp_rules.specs.Masks.{Choice, Mask, OnlyPaths}
 use Rattle.sp_rules.specs.Sends.{PrioSend, is_unmet, no_life, no_paths, no_room, prio_refusal}
 use Rattle.sp_rules.specs.Sends.{rel_refusal, send_prio_refusal, signer_refusal, weight_refusal, weight_refusal_at}
 use Rattle.sp_rules.specs.Steps as steps
 use Rattle.sp_rules.specs.Steps.{Input, NodeStep, Output}
-use Rattle.sp_rules.specs.Weights.{minimum}
+use Rattle.sp_rules.specs.Weights.{minimum, is_withdrawn}
 use Rattle.sp_rules.specs.declared.node.TheConstants.{MAX_CALLS}
 use Rattle.sp_rules.specs.declared.store.Entry.{Entry as Stored}
 use Rattle.sp_topology.specs.Neighbours.{joins}
-use Rattle.laws_node.specs.Shapes.{Shape}
 use Rattle.laws_node.specs.Sizes.{Sizes}
 use Rattle.laws_node.specs.Stores.{EntryHolds, IsPrio}
-use Rattle.sp_runs.specs.Inputs.{acting, crafted_contents, crafted_frame, flipped, input_of, slot_alone}
+use Rattle.sp_runs.specs.Inputs.{acting, crafted_contents, crafted_document, crafted_frame, flipped, handed_out, input_of, last_weights, may_sign, slot_alone}
 use Rattle.sp_node_words.specs.Words.{refused_word}
 use Rattle.sp_runs.specs.Journals.{body_word, message_word, reply_word}
 use Rattle.sp_runs.specs.Lives.{ready}
-use Rattle.sp_runs.specs.Runs.{AreFields, is_hop, is_other}
-use Rattle.sp_runs.specs.Settings.{Setting, is_correct, is_node, is_one_of}
+use Rattle.sp_runs.specs.Runs.{AreFields, is_hop}
+use Rattle.sp_runs.specs.Settings.{Setting}
 use Rattle.sp_runs.specs.Worlds.{World, crafts, node_in}
 use Rattle.sp_schedule_crafts.specs.Objects.{body_of}
+use Rattle.sp_schedule_events.specs.Documents.{with_list}
 use Rattle.sp_schedule_events.specs.declared.event.Event.{Event}
 use Rattle.sp_schedule_events.specs.declared.event.Event.TheVariants as events
 use Rattle.laws_runs.specs.Calls.{EachReplyHasWords, NeighboursAreAnswered}
 use Rattle.laws_runs.proofs.Counts.{few_calls}
 use Rattle.laws_runs.specs.Signs.{Good, NodeIs, sizes_at}
-use Rattle.laws_runs.proofs.Lists.{both}
 use Rattle.laws_runs.proofs.Neighbours.{hop_back, neighbour_there}
 use Rattle.laws_runs.proofs.KeyFiles.{key_files_stand}
 use Rattle.laws_runs.proofs.Reaches.{came}
 use Rattle.laws_runs.proofs.Ready.{As_was, Extended, HasLeft, Readied, ready_left, was_there}
 use Rattle.laws_runs.proofs.Signed.{signs, signs_there}
+use Rattle.laws_runs.proofs.Versions.{published_words}
 
 -- ---- polls and datagrams
 
@@ -85,32 +88,18 @@ signer_words s left = elim (cases_Bool (s.index == s.total)) [
       rw (t, other) tt
 ]
 
--- ---- who is there
-
-differs : (a b : Bool) → (a && not b) ≡ true → (a ≡ true) × (b ≡ false)
-differs true false e = (refl, refl)
-differs true true e = absurd cc
-differs false b e = absurd cc
-
-pub record IsAnother (x : Setting) (u v : NodeId) : Type 0 where
-  pub mine : is_node x u ≡ true
-  pub there : is_node x v ≡ true
-  pub other : (u.0 == v.0) ≡ false
-
-another : (x : Setting) (u v : NodeId) → is_node x u ≡ true → is_other x u v ≡ true → IsAnother x u v
-another x u v mine other = let parts = differs (is_node x v) (u.0 == v.0) other in record { mine = mine; there = parts.0; other = parts.1 }
-
 -- ---- a reliable message
 
-room_words : (r : RelState) (dst : NodeId) → rel.is_node r r.me ≡ true → rel.is_node r dst ≡ true → (r.me.0 == dst.0) ≡ false → HasWords (no_room (room r dst))
-room_words r dst me there other =
-    let f = flow_in r.flows (own_flow r dst) in
-    let mine : (r.me.0 == r.me.0) ≡ true = eq-eqb r.me.0 r.me.0 refl in
-    let its : (dst.0 == dst.0) ≡ true = eq-eqb dst.0 dst.0 refl in
-    elim (cases_Bool (is_full r.bound f)) [
-      | inl t ↦ rw (mine, its, me, there, other, t) (told _)
-      | inr t ↦ rw (mine, its, me, there, other, t) tt
-    ]
+room_words : (r : RelState) (dst : NodeId) → HasWords (no_room (room r dst))
+room_words r dst = go (not (are_ends r (own_flow r dst) r.me dst)) (is_full r.bound f)
+  where
+    f : FlowState
+    f = flow_in r.flows (own_flow r dst)
+
+    go : (a b : Bool) → HasWords (no_room (cond a (Err room_refusals.BadEnd) (cond b (Err (room_refusals.Full f.at.base f.at.have)) (Ok (f.at.have + 1)))))
+    go true b = told _
+    go false true = told _
+    go false false = tt
 
 sent_words : (x : Setting) (number k : ℕ) (effects : List Effect) (o : Option SendRefused) → HasWords o
     → reply_word x number (steps.refused_send o (steps.accepted k effects)).reply ≢ None
@@ -123,17 +112,11 @@ life_words : (unmet : Bool) → HasWords (no_life unmet)
 life_words true = told _
 life_words false = tt
 
-rel_words : (x : Setting) (P : Kept → Type 0) (u dst : NodeId) (n : NodeState) → HasLeft n.signer → NodeIs x P u n → IsAnother x u dst → HasWords (rel_refusal n dst)
-rel_words x P u dst n left is ends =
-    let me : n.parts.rel.me ≡ u = ap (λ (s : Shape). s.rel.me) is.shape in
-    let nodes : n.parts.rel.nodes ≡ nodes_of x.topology = ap (λ (s : Shape). s.rel.nodes) is.shape in
-    let known : (v : NodeId) → is_node x v ≡ true → rel.is_node n.parts.rel v ≡ true =
-    λ v h. ap (λ (ns : List NodeId). list_any (λ m. m.0 == v.0) ns) nodes ∙ h in
+rel_words : (n : NodeState) (dst : NodeId) → HasLeft n.signer → HasWords (rel_refusal n dst)
+rel_words n dst left =
     both_have (no_life (is_unmet n dst)) (or_else (no_room (room n.parts.rel dst)) (signer_refusal n.signer))
     (life_words (is_unmet n dst))
-    (both_have (no_room (room n.parts.rel dst)) (signer_refusal n.signer)
-    (room_words n.parts.rel dst (known n.parts.rel.me (ap (is_node x) me ∙ ends.mine)) (known dst ends.there) (ap (λ (v : NodeId). v.0 == dst.0) me ∙ ends.other))
-    (signer_words n.signer left))
+    (both_have (no_room (room n.parts.rel dst)) (signer_refusal n.signer) (room_words n.parts.rel dst) (signer_words n.signer left))
 
 -- ---- a priority message
 
@@ -141,24 +124,17 @@ paths_words : (r : Choice) → HasWords (no_paths r)
 paths_words (Mask mask) = tt
 paths_words (OnlyPaths found) = told _
 
-prio_words : (x : Setting) (P : Kept → Type 0) (u : NodeId) (n : NodeState) (m : PrioSend) (choice : Choice) → HasLeft n.signer → NodeIs x P u n → IsAnother x u m.dst
-    → HasWords (send_prio_refusal n m choice)
-prio_words x P u n m choice left is ends =
-    let me : n.fixed.me ≡ u = ap (λ f. f.me) is.fixed in
-    let nodes : n.parts.prio.nodes ≡ nodes_of x.topology = ap (λ (s : Shape). s.prio.nodes) is.shape in
-    let known : prio.is_node n.parts.prio.nodes m.dst.0 ≡ true = ap (λ (ns : List NodeId). prio.is_node ns m.dst.0) nodes ∙ ends.there in
-    let other : (m.dst.0 == n.fixed.me.0) ≡ false = ne_eqb m.dst.0 n.fixed.me.0 (λ same.
-    let wrong : (u.0 == m.dst.0) ≡ true = eq-eqb u.0 m.dst.0 (ap (λ (v : NodeId). v.0) (sym me) ∙ sym same) in
-    let e : true ≡ false = sym wrong ∙ ends.other in cc) in
+prio_words : (n : NodeState) (m : PrioSend) (choice : Choice) → HasLeft n.signer → HasWords (send_prio_refusal n m choice)
+prio_words n m choice left =
     both_have (prio_refusal n m) (no_paths choice)
-    (elim (cases_Bool (is_unmet n m.dst)) [
-      | inl unmet ↦ rw (other, known, unmet) (told _)
-      | inr met ↦ elim (cases_Bool (nat_lt m.expiry n.now)) [
-        | inl t ↦ rw (other, known, met, t) (told _)
-        | inr t ↦ rw (other, known, met, t) (signer_words n.signer left)
-      ]
-    ])
+    (go ((m.dst.0 == n.fixed.me.0) || not (prio.is_there n.parts.prio m.dst.0) || not (prio.is_there n.parts.prio n.fixed.me.0) || is_unmet n m.dst)
+    (nat_lt m.expiry n.now))
     (paths_words choice)
+  where
+    go : (a b : Bool) → HasWords (cond a (Some refusals.BadEnd) (cond b (Some (refusals.Expired n.now)) (signer_refusal n.signer)))
+    go true b = told _
+    go false true = told _
+    go false false = signer_words n.signer left
 
 -- ---- a weight
 
@@ -175,10 +151,13 @@ some_place {X = X} test xs some =
     ]
 
 weight_at_words : (n : NodeState) (edge weight : ℕ) → HasLeft n.signer → HasWords (weight_refusal_at n (Some edge) weight)
-weight_at_words n edge weight whole = elim (cases_Bool (nat_lt weight (minimum n.parts.weights edge))) [
-  | inl t ↦ rw t (told _)
-  | inr t ↦ rw t (signer_words n.signer whole)
-]
+weight_at_words n edge weight left = go (is_withdrawn n.parts.weights edge) (nat_lt weight (minimum n.parts.weights edge))
+  where
+    go : (a b : Bool)
+        → HasWords (cond a (Some refusals.BadEnd) (cond b (Some (refusals.Low (minimum n.parts.weights edge))) (signer_refusal n.signer)))
+    go true b = told _
+    go false true = told _
+    go false false = signer_words n.signer left
 
 weight_words : (x : Setting) (P : Kept → Type 0) (u v : NodeId) (n : NodeState) (weight : ℕ) → HasLeft n.signer → NodeIs x P u n → is_hop x u v ≡ true
     → HasWords (weight_refusal n v weight)
@@ -226,9 +205,6 @@ stepped arts n input same output after e step = let is : input ≡ same = cc in 
 one_input : (a b : Input) → Some a ≡ Some b → b ≡ a
 one_input a b e = cc
 
-node_of : (x : Setting) (u : NodeId) → IsTrue (is_correct x u) → is_node x u ≡ true
-node_of x u correct = (both (is_node x u) (not (is_one_of x.bad u)) correct).0
-
 -- a node with more indexes answers the same neighbours
 pub answered_too : (x : Setting) (w : World) (b n : NodeState) (v : NodeId) → Readied x w b n → call_refusal b v ≡ None → call_refusal n v ≡ None
 answered_too x w b n v (As_was same) answers = ap (λ (k : NodeState). call_refusal k v) same ∙ answers
@@ -257,22 +233,21 @@ each_reply_has_words arts x es js w fits carries run few e n after input output 
     back : (u v : NodeId) → node_in there_in.nodes v ≡ Some n → is_hop x u v ≡ true → call_refusal n u ≡ None
     back u v there hop = answers v u there (hop_back x v u ∙ hop)
 
-    crafted : (c v key : NodeId) (body : Body) → node_in there_in.nodes v ≡ Some n → is_hop x c v ≡ true → (t : Bool) (bytes : List ℕ)
+    crafted : (c v : NodeId) → node_in there_in.nodes v ≡ Some n → is_hop x c v ≡ true → (t : Bool) (bytes : List ℕ)
         → cond t (Some (steps.Datagram c bytes)) None ≡ Some input → words output
-    crafted c v key body there hop true bytes is = arrived_words arts x n c bytes input output after number (one_input (steps.Datagram c bytes) input is) (back c v there hop) step
-    crafted c v key body there hop false bytes is = absurd cc
+    crafted c v there hop true bytes is =
+        arrived_words arts x n c bytes input output after number (one_input (steps.Datagram c bytes) input is) (back c v there hop) step
+    crafted c v there hop false bytes is = absurd cc
 
     go : (f : Event) → AreFields x es f → node_in there_in.nodes (acting f) ≡ Some n → input_of arts x there_in n f ≡ Some input → words output
     go (events.Rel s d payload) range there is =
         let moves = stepped arts n input (steps.SendRel d payload) output after is step in
-        let ends = another x s d (node_of x s range.0) range.1 in
-        subst words (sym moves.0) (sent_words x number _ _ (rel_refusal n d) (rel_words x (Good arts x es js) s d n left (is_at s there) ends))
+        subst words (sym moves.0) (sent_words x number _ _ (rel_refusal n d) (rel_words n d left))
     go (events.Prio s d p expiry paths payload) range there is =
         let m : PrioSend = record { dst = d; prio = p; expiry = expiry; paths = paths; payload = payload } in
         let moves = stepped arts n input (steps.SendPrio m) output after is step in
-        let ends = another x s d (node_of x s range.0) range.1 in
         subst words (sym moves.output_is)
-        (sent_words x number _ _ (send_prio_refusal n m moves.choice) (prio_words x (Good arts x es js) s n m moves.choice left (is_at s there) ends))
+        (sent_words x number _ _ (send_prio_refusal n m moves.choice) (prio_words n m moves.choice left))
     go (events.Take d s) range there is = subst words (sym (stepped arts n input (steps.TakeRel s) output after is step).0) (told _)
     go (events.TakePrio d) range there is =
         let moves = stepped arts n input steps.TakePrio output after is step in
@@ -294,10 +269,19 @@ each_reply_has_words arts x es js w fits carries run few e n after input output 
     go (events.Inject u v bytes) range there is =
         arrived_words arts x n u bytes input output after number (one_input (steps.Datagram u bytes) input is) (back u v there range.1) step
     go (events.Craft c v key object) range there is =
-        crafted c v key (body_of object) there range.1 (nat_lt (crafts there_in.crafted key) x.total)
+        crafted c v there range.1 (nat_lt (crafts there_in.crafted key) x.total)
         (crafted_frame arts n c (crafted_contents arts x there_in.crafted n key (body_of object))) is
     go (events.CraftStatus c v s d base have) range there is =
         let bytes = crafted_frame arts n c (slot_alone n.parts.lives (record { src = s; dst = d }) base have None []) in
         arrived_words arts x n c bytes input output after number (one_input (steps.Datagram c bytes) input is) (back c v there range.1) step
+    go (events.Publish u weights) range there is =
+        let bytes = handed_out x (with_list there_in.published weights) in
+        let moves = stepped arts n input (steps.Publish bytes) output after is step in
+        let h = signs_there arts x es js w e fits carries run in
+        subst words (sym moves.0) (published_words arts x es (Good arts x es js) u n there_in.published u weights fits h.lists (is_at u there)
+        (h.live u n there).published h.published range)
+    go (events.CraftDocument c v key version weights) range there is =
+        crafted c v there range.1 (may_sign x there_in.crafted key) (crafted_frame arts n c
+        (with_document (crafted_document arts x there_in.crafted key version (unwrap_or weights (last_weights x there_in.published))))) is
     go (events.Start u) range there is = absurd cc
     go (events.Stop u) range there is = absurd cc

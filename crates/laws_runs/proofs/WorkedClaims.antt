@@ -1,5 +1,6 @@
 -- The worked claims: what each says of a small run, and what it refuses.
-use Rattle.std.proofs.Common.{◌≡◌, ◌<◌, ◌≤◌, ℕ, zero, suc, ◌==◌, ◌&&◌, ◌||◌, Bool, true, false, not, cond, List, [], ◌∷◌, ◌++◌, map, Option, Some, None, refl, sym, ap, subst, ◌∙◌, inl, inr, arith}
+use Rattle.std.proofs.Common.{◌≡◌, ◌<◌, ◌≤◌, ℕ, zero, suc, ◌==◌, ◌&&◌, ◌||◌, Bool, true, false, not, cond, List, [], ◌∷◌, ◌++◌, map, Option, Some, None, refl}
+use Rattle.std.proofs.Common.{sym, ap, subst, ◌∙◌, inl, inr, arith}
 use Rattle.std.specs.Prelude.{◌⊎◌, IsTrue, if◌then◌else◌, slice_get, slice_index_or}
 use Rattle.std.specs.List.{All, Contains}
 use Rattle.std.proofs.lemmas.Bool.{eqb-true}
@@ -36,7 +37,8 @@ use Rattle.laws_runs.specs.Priority.{AreOnce}
 use Rattle.laws_runs.specs.States.{NodeClaims, SignClaims, is_good_in}
 use Rattle.laws_runs.specs.Story.{line, object, send}
 use Rattle.laws_runs.specs.Weights.{EachHeld, IsSaid}
-use Rattle.laws_runs.specs.WorkedClaims.{LivesAreWorked, NodesAreWorked, PriorityIsWorked, SignaturesAreWorked, WeightsAreWorked, believed, believer, boots, flow, half, hearsay, hi, holds_it, holds_update, keeps, message, second, sends, signed_one}
+use Rattle.laws_runs.specs.WorkedClaims.{LivesAreWorked, NodesAreWorked, PriorityIsWorked, SignaturesAreWorked, WeightsAreWorked, believed, believer, boots}
+use Rattle.laws_runs.specs.WorkedClaims.{flow, half, hearsay, hi, holds_it, holds_update, keeps, message, second, sends, signed_one, weighed}
 use Rattle.laws_runs.proofs.Lists.{among_cons, both}
 use Rattle.laws_runs.proofs.Tables.{same_node}
 use Rattle.laws_node.specs.Story as stories
@@ -130,16 +132,17 @@ priority_is_worked = record {
 
 -- 3 alone is there, and its weights are those that it told
 believed_is : (u : NodeId) (n : NodeState) (edge : ℕ) (e : Edge) → node_in believed.nodes u ≡ Some n → slice_get (line []).topology.edges edge ≡ Some e
-    → effective n.parts.weights edge ≡ effective_weight hearsay holds_it u edge e
+    → effective n.parts.weights edge ≡ effective_weight hearsay holds_it u edge (slice_index_or n.live.weights edge 0) e
 believed_is u n edge e at there = elim (node_cases believer [] u n at) [
-  | inl is ↦ subst (λ (v : NodeId). effective n.parts.weights edge ≡ effective_weight hearsay holds_it v edge e) is.0
-      (subst (λ (m : NodeState). effective m.parts.weights edge ≡ effective_weight hearsay holds_it (node 3) edge e) is.1 (of_edge edge e there))
+  | inl is ↦ subst (λ (v : NodeId). effective n.parts.weights edge ≡ effective_weight hearsay holds_it v edge (slice_index_or n.live.weights edge 0) e) is.0
+      (subst (λ (m : NodeState). effective m.parts.weights edge ≡ effective_weight hearsay holds_it (node 3) edge (slice_index_or m.live.weights edge 0) e) is.1 (of_edge edge e there))
   | inr none ↦ absurd (let f : None ≡ Some n = none in cc)
 ]
   where
-    of_edge : (edge : ℕ) (e : Edge) → slice_get (line []).topology.edges edge ≡ Some e → effective believer.parts.weights edge ≡ effective_weight hearsay holds_it (node 3) edge e
-    of_edge zero e there = let same : row_edge 1 2 ≡ e = cc in subst (λ (f : Edge). effective believer.parts.weights 0 ≡ effective_weight hearsay holds_it (node 3) 0 f) same refl
-    of_edge (suc zero) e there = let same : row_edge 2 3 ≡ e = cc in subst (λ (f : Edge). effective believer.parts.weights 1 ≡ effective_weight hearsay holds_it (node 3) 1 f) same refl
+    of_edge : (edge : ℕ) (e : Edge) → slice_get (line []).topology.edges edge ≡ Some e → effective believer.parts.weights edge
+        ≡ effective_weight hearsay holds_it (node 3) edge (slice_index_or believer.live.weights edge 0) e
+    of_edge zero e there = let same : row_edge 1 2 ≡ e = cc in subst (λ (f : Edge). effective believer.parts.weights 0 ≡ effective_weight hearsay holds_it (node 3) 0 (slice_index_or believer.live.weights 0 0) f) same refl
+    of_edge (suc zero) e there = let same : row_edge 2 3 ≡ e = cc in subst (λ (f : Edge). effective believer.parts.weights 1 ≡ effective_weight hearsay holds_it (node 3) 1 (slice_index_or believer.live.weights 1 0) f) same refl
     of_edge (suc (suc edge)) e there = absurd cc
 
 -- a compromised node's update needn't be signed in the run
@@ -154,7 +157,9 @@ pub weights_are_worked : WeightsAreWorked
 unfolding ids read_body_in body_at_in number_at of_fields field_at
 weights_are_worked = record {
   all_of_it = refl;
-  says = λ w n h at. h.effective_is (node 1) n 0 _ at refl;
+  says = λ w n h at live.
+      h.effective_is (node 1) n 0 _ at refl
+      ∙ ap (λ (ws : List ℕ). effective_weight weighed.events weighed.journal (node 1) 0 (slice_index_or ws 0 0) (row_edge 1 2)) live;
   is_so = refl;
   minimum = λ h. (let e : ◌≡◌ {A = ℕ} 10 20 = h.effective_is (node 1) _ 0 _ refl refl in omega (arith, e));
   greatest = λ h. (let e : ◌≡◌ {A = ℕ} 30 20 = h.effective_is (node 1) _ 0 _ refl refl in omega (arith, e));

@@ -1,5 +1,5 @@
 -- Reliable messages over a run: what stands at each node of the flow from any node to a correct one.
-use Rattle.std.specs.Prelude.{ℕ, ◌≡◌, ◌+◌, ◌-◌, ◌≤◌, true, IsTrue, List, [], ◌∷◌, length, Some, slice_get}
+use Rattle.std.specs.Prelude.{ℕ, ◌≡◌, ◌+◌, ◌-◌, ◌≤◌, Bool, true, false, IsTrue, List, [], ◌∷◌, length, Some, slice_get}
 use Rattle.sp_base.specs.Lists.{IsPrefix}
 use Rattle.sp_base.specs.declared.id.NodeId.{NodeId}
 use Rattle.sp_msg.specs.Bodies.{payload_of}
@@ -9,7 +9,7 @@ use Rattle.sp_msg.specs.declared.kept.Kept.{Kept}
 use Rattle.sp_rules.specs.Arts.{Arts}
 use Rattle.sp_rules.specs.Flow.{FlowState}
 use Rattle.sp_rules.specs.Node.{NodeState}
-use Rattle.sp_rules.specs.Rel.{flow_in}
+use Rattle.sp_rules.specs.Rel.{flow_in, is_over}
 use Rattle.sp_runs.specs.Forgery.{is_among}
 use Rattle.sp_runs.specs.Runs.{Clean}
 use Rattle.sp_runs.specs.Settings.{Setting, StaysUp, is_correct, is_node}
@@ -39,6 +39,10 @@ AreSent S after (o ∷ os) = IsIn S (after + 1) (payload_of o.body) × AreSent S
 abbrev pub flow_at : NodeState → NodeId → NodeId → FlowState
 flow_at n s d = flow_in n.parts.rel.flows (record { src = s; dst = d })
 
+-- an end of the flow is removed at a node, so it has ended there, and stands at (0, 0) for good
+abbrev pub has_ended : NodeState → NodeId → NodeId → Bool
+has_ended n s d = is_over n.parts.rel.removed (record { src = s; dst = d })
+
 -- the acknowledgement that is kept of the flow from s to d has the number up to which messages count as acknowledged, and d signed it
 pub record IsVouchedFor (arts : Arts) (s d : NodeId) (es : List Event) (js : List Entry) (f : FlowState) : Type 0 where
   pub ack : Kept
@@ -50,16 +54,17 @@ pub record IsVouchedFor (arts : Arts) (s d : NodeId) (es : List Event) (js : Lis
 pub record FlowClaims (arts : Arts) (x : Setting) (s d : NodeId) (es : List Event) (js : List Entry) (w : World) : Type 0 where
   -- at each correct node, what counts as acknowledged was acknowledged by d, and d acknowledged only what it delivered
   pub base : (u : NodeId) (n : NodeState) → node_in w.nodes u ≡ Some n → (flow_at n s d).at.base ≤ acknowledged arts es js s d
-  pub base_at_end : (n : NodeState) → node_in w.nodes d ≡ Some n → (flow_at n s d).at.base ≡ acknowledged arts es js s d
+  pub base_at_end : (n : NodeState) → node_in w.nodes d ≡ Some n → has_ended n s d ≡ false → (flow_at n s d).at.base ≡ acknowledged arts es js s d
   pub acknowledged : acknowledged arts es js s d ≤ length (delivered es js s d)
   -- and each node that counts something as acknowledged has d's word for it
   pub vouched : (u : NodeId) (n : NodeState) → node_in w.nodes u ≡ Some n → 1 ≤ (flow_at n s d).at.base → IsVouchedFor arts s d es js (flow_at n s d)
   -- what came to d was delivered
-  pub have_at_end : (n : NodeState) → node_in w.nodes d ≡ Some n → (flow_at n s d).at.have ≡ length (delivered es js s d)
+  pub have_at_end : (n : NodeState) → node_in w.nodes d ≡ Some n → has_ended n s d ≡ false → (flow_at n s d).at.have ≡ length (delivered es js s d)
   -- where s is correct, what came anywhere was sent, and so are the messages of each list. What was delivered is a prefix of what was sent,
   -- with the numbers 1, 2, 3 and so on
   pub have : IsTrue (is_correct x s) → (u : NodeId) (n : NodeState) → node_in w.nodes u ≡ Some n → (flow_at n s d).at.have ≤ length (sent es js s d)
-  pub have_at_source : IsTrue (is_correct x s) → (n : NodeState) → node_in w.nodes s ≡ Some n → (flow_at n s d).at.have ≡ length (sent es js s d)
+  pub have_at_source : IsTrue (is_correct x s) → (n : NodeState) → node_in w.nodes s ≡ Some n → has_ended n s d ≡ false
+      → (flow_at n s d).at.have ≡ length (sent es js s d)
   pub lists : IsTrue (is_correct x s) → (u : NodeId) (n : NodeState) → node_in w.nodes u ≡ Some n
       → AreSent (sent es js s d) (flow_at n s d).at.base (flow_at n s d).at.list
   -- and whatever it signed as a message of this flow

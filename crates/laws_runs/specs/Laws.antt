@@ -22,9 +22,10 @@ IsHostile (events.Flip u v number back bit) = Unit {0}
 IsHostile (events.Inject u v bytes) = Unit {0}
 IsHostile (events.Craft c v key body) = Unit {0}
 IsHostile (events.CraftStatus c v s d base have) = Unit {0}
+IsHostile (events.CraftDocument c v key version weights) = Unit {0}
 IsHostile _ = ⊥
 
--- what is forged after a clean run is never a pass, a poll, a client's call or a tick
+-- what is forged after a clean run is never a pass, a publication, a poll, a client's call or a tick
 abbrev pub OnlyTheAdversaryForges : Type 0
 OnlyTheAdversaryForges = (arts : Arts) (x : Setting) (es : List Event) (js : List Entry) (w : World) (e : Event) (what : What) → SettingFits arts x
     → Carries x.topology.format arts → Clean arts x es js w → IsForgedAt arts x es js w e what → IsHostile e

@@ -2,6 +2,7 @@ pub mod Premises
 pub mod Unborn
 pub mod Dated
 pub mod KeyFiles
+pub mod Versions
 pub mod Signs
 pub mod HeldBoots
 pub mod Laws

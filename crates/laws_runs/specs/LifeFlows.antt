@@ -1,5 +1,5 @@
 -- Reliable messages over a run whose nodes may start and stop: what stands at each node of the flow from any node to a correct one, of each pair of boots.
-use Rattle.std.specs.Prelude.{ℕ, ◌≡◌, ◌<◌, ◌≤◌, ◌==◌, ◌&&◌, true, IsTrue, List, [], ◌∷◌, ◌++◌, length, Ok, None, Some, Result, if◌then◌else◌}
+use Rattle.std.specs.Prelude.{ℕ, ◌≡◌, ◌<◌, ◌≤◌, ◌==◌, ◌&&◌, true, IsTrue, List, [], ◌∷◌, ◌++◌, length, Ok, None, Some, Result, if◌then◌else◌, false}
 use Rattle.std.specs.List.{flat_map}
 use Rattle.sp_base.specs.Lists.{IsPrefix}
 use Rattle.sp_base.specs.declared.id.NodeId.{NodeId}
@@ -21,7 +21,7 @@ use Rattle.sp_runs.specs.Told.{signed}
 use Rattle.sp_runs.specs.Worlds.{World, node_in}
 use Rattle.sp_journal.specs.declared.entry.Entry.{Entry}
 use Rattle.sp_schedule_events.specs.declared.event.Event.{Event}
-use Rattle.laws_runs.specs.Flows.{AreNumbered, AreSent, IsIn, flow_at}
+use Rattle.laws_runs.specs.Flows.{AreNumbered, AreSent, IsIn, flow_at, has_ended}
 use Rattle.laws_runs.specs.HeldBoots.{BootClaims}
 use Rattle.laws_runs.specs.KeyFiles.{KeysStand}
 use Rattle.laws_runs.specs.Past.{Happened, delivered_under, mover_in, past, sent_under, under}
@@ -54,17 +54,19 @@ pub record IsVouchedUnder (arts : Arts) (s d : NodeId) (es : List Event) (js : L
 pub record LifeFlowClaims (arts : Arts) (x : Setting) (s d : NodeId) (es : List Event) (js : List Entry) (happened : List Happened) (w : World) : Type 0 where
   -- at each node, what counts as acknowledged was acknowledged by d, and d acknowledged only what it delivered
   pub base : (u : NodeId) (n : NodeState) → node_in w.nodes u ≡ Some n → (flow_at n s d).at.base ≤ under n s d (λ a b. acknowledged_under arts es js s a d b)
-  pub base_at_end : (n : NodeState) → node_in w.nodes d ≡ Some n → (flow_at n s d).at.base ≡ under n s d (λ a b. acknowledged_under arts es js s a d b)
+  pub base_at_end : (n : NodeState) → node_in w.nodes d ≡ Some n → has_ended n s d ≡ false
+      → (flow_at n s d).at.base ≡ under n s d (λ a b. acknowledged_under arts es js s a d b)
   pub acknowledged : (a b : ℕ) → acknowledged_under arts es js s a d b ≤ length (delivered_under happened s a d b)
   -- and each node that counts something as acknowledged has d's word for it
   pub vouched : (u : NodeId) (n : NodeState) → node_in w.nodes u ≡ Some n → 1 ≤ (flow_at n s d).at.base
       → IsVouchedUnder arts s d es js (flow_at n s d) (held_boot n.parts.lives s) (held_boot n.parts.lives d)
   -- what came to d was delivered
-  pub have_at_end : (n : NodeState) → node_in w.nodes d ≡ Some n → (flow_at n s d).at.have ≡ length (under n s d (λ a b. delivered_under happened s a d b))
+  pub have_at_end : (n : NodeState) → node_in w.nodes d ≡ Some n → has_ended n s d ≡ false
+      → (flow_at n s d).at.have ≡ length (under n s d (λ a b. delivered_under happened s a d b))
   -- where s is correct, what came anywhere was sent, and so are the messages of each list
   pub have : IsTrue (is_correct x s) → (u : NodeId) (n : NodeState) → node_in w.nodes u ≡ Some n
       → (flow_at n s d).at.have ≤ length (under n s d (λ a b. sent_under happened s a d b))
-  pub have_at_source : IsTrue (is_correct x s) → (n : NodeState) → node_in w.nodes s ≡ Some n
+  pub have_at_source : IsTrue (is_correct x s) → (n : NodeState) → node_in w.nodes s ≡ Some n → has_ended n s d ≡ false
       → (flow_at n s d).at.have ≡ length (under n s d (λ a b. sent_under happened s a d b))
   pub lists : IsTrue (is_correct x s) → (u : NodeId) (n : NodeState) → node_in w.nodes u ≡ Some n
       → AreSent (under n s d (λ a b. sent_under happened s a d b)) (flow_at n s d).at.base (flow_at n s d).at.list

@@ -1,6 +1,6 @@
 -- Weights of links over a run whose nodes may start and stop: a node holds no weight at its start. A weight names no boot, so what was said once counts in
 -- each later life.
-use Rattle.std.specs.Prelude.{ℕ, ◌≡◌, List, [], ◌∷◌, ◌++◌, None, Some, slice_get}
+use Rattle.std.specs.Prelude.{ℕ, ◌≡◌, List, [], ◌∷◌, ◌++◌, None, Some, slice_get, slice_index_or}
 use Rattle.sp_base.specs.declared.id.NodeId.{NodeId}
 use Rattle.sp_topology.specs.declared.topology.Edge.{Edge}
 use Rattle.sp_rules.specs.Arts.{Arts}
@@ -20,9 +20,10 @@ use Rattle.laws_runs.specs.Since.{effects_since, weight_since}
 use Rattle.laws_runs.specs.Weights.{EachHeld, IsSaid}
 
 pub record LifeWeightClaims (arts : Arts) (x : Setting) (es : List Event) (js : List Entry) (w : World) : Type 0 where
-  -- at each node the weight of an edge is the greatest of its minimum and the last weight that the node held of each end since its last start
+  -- at each node the weight of an edge is the greatest of its minimum in the topology that the node runs under and the last weight that the node
+  -- held of each end since its last start
   pub effective_is : (u : NodeId) (n : NodeState) (edge : ℕ) (e : Edge) → node_in w.nodes u ≡ Some n → slice_get x.topology.edges edge ≡ Some e
-      → effective n.parts.weights edge ≡ weight_since es js u edge e
+      → effective n.parts.weights edge ≡ weight_since es js u edge (slice_index_or n.live.weights edge 0) e
   -- and whatever was held of a correct end in any life, that one said
   pub said : (u : NodeId) → EachHeld (IsSaid arts x es js) (effects_at es js u)
 

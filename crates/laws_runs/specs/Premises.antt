@@ -4,7 +4,7 @@ use Rattle.std.specs.Prelude.{ℕ, ◌≡◌, true, IsTrue, List, ◌++◌, None
 use Rattle.std.specs.List.{All}
 use Rattle.sp_base.specs.Spelling.{AreBytes}
 use Rattle.sp_frame.specs.Ranges.{IsContentsIn, IsHead}
-use Rattle.sp_frame.specs.Sections.{Contents}
+use Rattle.sp_frame.specs.Sections.{Contents, with_document}
 use Rattle.sp_frame.specs.declared.head.Head.{Head}
 use Rattle.sp_msg.specs.Bodies.{payload_of}
 use Rattle.sp_msg.specs.declared.kept.Kept.{Kept}
@@ -44,6 +44,7 @@ pub record Carries (format : ℕ) (arts : Arts) : Type 0 where
   pub back : (len : ℕ) (h : Head) (s : Contents) (key : List ℕ) → h.format ≡ format → IsContentsIn format len s → HasGoodMessages arts s
       → arts.sections len (written arts h s key) ≡ Ok s
   pub frames : (h : Head) (s : Contents) → IsPlain s → AreOfBytes s → AreBytes (arts.frame h s)
+  pub document_frames : (h : Head) (document : List ℕ) → AreBytes document → AreBytes (arts.frame h (with_document document))
   pub tags : (key bytes : List ℕ) → AreBytes (arts.tag key bytes)
   pub signatures : (height : LmsHeight) (seed : List ℕ) (index : ℕ) (message : List ℕ) → AreBytes (arts.sign height seed index message)
   pub reads : (len : ℕ) (bytes : List ℕ) (s : Contents) → AreBytes bytes → arts.sections len bytes ≡ Ok s → AreOfBytes s

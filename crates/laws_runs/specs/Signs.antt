@@ -1,31 +1,35 @@
 -- The part on signed objects: what correct nodes keep and send bears valid signatures, and a correct signer made it in this run.
-use Rattle.std.specs.Prelude.{ℕ, ◌≡◌, ◌≤◌, true, false, IsTrue, List, [], ◌∷◌, ◌++◌, length, None, Ok, Some, slice_get}
+use Rattle.std.specs.Prelude.{ℕ, ◌≡◌, ◌≤◌, true, false, IsTrue, List, [], ◌∷◌, ◌++◌, length, None, Ok, Some, slice_get, IfSome}
 use Rattle.sp_base.specs.Spelling.{AreBytes}
 use Rattle.sp_base.specs.declared.id.NodeId.{NodeId}
 use Rattle.sp_frame.specs.Sections.{Contents}
 use Rattle.sp_msg.specs.Views.{signer_of}
 use Rattle.sp_msg.specs.declared.kept.Kept.{Kept}
 use Rattle.sp_topology.specs.Keys.{key_of}
+use Rattle.sp_rules.specs.Rel.{is_over}
 use Rattle.sp_rules.specs.Arts.{Arts}
 use Rattle.sp_rules.specs.Node.{NodeState}
 use Rattle.sp_rules.specs.Parts.{is_signed_by, nodes_of}
+use Rattle.laws_node.specs.Withdrawals.{Obeys}
 use Rattle.laws_node.specs.Nodes.{NodeHolds}
 use Rattle.laws_node.specs.Shapes.{shape_at_start, shape_of}
 use Rattle.laws_node.specs.Sizes.{Sizes}
 use Rattle.sp_rules.specs.Pieces.{pieces_of}
-use Rattle.sp_runs.specs.Forgery.{is_among}
+use Rattle.sp_runs.specs.Forgery.{is_among, lists_in}
 use Rattle.sp_runs.specs.Settings.{Setting, SettingFits, fixed_at, is_correct, link_keys, signer_from}
 use Rattle.sp_runs.specs.Told.{signed}
 use Rattle.sp_runs.specs.Worlds.{World, at_start, frames_in, node_in}
 use Rattle.sp_journal.specs.declared.entry.Entry.{Entry}
+use Rattle.sp_schedule_events.specs.Documents.{published}
 use Rattle.sp_schedule_events.specs.declared.event.Event.{Event}
 use Rattle.laws_runs.specs.Premises.{Carries, IsOfBytes}
 use Rattle.laws_runs.specs.KeyFiles.{KeysStand}
 use Rattle.laws_runs.specs.Dated.{AreDated}
 use Rattle.laws_runs.specs.Unborn.{Unborn}
+use Rattle.laws_runs.specs.Versions.{Brings, ListsStand, RunsUnder}
 use Rattle.std.specs.List.{All}
 use Rattle.laws_node.specs.Objects.{objects_in}
-use Rattle.sp_rules.specs.Flow.{FlowState, number_said}
+use Rattle.sp_rules.specs.Flow.{FlowState, number_said, ends}
 use Rattle.sp_runs.specs.Runs.{InRange, Turn, forged_in}
 
 -- ---- signed objects
@@ -60,12 +64,12 @@ pub record Numbered (f : FlowState) : Type 0 where
   pub kept : f.ack ≡ Some ack
   pub number : number_said ack.body ≡ f.at.base
 
--- where something counts as acknowledged, the acknowledgement of exactly that number is kept
-pub record FlowAck (f : FlowState) : Type 0 where
+-- Where something counts as acknowledged, the acknowledgement of exactly that number is kept. These nodes are removed
+pub record FlowAck (removed : List NodeId) (f : FlowState) : Type 0 where
   pub sound : f.at.base ≤ f.at.have
   pub ack : 1 ≤ f.at.base → Numbered f
-  -- no more waits for clients than came
-  pub inbox : length f.inbox ≤ f.at.have
+  -- no more waits for clients than came, unless the flow has ended
+  pub inbox : is_over removed (ends f) ≡ false → length f.inbox ≤ f.at.have
 
 -- a node that started before the first event
 pub record IsPlainNode (x : Setting) (n : NodeState) : Type 0 where
@@ -82,19 +86,27 @@ pub record NodeIs (x : Setting) (P : Kept → Type 0) (u : NodeId) (n : NodeStat
   -- with its rows and bounds as at its start
   pub shape : shape_of n ≡ shape_at_start (fixed_at x u n.fixed.boot) (signer_from x u 0 n.signer.bound) (link_keys x u) x.buffer x.store
   pub holds : NodeHolds (sizes_at x P u) n
-  pub acks : All FlowAck n.parts.rel.flows
+  pub acks : All (FlowAck n.parts.rel.removed) n.parts.rel.flows
+  -- its parts know of its topology what it is now
+  pub obeys : Obeys n
   -- what it keeps of a flow names the boots that it holds of both ends
   pub dated : AreDated n.parts
   -- without epochs it is in its first life, has all indexes of its key, and knows of no start
   pub plain : x.epochs ≡ false → IsPlainNode x n
 
--- all that nodes keep, and all that their frames carry, is good, and their frames are bytes
+-- all that nodes keep, and all that their frames carry, is good, and their frames are bytes; and each version that they run under was handed out
 pub record Signs (arts : Arts) (x : Setting) (es : List Event) (js : List Entry) (w : World) : Type 0 where
   pub entries : length es ≡ length js
   pub nodes : (u : NodeId) (n : NodeState) → node_in w.nodes u ≡ Some n → NodeIs x (Good arts x es js) u n
   pub frames : (u v : NodeId) (k : ℕ) (bytes : List ℕ) (s : Contents) → slice_get (frames_in w.directions u v) k ≡ Some (Some bytes)
       → arts.sections x.signature_len bytes ≡ Ok s → All (Good arts x es js) (objects_in (pieces_of s))
   pub bytes : (u v : NodeId) (k : ℕ) (bytes : List ℕ) → slice_get (frames_in w.directions u v) k ≡ Some (Some bytes) → AreBytes bytes
+  -- a document that a frame has was handed out
+  pub documents : (u v : NodeId) (k : ℕ) (bytes : List ℕ) (s : Contents) → slice_get (frames_in w.directions u v) k ≡ Some (Some bytes)
+      → arts.sections x.signature_len bytes ≡ Ok s → IfSome s.document (Brings arts x es)
+  pub live : (u : NodeId) (n : NodeState) → node_in w.nodes u ≡ Some n → RunsUnder arts x es n.live
+  pub published : w.published ≡ published es
+  pub lists : ListsStand x (lists_in es)
 
 -- ---- the laws: it holds at the start, and each turn of which nothing is forged keeps it
 

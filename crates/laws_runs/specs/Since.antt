@@ -24,8 +24,8 @@ is_start_of u _ = false
 abbrev pub effects_since : List Event → List Entry → NodeId → List Effect
 effects_since es js u = flat_map (told_at u (λ e. e ∷ [])) (after_last (λ p. is_start_of u p.0) (zip es js))
 
--- the greatest of the minimum and the last weight that u holds of each end since then
-abbrev pub weight_since : List Event → List Entry → NodeId → ℕ → Edge → ℕ
-weight_since es js u edge e =
+-- the greatest of this minimum and the last weight that u holds of each end since then
+abbrev pub weight_since : List Event → List Entry → NodeId → (edge least : ℕ) → Edge → ℕ
+weight_since es js u edge least e =
     let effects = effects_since es js u in
-    max e.weight (max (last_told edge e.low.0 0 effects) (last_told edge e.high.0 0 effects))
+    max least (max (last_told edge e.low.0 0 effects) (last_told edge e.high.0 0 effects))

@@ -3,7 +3,8 @@
 use Rattle.std.specs.Prelude.{ℕ, ◌≡◌, ◌+◌, Bool, true, false, List, [], ◌∷◌, ◌++◌, map, Option, None, Some}
 use Rattle.sp_base.specs.declared.id.NodeId.{NodeId}
 use Rattle.sp_rules.specs.Arrivals.{after_datagram}
-use Rattle.sp_rules.specs.Masks.{Mask, all_edges}
+use Rattle.sp_rules.specs.Documents.{after_publish}
+use Rattle.sp_rules.specs.Masks.{Mask, open_edges}
 use Rattle.sp_rules.specs.Node.{NodeState}
 use Rattle.sp_rules.specs.Polls.{after_poll}
 use Rattle.sp_rules.specs.Rel as rel
@@ -29,6 +30,7 @@ use Rattle.sp_journal.specs.declared.entry.LinkWord.TheVariants as links
 use Rattle.sp_journal.specs.declared.entry.Reply.{Reply}
 use Rattle.sp_journal.specs.declared.entry.Reply.TheVariants as replies
 use Rattle.sp_schedule_crafts.specs.declared.object.CraftedObject.TheVariants as crafted
+use Rattle.sp_schedule_events.specs.Documents.{list_in, with_list}
 use Rattle.sp_schedule_events.specs.declared.event.Event.{Event}
 use Rattle.sp_schedule_events.specs.declared.event.Event.TheVariants as events
 use Rattle.laws_runs.specs.Acknowledged.{acknowledged}
@@ -41,20 +43,22 @@ output_of n (steps.Poll v) = steps.poll_output toys n v
 output_of n (steps.Datagram v bytes) = steps.datagram_output toys n v bytes
 output_of n (steps.Tick now) = steps.tick_output toys n now
 output_of n (steps.SendRel dst payload) = steps.send_rel_output toys n dst payload
-output_of n (steps.SendPrio message) = steps.send_prio_output toys n message (Mask (all_edges n.fixed.topology.edges))
+output_of n (steps.SendPrio message) = steps.send_prio_output toys n message (Mask (open_edges 0 n.parts.weights.least))
 output_of n (steps.SetWeight v weight) = steps.set_weight_output toys n v weight
 output_of n (steps.TakeRel src) = steps.replied (steps.Payload (rel.oldest n.parts.rel src))
 output_of n steps.TakePrio = steps.take_prio_output n
+output_of n (steps.Publish document) = steps.publish_output toys n document
 
 abbrev pub after : NodeState → Input → NodeState
 after n (steps.Poll v) = after_poll n v
 after n (steps.Datagram v bytes) = after_datagram toys n v bytes
 after n (steps.Tick now) = after_tick toys n now
 after n (steps.SendRel dst payload) = after_send_rel toys n dst payload
-after n (steps.SendPrio message) = after_send_prio toys n message (Mask (all_edges n.fixed.topology.edges))
+after n (steps.SendPrio message) = after_send_prio toys n message (Mask (open_edges 0 n.parts.weights.least))
 after n (steps.SetWeight v weight) = after_set_weight toys n v weight
 after n (steps.TakeRel src) = after_take_rel n src
 after n steps.TakePrio = after_take_prio n
+after n (steps.Publish document) = after_publish toys n document
 
 -- so far, unless an event could not happen; and what of the last one was forged, after which nothing is played
 pub record Played : Type 0 where
@@ -78,6 +82,7 @@ after_words x p e n i (Some reply) None = record {
     nodes = with_node p.world.nodes (acting e) (after n i);
     directions = directions_after p.world.directions e (output_of n i).reply;
     crafted = crafted_after p.world.crafted e;
+    published = with_list p.world.published (list_in e);
   };
   forged = None;
   goes_on = true;
@@ -121,6 +126,10 @@ line bad = record {
   link_key = λ e. (100 + e) ∷ [];
   digest = λ bytes. [];
   epochs = false;
+  admin = 0 ∷ [];
+  admin_total = 1024;
+  document = λ version weights. [];
+  unsigned = λ version weights. [];
 }
 
 -- the message 68 69 from 1 to 3

@@ -16,7 +16,7 @@ use Rattle.laws_runs.specs.Premises.{Carries}
 -- many there are
 abbrev pub HaveChoices : Setting → Type 0
 HaveChoices x = (weights : WeightState) (s d : NodeId) (paths : ℕ) → IsTrue (is_correct x s) → IsTrue (is_other x s d)
-    → (choice : Choice) × IsChoice (graph_of x.topology weights) s d paths choice
+    → (choice : Choice) × IsChoice weights (graph_of x.topology weights) s d paths choice
 
 -- the event has a turn there
 pub record Happens (arts : Arts) (x : Setting) (es : List Event) (old : World) (event : Event) : Type 0 where

@@ -1,5 +1,5 @@
 -- Weights of links over a run.
-use Rattle.std.specs.Prelude.{ℕ, ◌≡◌, true, IsTrue, List, [], ◌∷◌, Some, slice_get}
+use Rattle.std.specs.Prelude.{ℕ, ◌≡◌, true, IsTrue, List, [], ◌∷◌, Some, slice_get, slice_index_or}
 use Rattle.sp_base.specs.declared.id.NodeId.{NodeId}
 use Rattle.sp_msg.specs.declared.body.Body.TheVariants as bodies
 use Rattle.sp_msg.specs.declared.body.WeightBody.{WeightBody}
@@ -30,9 +30,9 @@ abbrev pub IsSaid : Arts → Setting → List Event → List Entry → WeightBod
 IsSaid arts x es js u = IsTrue (is_correct x u.origin) → is_among (arts.spell (bodies.Weight u)) (signed es js u.origin) ≡ true
 
 pub record WeightClaims (arts : Arts) (x : Setting) (es : List Event) (js : List Entry) (w : World) : Type 0 where
-  -- at each node the weight of an edge is the greatest of its minimum and the last weight that the node held of each end
+  -- at each node the weight of an edge is the greatest of its minimum in the topology that the node runs under and the last weight that it held of each end
   pub effective_is : (u : NodeId) (n : NodeState) (edge : ℕ) (e : Edge) → node_in w.nodes u ≡ Some n → slice_get x.topology.edges edge ≡ Some e
-      → effective n.parts.weights edge ≡ effective_weight es js u edge e
+      → effective n.parts.weights edge ≡ effective_weight es js u edge (slice_index_or n.live.weights edge 0) e
   pub said : (u : NodeId) → EachHeld (IsSaid arts x es js) (effects_at es js u)
 
 -- of each run without forgery

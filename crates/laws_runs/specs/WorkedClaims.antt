@@ -19,6 +19,7 @@ use Rattle.sp_rules.specs.Node.{NodeState}
 use Rattle.sp_rules.specs.Pieces.{EpochPiece, PrioPiece}
 use Rattle.sp_rules.specs.Rel.{put_flow}
 use Rattle.sp_rules.specs.Weights.{effective}
+use Rattle.sp_rules.specs.Topologies.{weights_in}
 use Rattle.laws_node.specs.Story.{node, toy_frame, toys}
 use Rattle.sp_runs.specs.Inputs.{slot_alone}
 use Rattle.sp_runs.specs.Settings.{Setting, node_at_boot}
@@ -30,6 +31,7 @@ use Rattle.sp_journal.specs.declared.entry.ItemWord.TheVariants as items
 use Rattle.sp_journal.specs.declared.entry.LinkWord.TheVariants as links
 use Rattle.sp_journal.specs.declared.entry.Reply.{Reply}
 use Rattle.sp_journal.specs.declared.entry.Reply.TheVariants as replies
+use Rattle.sp_schedule_events.specs.Documents.{none_published}
 use Rattle.sp_schedule_events.specs.declared.event.Event.{Event}
 use Rattle.sp_schedule_events.specs.declared.event.Event.TheVariants as events
 use Rattle.laws_runs.specs.Flows.{flow_at}
@@ -44,7 +46,7 @@ use Rattle.laws_runs.specs.WorkedBounds.{at_boot, update, with_flows, with_weigh
 
 -- only these nodes are there, and no frame
 abbrev pub world : List NodeState → World
-world nodes = record { keys = []; nodes = nodes; directions = []; crafted = [] }
+world nodes = record { keys = []; nodes = nodes; directions = []; crafted = []; published = none_published }
 
 abbrev pub entry : Reply → List Effect → Entry
 entry reply tells = record { reply = reply; effects = tells }
@@ -132,7 +134,8 @@ believed = world (believer ∷ [])
 pub record WeightsAreWorked : Type 0 where
   pub all_of_it : weighed.events ≡ updates
   -- the last one counts
-  pub says : (w : World) (n : NodeState) → AreWeighed w → node_in w.nodes (node 1) ≡ Some n → effective n.parts.weights 0 ≡ 20
+  pub says : (w : World) (n : NodeState) → AreWeighed w → node_in w.nodes (node 1) ≡ Some n → n.live.weights ≡ weights_in (line []).topology.edges
+      → effective n.parts.weights 0 ≡ 20
   pub is_so : option_map (λ n. effective n.parts.weights 0) (node_in weighed.world.nodes (node 1)) ≡ Some 20
   -- neither the minimum, nor the greatest
   pub minimum : AreWeighed (at_start (line [])) → ⊥
@@ -169,6 +172,7 @@ sends o = record {
   nodes = [];
   directions = (record { from = node 2; to = node 3; frames = Some (toy_frame head (slot_alone [] flow 0 1 None (o ∷ []))) ∷ [] }) ∷ [];
   crafted = [];
+  published = none_published;
 }
 
 pub record SignaturesAreWorked : Type 0 where

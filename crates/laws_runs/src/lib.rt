@@ -17,6 +17,7 @@ ghost use Rattle.laws_runs.specs.Shares.{EvictionsLeaveShares};
 ghost use Rattle.laws_runs.specs.Signs.{SignsBegin, TurnsKeepSigns};
 ghost use Rattle.laws_runs.specs.States.{BeginningsAreClean, CorrectNodesAreThere, OnlyCorrectNodesRun, WhatIsKeptWasSigned};
 ghost use Rattle.laws_runs.specs.States.{PastIsDetermined, RunsAreDetermined};
+ghost use Rattle.laws_runs.specs.Versions.{DocumentsAreHeld, DocumentsSpread, FramesBringPublished, LaterVersionsFollow, VersionsArePublished};
 ghost use Rattle.laws_runs.specs.Weights.{WeightsAreKept};
 ghost use Rattle.laws_runs.specs.Crafts.{NoFrameIsForged, OwnCraftsForgeNothing};
 ghost use Rattle.laws_runs.specs.Story.{StoriesArePlayed};
@@ -24,7 +25,7 @@ ghost use Rattle.laws_runs.specs.Turns.{EachEventHasATurn};
 ghost use Rattle.laws_runs.specs.WorkedBounds.{BoundsAreWorked};
 ghost use Rattle.laws_runs.specs.WorkedClaims.{LivesAreWorked, NodesAreWorked, PriorityIsWorked, SignaturesAreWorked, WeightsAreWorked};
 
-/// A law: only bytes that the adversary brings are ever forged. A frame that is passed as it was made never is.
+/// A law: only bytes that the adversary brings are ever forged. A frame that is passed as it was made never is, nor is a document that was handed out.
 pub fn only_the_adversary_forges()
     ensures { OnlyTheAdversaryForges }
 {}
@@ -176,7 +177,35 @@ pub fn no_frame_is_forged()
     ensures { NoFrameIsForged }
 {}
 
-/// The part on signed objects, and what nodes are: it holds at the start, and each turn of which nothing is forged keeps it.
+/// A law: no correct node runs under a version of the topology that the administrator didn't hand out, whatever compromised nodes bring; nor under other
+/// weights of it. A node that starts anew runs under the first one.
+pub fn versions_are_published()
+    ensures { VersionsArePublished }
+{}
+
+/// A law: each correct node holds the document of the version that it runs under, with the administrator's signature.
+pub fn documents_are_held()
+    ensures { DocumentsAreHeld }
+{}
+
+/// A law: of two correct nodes, the topology of the one with the higher version follows that of the other, however many versions lie between. So a node that
+/// missed some, or that started anew, can take the last.
+pub fn later_versions_follow()
+    ensures { LaterVersionsFollow }
+{}
+
+/// A law: a frame of a correct node has no document, or one of a version that the administrator handed out.
+pub fn frames_bring_published()
+    ensures { FramesBringPublished }
+{}
+
+/// A law: the document of a node goes over a hop. Where a neighbour is known to run under an older version, the next frame has it; and where that one comes
+/// through and is fresh, the neighbour runs under the greater version of both. Over a withdrawn edge too.
+pub fn documents_spread()
+    ensures { DocumentsSpread }
+{}
+
+/// The part on signed objects, on versions and documents, and what nodes are: it holds at the start, and each turn of which nothing is forged keeps it.
 pub fn turns_keep_what_is_signed()
     ensures begin { SignsBegin }
     ensures turn { TurnsKeepSigns }

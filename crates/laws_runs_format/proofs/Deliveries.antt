@@ -1,4 +1,5 @@
 -- The journal of a run tells no more deliveries of an event than a frame has bytes.
+use Rattle.laws_runs.proofs.NoStarts.{beside}
 use Rattle.std.proofs.Common.{◌≡◌, ◌≤◌, ℕ, suc, ◌+◌, ◌-◌, ◌*◌, ◌==◌, Bool, true, false, cond, List, [], ◌∷◌, ◌++◌, length, length-append, map, filter, Option, Some, None, Result, Ok, Err, refl, sym, ap, subst, inl, inr, arith, nat_lt}
 use Rattle.std.specs.List.{flat_map}
 use Rattle.std.specs.Prelude.{IfSome}
@@ -36,8 +37,8 @@ use Rattle.sp_msg.specs.declared.effect.Effect.TheVariants.{Signed}
 use Rattle.sp_msg.specs.declared.kept.Kept.{Kept}
 use Rattle.sp_node_format.specs.Format.{format_in}
 use Rattle.sp_rules.proofs.ArrivalLemmas.{of_frame}
-use Rattle.sp_rules.specs.Arrivals.{arrival_at, handled, parts_met, pieces_in, pieces_where, reply_at, sections_in}
-use Rattle.sp_rules.specs.Node.{NodeState, call_refusal, link_in, own_epoch, start_effects}
+use Rattle.sp_rules.specs.Arrivals.{arrival_at, handled, parts_met, pieces_in, pieces_where, reply_at, sections_in, heeded}
+use Rattle.sp_rules.specs.Node.{NodeState, call_refusal, link_in, own_epoch, start_effects, is_shut_to}
 use Rattle.sp_rules.specs.Parts.{Fixed}
 use Rattle.sp_rules.specs.Pieces.{Piece, pieces_of}
 use Rattle.sp_rules.specs.Sends.{send_prio_refusal}
@@ -169,10 +170,11 @@ nothing_more (links.Learned boot) ps = omega arith
 nothing_more (links.Stale boot counter) ps = omega arith
 nothing_more (links.OtherTopology theirs) ps = omega arith
 nothing_more (links.Section refused) ps = omega arith
+nothing_more links.Withdrawn ps = omega arith
 
 -- what is heeded of them is no more
 heeded_few : (f : Fixed) (s : Contents) → length (objects_in (pieces_in f (Ok s))) ≤ length (objects_in (pieces_of s))
-heeded_few f s = go f.epochs
+heeded_few f s = beside (λ ps. length (objects_in ps) ≤ length (objects_in (pieces_of s))) s.document (pieces_of (heeded f s)) (omega arith) (go f.epochs)
   where
     less : length (objects_in (pieces_of (record s { epoch = None }))) ≤ length (objects_in (pieces_of s))
     less =
@@ -204,7 +206,8 @@ few_objects : (format : ℕ) (n : NodeState) (u : NodeId) (bytes : List ℕ) →
 few_objects format n u bytes are = elim (cases_Bool (nat_lt MAX_FRAME_BYTES (length bytes))) [
   | inl long ↦
       let is : opened_in format bytes ≡ Err frames.TooLong = rw long refl in
-      let reply : reply_at (format_in format) n u bytes ≡ links.TooLong = ap (of_frame (format_in format) n.fixed (link_in n u) bytes) is in
+      let reply : reply_at (format_in format) n u bytes ≡ links.TooLong =
+      ap (of_frame (format_in format) n.fixed n.live.version (is_shut_to n u) (link_in n u) bytes) is in
       rw reply (omega arith)
   | inr short ↦
       let within : length bytes ≤ MAX_FRAME_BYTES = grind (arith, nat_tests) in
@@ -250,6 +253,7 @@ answered_few format old new (steps.SetWeight v weight) output fits step = rw ste
     silent None seq es = omega arith
 answered_few format old new (steps.TakeRel u) output fits step = rw step.0 (omega arith)
 answered_few format old new steps.TakePrio output fits step = rw step.0 (omega arith)
+answered_few format old new (steps.Publish document) output fits step = rw step.0 (omega arith)
 
 -- ---- a whole run
 
@@ -304,6 +308,22 @@ journals_are_countable s es js w graph run =
     let fits = headers_fit s graph in
     record {
       entries = sym (even (arts_of (setting_of s)) (setting_of s) es js w run);
-      deliveries = all_few is_delivered (record { signed = λ b. refl; stored = λ a b c d e. refl; gone = λ a b c. refl; held = λ a b c d. refl; ended = λ f. refl }) (setting_of s) es js w fits run;
-      priority = all_few is_delivered_prio (record { signed = λ b. refl; stored = λ a b c d e. refl; gone = λ a b c. refl; held = λ a b c d. refl; ended = λ f. refl }) (setting_of s) es js w fits run;
+      deliveries =
+          all_few is_delivered (record {
+            signed = λ b. refl;
+            stored = λ a b c d e. refl;
+            gone = λ a b c. refl;
+            held = λ a b c d. refl;
+            ended = λ f. refl;
+            version = λ v. refl;
+          }) (setting_of s) es js w fits run;
+      priority =
+          all_few is_delivered_prio (record {
+            signed = λ b. refl;
+            stored = λ a b c d e. refl;
+            gone = λ a b c. refl;
+            held = λ a b c d. refl;
+            ended = λ f. refl;
+            version = λ v. refl;
+          }) (setting_of s) es js w fits run;
     }

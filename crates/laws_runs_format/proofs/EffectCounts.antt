@@ -1,4 +1,10 @@
 -- A step delivers at most one message for each object that it answers, and one more.
+use Rattle.sp_rules.specs.Rel as rel
+use Rattle.sp_rules.specs.Prio as prio
+use Rattle.sp_topology.specs.declared.topology.Topology.{Topology}
+use Rattle.sp_rules.specs.Topologies.{is_shut, removed_of, weights_in}
+use Rattle.sp_rules.specs.Documents.{publish_effects, version_effects}
+use Rattle.laws_node.proofs.Adopting.{publishing, reading}
 use Rattle.std.proofs.Common.{◌≡◌, ◌≤◌, ℕ, ◌+◌, Bool, true, false, cond, List, [], ◌∷◌, ◌++◌, length, length-append, map, filter, Option, Some, None, refl, ap, ◌∙◌, inl, inr, arith}
 use Rattle.std.specs.List.{flat_map}
 use Rattle.std.proofs.lemmas.Bool.{cases_Bool}
@@ -18,13 +24,13 @@ use Rattle.sp_msg.specs.declared.kept.Kept.{Kept}
 use Rattle.sp_msg.specs.declared.refused.SendRefused.{SendRefused}
 use Rattle.sp_rules.specs.Answers.{ack_answer, epoch_answer, is_new, prio_answer, rel_answer, weight_answer}
 use Rattle.sp_rules.specs.Arts.{Arts}
-use Rattle.sp_rules.specs.Arrivals.{arrival_at, parts_met, pieces_in, pieces_where, reply_at, sections_in}
+use Rattle.sp_rules.specs.Arrivals.{arrival_at, parts_met, pieces_in, pieces_where, reply_at, sections_in, before_document, document_at, handled}
 use Rattle.sp_rules.specs.Polls.{frame_to}
 use Rattle.sp_rules.specs.Flow.{FlowState, ends, flow_said}
 use Rattle.sp_rules.specs.Handle.{Arrival, handle, handle_all, met, offer_to, where_new, weight_effects}
 use Rattle.sp_rules.specs.Lives.{is_dated, judge_epoch, origin_said}
 use Rattle.sp_rules.specs.Node.{NodeState, call_refusal}
-use Rattle.sp_rules.specs.Parts.{Parts, is_signed}
+use Rattle.sp_rules.specs.Parts.{Parts, is_signed, closed_effects, nodes_of}
 use Rattle.sp_rules.specs.Pieces.{Piece, WeightPiece, PrioAckPiece, PrioPiece, ReportPiece, AckPiece, RelPiece, EpochPiece}
 use Rattle.sp_rules.specs.Prio.{PrioState, acked_effects, admit_prio, delivered, expired_effects, is_here, judge_prio, peer_in, prio_effects}
 use Rattle.sp_rules.specs.PrioPeer as rows
@@ -32,7 +38,7 @@ use Rattle.sp_rules.specs.PrioPeer.{PrioPeer, gone, goes_to, put_effects, stored
 use Rattle.sp_rules.specs.Rel.{RelState, admit_ack, admit_rel, delivery, ended_by, is_end, is_to, judge_ack_of, judge_rel_of, rel_effects, restart_effects}
 use Rattle.sp_rules.specs.Sends.{mask_in, own_prio, prio_body, prio_sent, rel_body, rel_number, rel_refusal, rel_sent, send_prio_refusal, signed_effect, signer_refusal, weight_body, weight_number, weight_refusal, weight_sent}
 use Rattle.sp_rules.specs.Steps as steps
-use Rattle.sp_rules.specs.Steps.{Input, NodeStep, Output, accepted, refused_call, refused_send}
+use Rattle.sp_rules.specs.Steps.{Input, NodeStep, Output, accepted, refused_call, refused_send, document_effects}
 use Rattle.sp_rules.specs.Store.{Store, entry_in, evicted, expired_entries, oldest, removed}
 use Rattle.sp_rules.specs.Ticks.{ack_effects, due_now, tick_effects, time_after}
 use Rattle.sp_rules.specs.Weights.{held}
@@ -48,6 +54,7 @@ pub record TellsDeliveries (p : Effect → Bool) : Type 0 where
   pub gone : (place id : ℕ) (why : Why) → p (effects.Gone place id why) ≡ false
   pub held : (origin : NodeId) (edge : EdgeId) (seq weight : ℕ) → p (effects.WeightHeld origin edge seq weight) ≡ false
   pub ended : (flow : Flow) → p (effects.Ended flow) ≡ false
+  pub version : (version : ℕ) → p (effects.Version version) ≡ false
 
 module _ (p : Effect → Bool) (tells : TellsDeliveries p) where
   -- how many of these pass it
@@ -90,12 +97,12 @@ module _ (p : Effect → Bool) (tells : TellsDeliveries p) where
   put_none place s o =
       none_both (stored place (s.last + 1) o.body) (gone place whys.Evicted (evicted s o)) (stored_none place (s.last + 1) o.body) (gone_none place whys.Evicted (evicted s o))
 
+  leaving_none : (place : ℕ) (why : Why) (es : List Entry) → number (map (λ (e : Entry). effects.Gone place e.id why) es) ≡ 0
+  leaving_none place why [] = refl
+  leaving_none place why (e ∷ es) = rw (tells.gone place e.id why) (leaving_none place why es)
+
   expired_none : (place : ℕ) (s : Store) (now : ℕ) → number (rows.expired_effects place s now) ≡ 0
-  expired_none place s now = all (expired_entries s now)
-    where
-      all : (es : List Entry) → number (map (λ (e : Entry). effects.Gone place e.id whys.Expired) es) ≡ 0
-      all [] = refl
-      all (e ∷ es) = rw (tells.gone place e.id whys.Expired) (all es)
+  expired_none place s now = leaving_none place whys.Expired (expired_entries s now)
 
   all_expired_none : (s : PrioState) (now : ℕ) → number (expired_effects s now) ≡ 0
   all_expired_none s now =
@@ -148,15 +155,35 @@ module _ (p : Effect → Bool) (tells : TellsDeliveries p) where
       go true = one (delivery o.body)
       go false = omega arith
 
+  over_none : (t : Bool) (f : FlowState) → number (cond t (effects.Ended (ends f) ∷ []) []) ≡ 0
+  over_none true f = none (effects.Ended (ends f)) (tells.ended (ends f))
+  over_none false f = refl
+
   ended_none : (v : NodeId) (f : FlowState) → number (ended_by v f) ≡ 0
-  ended_none v f = go (is_end v (ends f) && f.active)
-    where
-      go : (t : Bool) → number (cond t (effects.Ended (ends f) ∷ []) []) ≡ 0
-      go true = none (effects.Ended (ends f)) (tells.ended (ends f))
-      go false = refl
+  ended_none v f = over_none (is_end v (ends f) && f.active) f
 
   restart_none : (r : RelState) (v : NodeId) → number (restart_effects r v) ≡ 0
   restart_none r v = none_each (ended_by v) (ended_none v) r.flows
+
+  -- ---- another version of the topology
+
+  closed_none : (q : Parts) (least : List ℕ) (gone : List NodeId) → number (closed_effects q least gone) ≡ 0
+  closed_none q least gone =
+      none_both (prio.closed_effects q.prio least gone) (rel.closed_effects q.rel gone)
+      (none_each (rows.closed_effects least gone)
+      (λ r. leaving_none r.peer whys.Withdrawn (filter (rows.leaves (is_shut least r.edge) gone) r.store.entries)) q.prio.peers)
+      (none_each (rel.ended_effect gone) (λ f. over_none (f.active && rel.is_over gone (ends f)) f) q.rel.flows)
+
+  version_none : (n : NodeState) (t : Topology) → number (version_effects n t) ≡ 0
+  version_none n t =
+      none_both (effects.Version t.version ∷ []) (closed_effects n.parts (weights_in t.edges) (removed_of (nodes_of t) t.edges))
+      (none (effects.Version t.version) (tells.version t.version)) (closed_none n.parts (weights_in t.edges) (removed_of (nodes_of t) t.edges))
+
+  publish_none : (arts : Arts) (n : NodeState) (bytes : List ℕ) → number (publish_effects arts n bytes) ≡ 0
+  publish_none arts n bytes = publishing arts n bytes (λ m told. number told ≡ 0) refl (λ d reads by. version_none n d.topology)
+
+  document_none : (arts : Arts) (n : NodeState) (document : Option (List ℕ)) → number (document_effects arts n document) ≡ 0
+  document_none arts n document = reading arts n document (λ m told. number told ≡ 0) refl (λ bytes d is reads by. version_none n d.topology)
 
   -- ---- arrivals
 
@@ -223,7 +250,10 @@ module _ (p : Effect → Bool) (tells : TellsDeliveries p) where
   step_most arts old new (steps.Datagram u bytes) output step =
       rw step.0 (called (call_refusal old u) (steps.arrived arts old u bytes)
       (let pieces = pieces_where (reply_at arts old u bytes) (pieces_in old.fixed (sections_in arts old.fixed bytes)) in
-      let most = all_most arts (arrival_at old u) (parts_met arts old u bytes) pieces in omega (arith, most)))
+      let most = all_most arts (arrival_at old u) (parts_met arts old u bytes) pieces in
+      let left = before_document arts old u bytes in
+      let document = document_at arts old u bytes in
+      omega (arith, most, both (handled arts old u bytes).effects (document_effects arts left document), document_none arts left document)))
   step_most arts old new (steps.Tick now) output step = rw step.0 (omega (arith, ticked arts old now))
   step_most arts old new (steps.SendRel d payload) output step = rw step.0 (below (steps.send_rel_output arts old d payload) (sent (rel_refusal old d) (rel_number old d) (rel_sent arts old d payload) (one (signed_effect arts (rel_body old d payload)))))
   step_most arts old new (steps.SendPrio m) output step =
@@ -239,3 +269,4 @@ module _ (p : Effect → Bool) (tells : TellsDeliveries p) where
       (omega (arith, both (told ∷ []) (weight_effects (weight_body old v weight)), none told (tells.signed _), weight_none (weight_body old v weight)))))
   step_most arts old new (steps.TakeRel u) output step = rw step.0 (omega arith)
   step_most arts old new steps.TakePrio output step = rw step.0 (omega (arith, gone_none 0 whys.Taken (oldest old.parts.prio.inbox)))
+  step_most arts old new (steps.Publish document) output step = rw step.0 (omega (arith, publish_none arts old document))

@@ -1,5 +1,5 @@
 -- A frame's sections are bytes exactly where the payloads and signatures of its objects are.
-use Rattle.std.proofs.Common.{◌≡◌, ◌<◌, ◌==◌, ℕ, Bool, true, false, List, [], ◌∷◌, ◌++◌, length, map, append_assoc, Option, Some, None}
+use Rattle.std.proofs.Common.{◌≡◌, ◌<◌, ◌==◌, ℕ, Bool, true, false, List, [], ◌∷◌, ◌++◌, length, map, append_assoc, Option, Some, None, arith}
 use Rattle.std.proofs.Common.{refl, sym, ap, subst, ◌∙◌, arith}
 use Rattle.std.specs.List.{All, flat_map}
 use Rattle.std.specs.Prelude.{IfSome}
@@ -13,7 +13,7 @@ use Rattle.sp_frame.specs.Prioritized.{numbered_bytes, prios_bytes}
 use Rattle.sp_frame.specs.Probes.{epoch_bytes, probe_bytes, probes_bytes}
 use Rattle.sp_frame.specs.Ranges.{IsContentsIn, IsDocument, Later}
 use Rattle.sp_frame.specs.Reliable.{Report, ack_bytes, boot_bytes, paths_bytes, place_bytes, rels_bytes, report_bytes, slot_bytes}
-use Rattle.sp_frame.specs.Sections.{Contents, control_bytes, plain_bytes, sections_bytes_in}
+use Rattle.sp_frame.specs.Sections.{Contents, control_bytes, plain_bytes, sections_bytes_in, document_bytes, sized_bytes, with_document, zeros_bytes}
 use Rattle.sp_frame.specs.Views.{as_list}
 use Rattle.sp_frame.specs.Weights.{weights_bytes}
 use Rattle.sp_frame.specs.declared.head.Head.{Head}
@@ -303,6 +303,18 @@ sections_out format len s is are = go s.document refl is.document are
     go : (d : Option (List ℕ)) → s.document ≡ d → IfSome d (Later format (IsDocument s)) → AreBytes (control_bytes format s d) → AreOfBytes s
     go None alone later are = plain_out format len s is are
     go (Some document) some later are = subst AreOfBytes (sym later.1.alone) (All-nil IsOfBytes)
+
+-- a document alone
+pub document_in : (format : ℕ) (document : List ℕ) → AreBytes document → AreBytes (sections_bytes_in format (with_document document))
+unfolding sections_bytes_in document_bytes sized_bytes zeros_bytes
+document_in format document are =
+    let eight = big_bytes 8 0 in
+    let one = big_bytes 1 0 in
+    one_first 128 (document_bytes document) (omega arith)
+    (joined (big_bytes 2 (length document) ++ document) (zeros_bytes 0)
+    (joined (big_bytes 2 (length document)) document (of_number 2 (length document)) are)
+    (joined (eight ++ one ++ one ++ one ++ one) one (joined (eight ++ one ++ one ++ one) one
+    (joined4 eight one one one (of_number 8 0) (of_number 1 0) (of_number 1 0) (of_number 1 0)) (of_number 1 0)) (of_number 1 0)))
 
 -- ---- heads
 

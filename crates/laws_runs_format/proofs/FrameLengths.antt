@@ -1,5 +1,6 @@
 -- Each frame of a run has a head, three sections and a tag, and fits a datagram.
-use Rattle.std.proofs.Common.{◌≡◌, ◌≤◌, ℕ, ◌+◌, Bool, true, false, cond, nat_lt, List, ◌++◌, length, length-append, Option, Some, None, Result, Ok, Err, refl}
+use Rattle.std.proofs.Common.{◌≡◌, ◌≤◌, ℕ, ◌+◌, Bool, true, false, cond, nat_lt, List, ◌∷◌, ◌++◌, length, length-append, Option, Some, None, Result, Ok, Err}
+use Rattle.std.proofs.Common.{refl}
 use Rattle.std.proofs.Common.{sym, ap, subst, ◌∙◌, arith}
 use Rattle.std.specs.Prelude.{flat_map}
 use Rattle.std.proofs.lemmas.Bool.Decides.{nat_tests}
@@ -11,7 +12,7 @@ use Rattle.sp_frame.specs.Objects.{object_bytes}
 use Rattle.sp_frame.specs.Prioritized.{numbered_bytes, prios_bytes}
 use Rattle.sp_frame.specs.Probes.{epoch_bytes, probes_bytes}
 use Rattle.sp_frame.specs.Reliable.{paths_bytes, report_bytes, slot_bytes}
-use Rattle.sp_frame.specs.Sections.{Contents, control_bytes, plain_bytes, sections_bytes_in}
+use Rattle.sp_frame.specs.Sections.{Contents, control_bytes, plain_bytes, sections_bytes_in, document_bytes, sized_bytes, zeros_bytes}
 use Rattle.sp_frame.specs.Weights.{weights_bytes}
 use Rattle.sp_frame.specs.declared.frame.TheConstants.{MAX_FRAME_BYTES}
 use Rattle.sp_frame.specs.declared.head.Head.{Head}
@@ -23,10 +24,9 @@ use Rattle.sp_node_format.proofs.PolledFrames.{polled_is_read_back, signatures_a
 use Rattle.sp_node_format.specs.Format.{format_of}
 use Rattle.sp_node_format.specs.PolledFrames.{most_signature}
 use Rattle.sp_rules.specs.Arts.{Arts}
-use Rattle.sp_rules.specs.Link.{next_head}
 use Rattle.sp_rules.specs.Node.{NodeState, link_in}
 use Rattle.sp_rules.specs.Parts.{Fixed}
-use Rattle.sp_rules.specs.Polls.{contents_to, frame_to}
+use Rattle.sp_rules.specs.Polls.{frame_to, contents_at, head_to}
 use Rattle.sp_runs.specs.Scenarios.{setting_of}
 use Rattle.laws_node.specs.Nodes.{IsKept}
 use Rattle.laws_runs.proofs.Frames.{frames_are_made}
@@ -82,9 +82,17 @@ plain_long format s =
     let slot = flagged_long (report_bytes format) s.slot in
     omega (arith, last, before, paths, all, weights, heard, prios, slot)
 
-sections_long : (format : ℕ) (s : Contents) → s.document ≡ None → 11 ≤ length (sections_bytes_in format s)
+document_long : (document : List ℕ) → 11 ≤ length (128 ∷ document_bytes document)
+unfolding document_bytes sized_bytes zeros_bytes
+document_long document = omega (arith, length-append (big_bytes 2 (length document)) document, length-append document (zeros_bytes 0))
+
+sections_long : (format : ℕ) (s : Contents) → 11 ≤ length (sections_bytes_in format s)
 unfolding sections_bytes_in
-sections_long format s none = subst (λ (d : Option (List ℕ)). 11 ≤ length (control_bytes format s d)) (sym none) (plain_long format s)
+sections_long format s = go s.document
+  where
+    go : (d : Option (List ℕ)) → 11 ≤ length (control_bytes format s d)
+    go None = plain_long format s
+    go (Some document) = document_long document
 
 head_long : (h : Head) → length (head_bytes h) ≡ 33
 unfolding head_bytes ends_bytes numbers_bytes
@@ -92,14 +100,14 @@ head_long h = omega arith
 
 frame_long : (n : NodeState) (v : NodeId) → least_frame ≤ length (frame_to (format_of n.fixed) n v)
 frame_long n v =
-    let h = next_head (link_in n v) n.fixed.topology.version n.fixed.topology.format in
-    let s = contents_to n.fixed n.parts v in
+    let h = head_to n v in
+    let s = contents_at n v in
     let sections = sections_bytes_in h.format s in
     let inner = head_bytes h ++ sections in
     let tag = length-hmac (link_in n v).key inner in
     let whole = length-append inner (hmac (link_in n v).key inner) in
     let parts = length-append (head_bytes h) sections in
-    omega (arith, tag, whole, parts, head_long h, sections_long h.format s refl)
+    omega (arith, tag, whole, parts, head_long h, sections_long h.format s)
 
 -- ---- at most
 

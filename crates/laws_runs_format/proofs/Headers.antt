@@ -16,7 +16,8 @@ use Rattle.laws_runs.proofs.Lists.{both}
 use Rattle.sp_runs.specs.Scenarios.{node_key, node_seed, setting_of, topology_of}
 use Rattle.sp_runs.specs.Settings.{first_signer, fixed_of, is_one_of}
 use Rattle.laws_runs_format.specs.Headers.{HeadersFit, PlainHeadersFit, SignaturesAreLong}
-use Rattle.laws_runs_format.proofs.Topologies.{topologies_fit}
+use Rattle.laws_runs_format.proofs.Documents.{documents_are_read, rooms, totals, unsigned_are}
+use Rattle.laws_runs_format.proofs.Topologies.{topologies_fit, whole}
 
 short : (h : LmsHeight) → signature_len (param_of h) < 65536
 short Five = omega arith
@@ -47,6 +48,13 @@ headers_fit s good = record {
         let there = both (is_one_of (nodes_of (topology_of s)) u) (not (is_one_of s.bad u)) correct in
         keys_are s.height s.seed u (range_with_len 1 s.graph.nodes) there.0;
   });
+  room = rooms s good;
+  unsigned = unsigned_are s good;
+  documents = λ may version weights long small some most. documents_are_read s good may version weights small some most;
+  versions = (totals s.height).1;
+  some = (totals s.height).0;
+  first = refl;
+  all_open = whole s.graph.nodes s.graph.edges good.graph.edges;
 }
 
 pub signatures_are_long : SignaturesAreLong

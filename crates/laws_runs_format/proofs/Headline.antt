@@ -19,6 +19,7 @@ use Rattle.laws_runs.proofs.LifeKeys.{keys_rise}
 use Rattle.laws_runs.proofs.PlaceRuns.{evictions_leave_shares, evictions_leave_shares_over_lives}
 use Rattle.laws_runs.proofs.PrioRuns.{life_priority_is_kept, priority_is_kept}
 use Rattle.laws_runs.proofs.There.{correct_nodes_are_there, only_correct_nodes_run}
+use Rattle.laws_runs.proofs.Versions.{later_versions_follow, versions_are_published}
 use Rattle.laws_runs.proofs.WeightRuns.{weights_are_kept, weights_are_kept_over_lives}
 use Rattle.laws_runs_format.specs.Arts.{arts_of}
 use Rattle.laws_runs_format.specs.Headline.{Claims, EveryLife, EveryRun, LivesClaims}
@@ -66,6 +67,10 @@ lives_claims x es js w fits carries run = record {
   shares = λ u place. evictions_leave_shares_over_lives (arts_of x) x es js w fits carries run u place;
   weights = weights_are_kept_over_lives (arts_of x) x es js w fits carries run;
   signed = what_is_kept_was_signed (arts_of x) x es js w fits carries run;
+  versions = record {
+    published = versions_are_published (arts_of x) x es js w fits carries run;
+    follow = later_versions_follow (arts_of x) x es js w fits carries run;
+  };
 }
 
 pub every_life : EveryLife
@@ -73,6 +78,7 @@ every_life s es js w graph some run =
     let x = setting_of s in
     record {
       reached = λ n. beginnings_are_clean (arts_of x) x es js w run n;
+      one = λ n v u first second. runs_are_determined (arts_of x) x _ _ v u (headers_fit s graph) (format_carries x.topology.format) first second;
       told = λ epochs. schedules_tell_starts s graph epochs;
       delivered = schedules_deliver_in_lives s graph some;
       returned = schedules_return_in_lives s graph some;

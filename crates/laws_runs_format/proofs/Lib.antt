@@ -4,6 +4,7 @@ pub mod FrameBytes
 pub mod GoodObjects
 pub mod ReadBack
 pub mod Topologies
+pub mod Documents
 pub mod Headers
 pub mod Headline
 pub mod Audited

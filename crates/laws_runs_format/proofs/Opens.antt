@@ -12,7 +12,7 @@ use Rattle.sp_frame.specs.declared.head.Head.{Head}
 use Rattle.sp_hmac.proofs.Lengths.{length-hmac}
 use Rattle.sp_hmac.specs.Hmac.{hmac}
 use Rattle.sp_hss.specs.KeyTree.{signature_len}
-use Rattle.sp_node_format.proofs.PolledFrames.{read_back, signatures_are_short}
+use Rattle.sp_node_format.proofs.PolledFrames.{read_back, sections_len, signatures_are_short}
 use Rattle.sp_node_format.specs.Format.{format_in}
 use Rattle.sp_node_format.specs.PolledFrames.{most_signature}
 use Rattle.sp_runs.specs.Scenarios.{setting_of}
@@ -35,9 +35,10 @@ opens : (format len : ℕ) → len ≤ most_signature → (h : Head) (s : Conten
     → (format_in format).opened (written (format_in format) h s key) ≡ Ok (written (format_in format) h s key)
 opens format len small h s key range same plain is =
     let bytes = written (format_in format) h s key in
-    let back = read_back len h s (hmac key (head_bytes h ++ sections_bytes_in h.format s)) small range
-    (record { document = plain.document; paths = plain.paths; probe = plain.probe })
-    (subst (λ (f : ℕ). IsContentsIn f len s) (sym same) is) (length-hmac key (head_bytes h ++ sections_bytes_in h.format s)) in
+    let fits = subst (λ (f : ℕ). IsContentsIn f len s) (sym same) is in
+    let size = sections_len h.format len small s (record { document = plain.document; paths = plain.paths; probe = plain.probe }) fits in
+    let back = read_back len h s (hmac key (head_bytes h ++ sections_bytes_in h.format s)) size range fits
+    (length-hmac key (head_bytes h ++ sections_bytes_in h.format s)) in
     subst (λ (f : ℕ). opened_in f bytes ≡ Ok bytes) same back.opens
 
 -- ---- its tag

@@ -5,7 +5,7 @@ use Rattle.std.proofs.lemmas.List.Elements.{All-drop, All-take}
 use Rattle.sp_base.specs.Spelling.{AreBytes}
 use Rattle.sp_frame.proofs.SectionLemmas.{read_is_spelled, spelled_is_read}
 use Rattle.sp_frame.specs.Frames.{ends_bytes, head_bytes, numbers_bytes, sections_part, tagged_part}
-use Rattle.sp_frame.specs.Sections.{Contents, sections_bytes_in, sections_of_in}
+use Rattle.sp_frame.specs.Sections.{Contents, sections_bytes_in, sections_of_in, with_document}
 use Rattle.sp_frame.specs.declared.head.Head.{Head}
 use Rattle.sp_msg.proofs.EncodedIsRead.{whole_is_read}
 use Rattle.sp_hmac.proofs.Lengths.{length-hmac}
@@ -14,7 +14,7 @@ use Rattle.sp_node_format.proofs.GoodFields.{fields_are_good}
 use Rattle.sp_sign.specs.Heights.{param_of}
 use Rattle.laws_runs_format.specs.FormatCarries.{FormatCarries}
 use Rattle.laws_runs_format.proofs.Bytes.{joined, of_tag}
-use Rattle.laws_runs_format.proofs.FrameBytes.{head_are, sections_in, sections_out}
+use Rattle.laws_runs_format.proofs.FrameBytes.{head_are, sections_in, sections_out, document_in}
 use Rattle.laws_runs_format.proofs.GoodObjects.{objects_are_good}
 use Rattle.laws_runs_format.proofs.Signatures.{signature_are}
 
@@ -42,6 +42,8 @@ format_carries format = record {
       ap (sections_of_in format len) (between h s (hmac key inner) (length-hmac key inner))
       ∙ ap (λ (f : ℕ). sections_of_in format len (sections_bytes_in f s)) same ∙ spelled_is_read format len s is;
   frames = λ h s plain of. joined (head_bytes h) (sections_bytes_in h.format s) (head_are h) (sections_in h.format s plain of);
+  document_frames = λ h document are.
+      joined (head_bytes h) (sections_bytes_in h.format (with_document document)) (head_are h) (document_in h.format document are);
   tags = λ key bytes. of_tag key bytes;
   signatures = λ height seed index message. signature_are (param_of height) seed index message;
   reads = λ len bytes s are is.

@@ -1,7 +1,7 @@
 -- An event that its line allows after those before it is in its range in a run.
 use Rattle.std.proofs.Common.{◌≡◌, ◌<◌, ◌≤◌, ℕ, zero, suc, ◌+◌, ◌==◌, ◌-◌, ◌^◌, Bool, true, false, cond, nat_le, List, [], ◌∷◌, ◌++◌, length, length-append, map, refl, sym, ap, ap₂, subst, ◌∙◌, inl, inr, arith, append_assoc}
-use Rattle.std.specs.Prelude.{◌⊎◌, count_by, if◌then◌else◌}
-use Rattle.std.specs.List.{list_any, range_with_len}
+use Rattle.std.specs.Prelude.{◌⊎◌, ◌&&◌, ◌||◌, Option, Some, None, count_by, nat_lt, if◌then◌else◌}
+use Rattle.std.specs.List.{All, list_any, range_with_len}
 use Rattle.std.proofs.lemmas.Bool.{cases_Bool, eqb-true, eq-eqb}
 use Rattle.std.proofs.lemmas.Bool.Decides.{nat_tests}
 use Rattle.std.proofs.lemmas.List.{same_from_push}
@@ -9,11 +9,13 @@ use Rattle.std.proofs.lemmas.List.Elements.{All-nil}
 use Rattle.std.proofs.lemmas.List.Sums.{length-filter, sum_by-cons}
 use Rattle.sp_base.specs.declared.id.NodeId.{NodeId}
 use Rattle.sp_topology.specs.declared.topology.LmsHeight.{LmsHeight}
+use Rattle.sp_topology.specs.declared.topology.LmsHeight.TheVariants.{Five, Ten}
 use Rattle.sp_topology.specs.declared.topology.NodeKey.{NodeKey}
 use Rattle.sp_schedule.specs.Scenarios.{AreInRange, IsSchedule, None_yet, One_more}
 use Rattle.sp_base.specs.Formats.{by_format}
 use Rattle.sp_base.specs.declared.format.TheConstants.{FORMAT_1}
-use Rattle.sp_base.specs.declared.limits.TheConstants.{MAX_EDGES, MAX_EVENTS}
+use Rattle.sp_base.specs.declared.limits.TheConstants.{MAX_EDGES, MAX_EVENTS, MAX_WEIGHT}
+use Rattle.sp_hss.specs.KeyTree.{total}
 use Rattle.sp_msg.proofs.GoodFields.{GoodMask, ack_is_good, prio_is_good, rel_is_good, weight_is_good}
 use Rattle.sp_msg.specs.Fields.{IsInRange, free, ranged}
 use Rattle.sp_msg.specs.declared.mask.Mask.{Mask}
@@ -23,11 +25,13 @@ use Rattle.sp_schedule_crafts.specs.declared.object.CraftedObject.TheVariants as
 use Rattle.sp_schedule_events.specs.EventLines as lines
 use Rattle.sp_schedule_events.specs.Events as lined
 use Rattle.sp_schedule_events.specs.Scenarios as scenarios
-use Rattle.sp_schedule_events.specs.Scenarios.{are_joined, differ}
+use Rattle.sp_schedule_events.specs.Documents.{documents, has_index, has_weights, may_craft, may_publish, none_comes_back, published}
+use Rattle.sp_schedule_events.specs.Scenarios.{are_joined, differ, has_documents}
+use Rattle.sp_sign.specs.Heights.{param_of}
 use Rattle.sp_schedule_events.specs.declared.event.Event.{Event}
 use Rattle.sp_schedule_events.specs.declared.event.Event.TheVariants as events
 use Rattle.sp_schedule_events.specs.declared.scenario.Scenario.{Scenario}
-use Rattle.sp_runs.specs.Runs.{AreFields, InRange, IsMade, is_other, is_poll, polls}
+use Rattle.sp_runs.specs.Runs.{AreFields, InRange, IsMade, MayPublish, is_other, is_poll, polls}
 use Rattle.sp_runs.specs.Scenarios.{IsHeader, node_key, setting_of}
 use Rattle.sp_runs.specs.Settings.{is_correct, is_node}
 use Rattle.laws_runs.proofs.Counts.{poll_more}
@@ -79,6 +83,8 @@ same_poll a b (events.Flip u v n c d) = refl
 same_poll a b (events.Inject u v p) = refl
 same_poll a b (events.Craft u v k o) = refl
 same_poll a b (events.CraftStatus u v c d f g) = refl
+same_poll a b (events.Publish u weights) = refl
+same_poll a b (events.CraftDocument u v k n weights) = refl
 same_poll a b (events.Start u) = refl
 same_poll a b (events.Stop u) = refl
 
@@ -114,6 +120,8 @@ poll_joins s es a b (events.Flip u v n c d) is t = absurd cc
 poll_joins s es a b (events.Inject u v p) is t = absurd cc
 poll_joins s es a b (events.Craft u v k o) is t = absurd cc
 poll_joins s es a b (events.CraftStatus u v c d f g) is t = absurd cc
+poll_joins s es a b (events.Publish u weights) is t = absurd cc
+poll_joins s es a b (events.CraftDocument u v k n weights) is t = absurd cc
 poll_joins s es a b (events.Start u) is t = absurd cc
 poll_joins s es a b (events.Stop u) is t = absurd cc
 
@@ -214,6 +222,65 @@ crafted_in s es c v key (crafted.Weight w) is =
       All-nil (λ (b : ℕ). b < 256),
     )
 
+-- ---- documents
+
+-- the administrator's key signs as many as it has indexes
+documents_are : (h : LmsHeight) → documents h ≡ total (param_of h)
+documents_are Five = refl
+documents_are Ten = refl
+
+publish_in : (s : Scenario) (es : List Event) (weights : List ℕ) → length weights ≡ length s.graph.edges → All (λ weight. weight ≤ MAX_WEIGHT) weights
+    → may_publish s (published es) (Some weights) ≡ true → MayPublish (setting_of s) (published es) (Some weights)
+publish_in s es weights long small may =
+    let last = published es in
+    let parts = both (nat_lt last.version (documents s.height)) (none_comes_back s.graph.edges last.weights weights) may in
+    let below : last.version < documents s.height = let t = parts.0 in grind (arith, nat_tests, t) in
+    ((long, small), subst (λ n. last.version < n) (documents_are s.height) below, parts.1)
+
+-- the key of a document is the administrator's, or that of a node
+signer_is : (s : Scenario) (key : ℕ) → key ≤ s.graph.nodes → ((key == 0) || is_node (setting_of s) (record { 0 = key })) ≡ true
+signer_is s key most = elim (cases_Bool (key == 0)) [
+  | inl t ↦ rw t refl
+  | inr t ↦ let some : 1 ≤ key = grind (arith, nat_tests, t) in rw t (node_is s (record { 0 = key }) some most)
+]
+
+index_left : (s : Scenario) (key version : ℕ) → has_index s.height key version ≡ true → key ≡ 0 → version ≤ total (param_of s.height)
+index_left s key version has admin =
+    let own : (key == 0) ≡ true = eq-eqb key 0 admin in
+    let below : nat_le version (documents s.height) ≡ true = rw own at has in
+    subst (λ n. version ≤ n) (documents_are s.height) (grind (arith, nat_tests, below))
+
+-- what a crafted document has beside its weights
+record IsDocumentLine (s : Scenario) (es : List Event) (c v : NodeId) (key version : ℕ) (weights : Option (List ℕ)) : Type 0 where
+  correct : is_correct (setting_of s) v ≡ true
+  joined : are_joined s c.0 v.0 ≡ true
+  signer : ((key == 0) || is_node (setting_of s) (record { 0 = key })) ≡ true
+  may : has_documents s ≡ true
+  some : 1 ≤ version
+  low : version < 2 ^ 32
+  left : key ≡ 0 → version ≤ total (param_of s.height)
+  has : has_weights (published es) weights ≡ true
+
+document_in : (s : Scenario) (es : List Event) (c v : NodeId) (key version : ℕ) (weights : Option (List ℕ))
+    → Lined s es (events.CraftDocument c v key version weights) → IsDocumentLine s es c v key version weights
+document_in s es c v key version weights is =
+    let to = is.values.2 in
+    let by = to.3 in
+    let number = by.2 in
+    let parts = both (has_documents s) (are_joined s c.0 v.0 && may_craft s (published es) key version weights) is.joined in
+    let more = both (are_joined s c.0 v.0) (may_craft s (published es) key version weights) parts.1 in
+    let last = both (has_index s.height key version) (has_weights (published es) weights) more.1 in
+    record {
+      correct = correct_is s v to.0 to.1 to.2;
+      joined = more.0;
+      signer = signer_is s key by.1;
+      may = parts.0;
+      some = number.0;
+      low = omega (arith, number.1);
+      left = index_left s key version last.0;
+      has = last.1;
+    }
+
 fields_in : (s : Scenario) (es : List Event) (e : Event) → AreInRange s es → length es < MAX_EVENTS → Lined s es e → AreFields (setting_of s) es e
 fields_in s es (events.Rel a b payload) are few is =
     let from = is.values in
@@ -286,6 +353,22 @@ fields_in s es (events.CraftStatus c v a b base have) are few is =
       omega (arith, high.1),
     )
 fields_in s es (events.Craft c v key object) are few is = crafted_in s es c v key object is
+fields_in s es (events.Publish u None) are few is =
+    let at = is.values in
+    let parts = both (has_documents s) (may_publish s (published es) None) is.joined in
+    (correct_is s u at.0 at.1 at.2, parts.0, parts.1)
+fields_in s es (events.Publish u (Some weights)) are few is =
+    let at = is.values in
+    let list = at.3.0 in
+    let parts = both (has_documents s) (may_publish s (published es) (Some weights)) is.joined in
+    (correct_is s u at.0 at.1 at.2, parts.0, publish_in s es weights list.0 list.2 parts.1)
+fields_in s es (events.CraftDocument c v key version None) are few is =
+    let h = document_in s es c v key version None is in
+    (h.correct, h.joined, h.signer, h.may, h.some, h.low, h.left, h.has)
+fields_in s es (events.CraftDocument c v key version (Some weights)) are few is =
+    let list = is.values.2.3.2.2.0 in
+    let h = document_in s es c v key version (Some weights) is in
+    (h.correct, h.joined, h.signer, h.may, h.some, h.low, h.left, (list.0, list.2))
 fields_in s es (events.Start u) are few is = let at = is.values in (correct_is s u at.0 at.1 at.2, few)
 fields_in s es (events.Stop u) are few is = correct_is s u is.values.0 is.values.1 is.values.2
 

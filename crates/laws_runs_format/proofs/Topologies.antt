@@ -85,7 +85,7 @@ tree_key_long lms p id seed long =
     let top = node_long id (seed_leaf lms p id seed) (leaf_long lms p id seed) (height lms) 1 in
     omega (arith, all, word_long (typecode lms), word_long (ots.typecode p), long, top)
 
-key_long : (h : LmsParam) (seed : List ℕ) → length (public_key h seed) ≡ 60
+pub key_long : (h : LmsParam) (seed : List ℕ) → length (public_key h seed) ≡ 60
 unfolding public_key
 key_long h seed =
     let below = tree_key_long h W4 (tree_id seed Upper) (tree_seed seed Upper) (id_long seed) in
@@ -168,7 +168,8 @@ first_after nodes (e ∷ edges) each =
 
 -- ---- a topology
 
-whole : (nodes : ℕ) (edges : List Edge) → All (graphs.IsEdge nodes) edges → All (λ (e : Edge). 1 ≤ e.weight) edges
+-- no edge of a header is withdrawn
+pub whole : (nodes : ℕ) (edges : List Edge) → All (graphs.IsEdge nodes) edges → All (λ (e : Edge). 1 ≤ e.weight) edges
 whole nodes [] each = All-nil (λ (e : Edge). 1 ≤ e.weight)
 whole nodes (e ∷ edges) each =
     All-cons (λ (f : Edge). 1 ≤ f.weight) e edges (All-head (graphs.IsEdge nodes) e edges each).3.0
@@ -193,5 +194,4 @@ topologies_fit s good =
               (edges_are format count (0, 0) s.graph.edges (first_after count s.graph.edges graph.edges) graph.edges graph.ascend);
         };
       };
-      whole = whole count s.graph.edges graph.edges;
     }

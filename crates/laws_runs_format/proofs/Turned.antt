@@ -12,4 +12,4 @@ pub scheduled_events_have_turns : ScheduledEventsHaveTurns
 scheduled_events_have_turns s es js w good run few e range =
     let x = setting_of s in
     each_event_has_a_turn (arts_of x) x es js w (headers_fit s good) (format_carries x.topology.format)
-    (λ weights u v paths there other. each_request_has_a_choice (graph_of x.topology weights) u v paths) run few e range
+    (λ weights u v paths there other. each_request_has_a_choice weights (graph_of x.topology weights) u v paths) run few e range

@@ -55,6 +55,8 @@ harmless s es js w (events.Tick u now) what good plain range run none hostile at
 harmless s es js w (events.Weight u v weight) what good plain range run none hostile at = absurd hostile
 harmless s es js w (events.Poll u v) what good plain range run none hostile at = absurd hostile
 harmless s es js w (events.Pass u v number) what good plain range run none hostile at = absurd hostile
+harmless s es js w (events.Publish u weights) what good plain range run none hostile at = absurd hostile
+harmless s es js w (events.CraftDocument c v key version weights) what good plain range run none hostile at = absurd none
 harmless s es js w (events.Start u) what good plain range run none hostile at = absurd hostile
 harmless s es js w (events.Stop u) what good plain range run none hostile at = absurd hostile
 

@@ -1,8 +1,9 @@
 -- The headline: what holds of every run of a schedule without forgery, after each of its events, whatever compromised nodes send.
-use Rattle.std.specs.Prelude.{ℕ, ◌≡◌, ◌≤◌, false, true, IsTrue, List, [], Some, take}
+use Rattle.std.specs.Prelude.{ℕ, ◌≡◌, ◌<◌, ◌≤◌, false, true, IsTrue, List, [], Some, take}
 use Rattle.sp_base.specs.declared.id.NodeId.{NodeId}
 use Rattle.sp_journal.specs.declared.entry.Entry.{Entry}
-use Rattle.sp_rules.specs.Node.{NodeState}
+use Rattle.sp_rules.specs.Node.{NodeState, topology_now}
+use Rattle.sp_rules.specs.Topologies.{succeeds}
 use Rattle.sp_runs.specs.Bounds.{IsBounded}
 use Rattle.sp_runs.specs.Held.{AreShares}
 use Rattle.sp_runs.specs.Runs.{Clean}
@@ -25,6 +26,7 @@ use Rattle.laws_runs.specs.Past.{past}
 use Rattle.laws_runs.specs.Priority.{PrioClaims}
 use Rattle.laws_runs.specs.Since.{effects_since}
 use Rattle.laws_runs.specs.States.{NodeClaims, SignClaims}
+use Rattle.laws_runs.specs.Versions.{IsPublished}
 use Rattle.laws_runs.specs.Weights.{WeightClaims}
 use Rattle.laws_runs_format.specs.Arts.{arts_of}
 
@@ -51,16 +53,25 @@ pub record RunClaims (x : Setting) (es : List Event) (js : List Entry) : Type 0 
   pub reached : (n : ℕ) → (w : World) × Clean (arts_of x) x (take n es) (take n js) w
   pub one : (n : ℕ) (w v : World) → Clean (arts_of x) x (take n es) (take n js) w → Clean (arts_of x) x (take n es) (take n js) v → w ≡ v
   pub claims : (n : ℕ) (w : World) → Clean (arts_of x) x (take n es) (take n js) w → Claims x (take n es) (take n js) w
-  -- What was accepted is delivered, and what was acknowledged has returned, after so many complete rounds of a path of correct nodes
+  -- Where nothing is published: what was accepted is delivered, and what was acknowledged has returned, after so many complete rounds of a path of correct
+  -- nodes
   pub delivered : DeliversInRounds (arts_of x) x
   pub returned : ReturnsInRounds (arts_of x) x
 
--- of each run of a header in its ranges without epochs. Nothing else is asked
+-- Of each run of a header in its ranges without epochs, with room for one message a flow at least, as each schedule has it.
 abbrev pub EveryRun : Type 0
 EveryRun = (s : Scenario) (es : List Event) (js : List Entry) (w : World) → IsHeader s → s.epochs ≡ false → 1 ≤ s.limits.buffer
     → Clean (arts_of (setting_of s)) (setting_of s) es js w → RunClaims (setting_of s) es js
 
 -- ---- with epochs too
+
+-- the versions of the topology that correct nodes run under
+pub record VersionClaims (x : Setting) (es : List Event) (w : World) : Type 0 where
+  -- each is the header's, or the administrator handed it out with these weights
+  pub published : (u : NodeId) (n : NodeState) → node_in w.nodes u ≡ Some n → IsPublished x es n.live.version n.live.weights
+  -- of two nodes the topology of the one with the higher version follows that of the other, however many versions lie between
+  pub follow : (u v : NodeId) (n m : NodeState) → node_in w.nodes u ≡ Some n → node_in w.nodes v ≡ Some m → n.live.version < m.live.version
+      → IsTrue (succeeds (topology_now n) (topology_now m))
 
 -- what holds of every run of these events, whether nodes start and stop or not
 pub record LivesClaims (x : Setting) (es : List Event) (js : List Entry) (w : World) (run : Clean (arts_of x) x es js w) : Type 0 where
@@ -87,17 +98,21 @@ pub record LivesClaims (x : Setting) (es : List Event) (js : List Entry) (w : Wo
   pub weights : LifeWeightClaims (arts_of x) x es js w
   -- whatever a correct node keeps or sends bears its signer's valid signature, and a correct signer signed it in this run, in one of its lives
   pub signed : SignClaims (arts_of x) x es js w
+  -- no correct node runs under a version that the administrator didn't hand out, and a later one follows an earlier one
+  pub versions : VersionClaims x es w
 
+-- A run of this setting without forgery, with epochs or without. After each of its events, as after all, there is one world, of which the claims hold.
 pub record RunLives (x : Setting) (es : List Event) (js : List Entry) : Type 0 where
   pub reached : (n : ℕ) → (w : World) × Clean (arts_of x) x (take n es) (take n js) w
+  pub one : (n : ℕ) (w v : World) → Clean (arts_of x) x (take n es) (take n js) w → Clean (arts_of x) x (take n es) (take n js) v → w ≡ v
   pub claims : (n : ℕ) (w : World) → (run : Clean (arts_of x) x (take n es) (take n js) w) → LivesClaims x (take n es) (take n js) w run
-  -- While the nodes of a path stay up: after so many rounds that tell starts each holds the boot of each other's life, and from then on what is accepted is
-  -- delivered, and what is acknowledged returns, after as many complete rounds as without epochs, whatever all other nodes do
+  -- Where nothing is published, while the nodes of a path stay up: after so many rounds that tell starts each holds the boot of each other's life, and from
+  -- then on what is accepted is delivered, and what is acknowledged returns, after as many complete rounds as without epochs, whatever all other nodes do
   pub told : x.epochs ≡ true → StartsAreTold (arts_of x) x
   pub delivered : DeliversInLives (arts_of x) x
   pub returned : ReturnsInLives (arts_of x) x
 
--- of each run of a header in its ranges. Nothing else is asked
+-- Of each run of a header in its ranges, with room for one message a flow at least, as each schedule has it.
 abbrev pub EveryLife : Type 0
 EveryLife = (s : Scenario) (es : List Event) (js : List Entry) (w : World) → IsHeader s → 1 ≤ s.limits.buffer
     → Clean (arts_of (setting_of s)) (setting_of s) es js w → RunLives (setting_of s) es js

@@ -4,6 +4,7 @@ use Rattle.sp_base.specs.declared.id.NodeId.{NodeId}
 use Rattle.sp_graph.specs.declared.graph.Graph.{Graph}
 use Rattle.sp_journal.specs.declared.entry.Entry.{Entry}
 use Rattle.sp_rules.specs.Masks.{Choice, IsChoice}
+use Rattle.sp_rules.specs.Weights.{WeightState}
 use Rattle.sp_rules.specs.declared.node.TheConstants.{MAX_CALLS}
 use Rattle.sp_runs.specs.Runs.{Clean, InRange}
 use Rattle.sp_runs.specs.Scenarios.{IsHeader, setting_of}
@@ -15,7 +16,7 @@ use Rattle.laws_runs_format.specs.Arts.{arts_of}
 
 -- in any graph, for any two of its ends and any number of paths, there are the cheapest disjoint paths, or fewer than were asked for
 abbrev pub EachRequestHasAChoice : Type 0
-EachRequestHasAChoice = (g : Graph) (s t : NodeId) (paths : ℕ) → (choice : Choice) × IsChoice g s t paths choice
+EachRequestHasAChoice = (w : WeightState) (g : Graph) (s t : NodeId) (paths : ℕ) → (choice : Choice) × IsChoice w g s t paths choice
 
 -- so in every run of a header in its ranges, after fewer events than a node answers calls
 abbrev pub ScheduledEventsHaveTurns : Type 0

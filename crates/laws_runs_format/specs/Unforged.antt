@@ -20,12 +20,14 @@ abbrev pub NothingForged : Scenario → List Event → Type 0
 NothingForged s es = (before : List Event) (event : Event) (after : List Event) (js : List Entry) (w : World) (what : What) → es ≡ before ++ event ∷ after
     → Clean (arts_of (setting_of s)) (setting_of s) before js w → IsForgedAt (arts_of (setting_of s)) (setting_of s) before js w event what → ⊥
 
--- what the adversary brings is no frame, or was crafted by a compromised node in the name of one
+-- what the adversary brings is no frame, or was crafted by a compromised node in the name of one. A crafted document isn't counted among these, since the
+-- administrator's key may sign it
 abbrev pub IsHarmless : Setting → Event → Type 0
 IsHarmless x (events.Flip u v number back bit) = ⊥
 IsHarmless x (events.Inject u v bytes) = IsNoFrame (arts_of x) bytes
 IsHarmless x (events.Craft c v key body) = NamesNoCorrectNode x (events.Craft c v key body)
 IsHarmless x (events.CraftStatus c v s d base have) = NamesNoCorrectNode x (events.CraftStatus c v s d base have)
+IsHarmless x (events.CraftDocument c v key version weights) = ⊥
 IsHarmless x _ = Unit {0}
 
 -- a good schedule of harmless events, without epochs

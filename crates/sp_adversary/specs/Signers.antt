@@ -5,8 +5,6 @@ use Rattle.sp_base.specs.declared.id.NodeId.{NodeId}
 use Rattle.sp_base.specs.declared.memory.Memory.{Memory}
 use Rattle.sp_hss.specs.KeyTree.{signature}
 use Rattle.sp_hss.specs.Signer.{Signer}
-use Rattle.sp_msg.specs.Bodies.{encoded_in}
-use Rattle.sp_msg.specs.declared.body.Body.{Body}
 use Rattle.sp_runs.specs.Worlds as worlds
 use Rattle.sp_topology.specs.declared.topology.LmsHeight.{LmsHeight}
 use Rattle.sp_adversary.specs.Keys.{whole_signer}
@@ -29,11 +27,9 @@ AreWhole height seed cs = All (IsWhole height seed) cs
 abbrev pub is_crafter : NodeId → Crafter → Bool
 is_crafter key c = c.key.0 == key.0
 
--- one message: the signer's next signature, or none is left, or there was no memory
-abbrev pub Signs : (format : ℕ) → Signer → Body → Result Crafted Memory → Signer → Type 0
-Signs format old body (Ok (answers.Signed object)) new =
-    (old.index < old.bound)
-    × (object ≡ record { body = body; signature = signature old.height old.seed old.index (encoded_in format body) })
-    × (new ≡ record old { index = old.index + 1 })
-Signs format old body (Ok (answers.Spent total)) new = (old.index ≡ old.bound) × (total ≡ old.bound) × (new ≡ old)
-Signs format old body (Err refused) new = new ≡ old
+-- one signature: the signer's next, or none is left, or there was no memory
+abbrev pub Signs : Signer → (message : List ℕ) → Result (Crafted (List ℕ)) Memory → Signer → Type 0
+Signs old message (Ok (answers.Signed signed)) new =
+    (old.index < old.bound) × (signed ≡ signature old.height old.seed old.index message) × (new ≡ record old { index = old.index + 1 })
+Signs old message (Ok (answers.Spent total)) new = (old.index ≡ old.bound) × (total ≡ old.bound) × (new ≡ old)
+Signs old message (Err refused) new = new ≡ old

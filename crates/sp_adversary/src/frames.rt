@@ -1,9 +1,11 @@
 // Frames that a compromised node crafts: fresh to their receiver, and under the right tag.
 ghost use Rattle.std.specs.Prelude.{◌≡◌, ◌≤◌, ◌++◌, [], All, IfOk, IfSome, None as Nothing, length, map, option_map, replicate};
 ghost use Rattle.sp_frame.specs.Frames.{frame_bytes, tagged_part};
+ghost use Rattle.sp_frame.specs.Sections.{with_document};
 ghost use Rattle.sp_frame.specs.Views.{as_list};
 ghost use Rattle.sp_frame.specs.Writing.{IsWritable, IsWritableSlot, out_report};
 ghost use Rattle.sp_frame.specs.declared.frame.TheConstants.{TAG_BYTES};
+ghost use Rattle.sp_frame.specs.declared.writing.TheConstants.{MAX_DOCUMENT_BYTES};
 ghost use Rattle.sp_hmac.specs.Hmac.{hmac};
 ghost use Rattle.sp_node_format.specs.Format.{format_in};
 ghost use Rattle.sp_adversary.specs.Boots.{object_with, slot_with};
@@ -11,7 +13,7 @@ ghost use Rattle.sp_runs.specs.Inputs.{contents_with, counter_after, sealed_fram
 
 use crate::boots::EndBoots;
 use sp_base::{Bytes, Flow, Four, Memory, NodeId};
-use sp_frame::{Head, OutSections, OutSlot, TAG_BYTES, write};
+use sp_frame::{Head, OutSections, OutSlot, TAG_BYTES, write, write_document};
 use sp_msg::{Body, Kept};
 use std::alloc::Global;
 
@@ -80,6 +82,22 @@ pub fn status_frame(
         rels: Four::new(),
     };
     let mut frame = with_parts(alloc, head, None, Four::new(), Some(slot))?;
+    seal(key, &mut frame);
+    Ok(frame)
+}
+
+/// A frame of format 2 with a document and nothing else, under the tag of this key. Only want of memory refuses.
+#[tactic(auto, using(crate::proofs::Seals::sealed_is, crate::proofs::Seals::long_enough))]
+pub fn document_frame(
+    alloc: Global,
+    head: &Head,
+    key: &[u8; 32],
+    document: &[u8],
+) -> Result<Bytes, Memory>
+    requires { length document.now ≤ MAX_DOCUMENT_BYTES }
+    ensures { IfOk result (λ bytes. bytes ≡ sealed_frame (format_in head.now.format) head.now key.now (with_document document.now)) }
+{
+    let mut frame = write_document(alloc, head, document)?;
     seal(key, &mut frame);
     Ok(frame)
 }

@@ -1,8 +1,10 @@
-// The keys that a scenario's seed makes: a signer for each node, and a key for the tags over each edge.
+// The keys that a scenario's seed makes: a signer for each node, a key for the tags over each edge, and the administrator's.
 ghost use Rattle.std.specs.Prelude.{◌≡◌, ◌≤◌, ◌<◌, IfOk, IfSome, length, option_map, position};
 ghost use Rattle.sp_adversary.specs.Keys.{whole_signer};
 ghost use Rattle.sp_base.specs.declared.limits.TheConstants.{MAX_EDGES_2};
-ghost use Rattle.sp_runs.specs.Scenarios.{edge_key, node_seed};
+ghost use Rattle.sp_hss.specs.KeyTree.{signature_len};
+ghost use Rattle.sp_runs.specs.Scenarios.{admin_seed, edge_key, node_seed};
+ghost use Rattle.sp_sign.specs.Heights.{param_of};
 ghost use Rattle.sp_topology.specs.Neighbours.{joins};
 
 use sp_base::{EdgeId, Memory, NodeId};
@@ -18,6 +20,23 @@ pub fn node_seed(seed: &[u8; 32], node: NodeId) -> [u8; 32]
     ensures { result ≡ node_seed seed.now node.0 }
 {
     tag(seed, b"node", &[node.0])
+}
+
+/// The seed of the administrator's key.
+pub fn admin_seed(seed: &[u8; 32]) -> [u8; 32]
+    ensures { result ≡ admin_seed seed.now }
+{
+    tag(seed, &[], b"admin")
+}
+
+/// The bytes of a signature of this height.
+pub fn signature_len(height: LmsHeight) -> usize
+    ensures { result ≡ signature_len (param_of height) }
+{
+    match height {
+        LmsHeight::Five => 4_756,
+        LmsHeight::Ten => 5_076,
+    }
 }
 
 /// The key of the tags over an edge.

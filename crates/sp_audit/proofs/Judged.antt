@@ -91,6 +91,7 @@ quiet_holds x es js u all before (e ∷ later) quiet =
     one (effects.Signed bytes) is = tt
     one (effects.WeightHeld origin edge seq weight) is = tt
     one (effects.Ended flow) is = tt
+    one (effects.Version version) is = tt
     one (effects.Delivered src seq payload) is = absurd (cc)
     one (effects.DeliveredPrio src seq payload) is = absurd (cc)
     one (effects.Stored place id src seq prio) is = absurd (cc)

@@ -35,6 +35,7 @@ went_by p id (effects.DeliveredPrio src seq payload) = refl
 went_by p id (effects.Signed bytes) = refl
 went_by p id (effects.WeightHeld origin edge seq weight) = refl
 went_by p id (effects.Ended flow) = refl
+went_by p id (effects.Version version) = refl
 
 went : (p id : ℕ) (es : List Effect) → is_in id (flat_map (gone_from p) es) ≡ list_any (goes_from p id) es
 went p id [] = refl
@@ -146,3 +147,4 @@ shelf_more p es (effects.DeliveredPrio src seq payload) = quiet p es (effects.De
 shelf_more p es (effects.Signed bytes) = quiet p es (effects.Signed bytes) (λ i. refl) refl refl
 shelf_more p es (effects.WeightHeld origin edge seq weight) = quiet p es (effects.WeightHeld origin edge seq weight) (λ i. refl) refl refl
 shelf_more p es (effects.Ended flow) = quiet p es (effects.Ended flow) (λ i. refl) refl refl
+shelf_more p es (effects.Version version) = quiet p es (effects.Version version) (λ i. refl) refl refl

@@ -12,7 +12,7 @@ use Rattle.sp_base.specs.declared.id.NodeId.{NodeId}
 use Rattle.sp_journal.specs.declared.entry.Entry.{Entry}
 use Rattle.sp_msg.specs.declared.effect.Effect.{Effect}
 use Rattle.sp_msg.specs.declared.effect.Effect.TheVariants as effects
-use Rattle.sp_msg.specs.declared.effect.Why.TheVariants.{Acked, Evicted, Expired, Taken}
+use Rattle.sp_msg.specs.declared.effect.Why.TheVariants.{Acked, Evicted, Expired, Taken, Withdrawn}
 use Rattle.sp_runs.specs.Held.{AreShares, Held, IsShare, ShareIf, goes_from, held_in, stored_in}
 use Rattle.sp_runs.specs.Inputs.{acting}
 use Rattle.sp_runs.specs.Settings.{Setting, is_correct}
@@ -59,6 +59,7 @@ each_holds x es js u good before (e ∷ later) shares =
     one (effects.Signed bytes) share = tt
     one (effects.WeightHeld origin edge seq weight) share = tt
     one (effects.Ended flow) share = tt
+    one (effects.Version version) share = tt
 
 -- ---- what is asked of all follows from what each effect asks
 
@@ -85,6 +86,7 @@ prefix_found x es js s u all before (e ∷ later) a b holds = one e holds.0 (pre
     one (effects.Signed bytes) here rest = rest
     one (effects.WeightHeld origin edge seq weight) here rest = rest
     one (effects.Ended flow) here rest = rest
+    one (effects.Version version) here rest = rest
 
 once_found : (x : Setting) (es : List Event) (js : List Entry) (s u : NodeId) (all before later : List Effect) → IsTrue (is_correct x u)
     → EachHolds x es js u all before later → (flat_map (prio_by s) later ≡ []) ⊎ AreOnce (numbers s all)
@@ -106,6 +108,7 @@ once_found x es js s u all before (e ∷ later) b holds = one e holds.0 (once_fo
     one (effects.Signed bytes) here rest = rest
     one (effects.WeightHeld origin edge seq weight) here rest = rest
     one (effects.Ended flow) here rest = rest
+    one (effects.Version version) here rest = rest
 
 -- no effect is of the place
 record IsUntouched (p : ℕ) (later : List Effect) : Type 0 where
@@ -157,6 +160,11 @@ bound_found x es js u p all before (e ∷ later) holds = one e holds.0 (bound_fo
         kept : IsUntouched p later ⊎ (length (held_in p all) ≤ x.store) → IsUntouched p (effects.Ended flow ∷ later) ⊎ (length (held_in p all) ≤ x.store)
         kept (inl none) = inl (record { stored = none.stored; gone = none.gone })
         kept (inr found) = inr found
+    one (effects.Version version) here rest = kept rest
+      where
+        kept : IsUntouched p later ⊎ (length (held_in p all) ≤ x.store) → IsUntouched p (effects.Version version ∷ later) ⊎ (length (held_in p all) ≤ x.store)
+        kept (inl none) = inl (record { stored = none.stored; gone = none.gone })
+        kept (inr found) = inr found
 
 filter_same : (f g : Held → Bool) → ((h : Held) → f h ≡ g h) → (hs : List Held) → filter f hs ≡ filter g hs
 filter_same f g same [] = refl
@@ -186,12 +194,14 @@ shares_from x es js u p all before (e ∷ later) holds = (one e holds.0, shares_
     one (effects.Gone place id Expired) here = tt
     one (effects.Gone place id Acked) here = tt
     one (effects.Gone place id Taken) here = tt
+    one (effects.Gone place id Withdrawn) here = tt
     one (effects.Stored place id src seq prio) here = tt
     one (effects.Delivered src seq payload) here = tt
     one (effects.DeliveredPrio src seq payload) here = tt
     one (effects.Signed bytes) here = tt
     one (effects.WeightHeld origin edge seq weight) here = tt
     one (effects.Ended flow) here = tt
+    one (effects.Version version) here = tt
 
 -- ---- one event more
 

@@ -26,6 +26,8 @@ no_pass u v n (events.Flip _ _ _ _ _) is = absurd cc
 no_pass u v n (events.Inject _ _ _) is = absurd cc
 no_pass u v n (events.Craft _ _ _ _) is = absurd cc
 no_pass u v n (events.CraftStatus _ _ _ _ _ _) is = absurd cc
+no_pass u v n (events.Publish _ _) is = absurd cc
+no_pass u v n (events.CraftDocument _ _ _ _ _) is = absurd cc
 no_pass u v n (events.Start _) is = absurd cc
 no_pass u v n (events.Stop _) is = absurd cc
 

@@ -28,6 +28,7 @@ abbrev pub asks : Effect → Bool
 asks (effects.Signed bytes) = false
 asks (effects.WeightHeld origin edge seq weight) = false
 asks (effects.Ended flow) = false
+asks (effects.Version version) = false
 asks _ = true
 
 -- each of the later effects, one after the other

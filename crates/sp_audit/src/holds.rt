@@ -67,7 +67,8 @@ fn asks(effect: &Effect) -> bool
     ensures { result ≡ asks effect.now }
 {
     match effect {
-        Effect::Signed(_) | Effect::WeightHeld { .. } | Effect::Ended(_) => false,
+        Effect::Signed(_) | Effect::WeightHeld { .. } | Effect::Ended(_) | Effect::Version { .. } =>
+            false,
         _ => true,
     }
 }

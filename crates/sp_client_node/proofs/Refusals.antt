@@ -12,7 +12,7 @@ use Rattle.sp_node_format.specs.Format.{format_of}
 use Rattle.sp_node_state.specs.Sends.{Sends}
 use Rattle.sp_rules.specs.Masks.{Choice, Mask, OnlyPaths}
 use Rattle.sp_rules.specs.Node.{NodeState, Signer}
-use Rattle.sp_rules.specs.Prio.{is_node}
+use Rattle.sp_rules.specs.Prio.{is_there}
 use Rattle.sp_rules.specs.Rel.{room}
 use Rattle.sp_rules.specs.Sends.{PrioSend, is_unmet, no_life, no_paths, no_room, prio_refusal, rel_refusal, send_prio_refusal, signer_refusal}
 use Rattle.sp_rules.specs.Steps.{Accepted, Input, NodeStep, Output, Refused, SendPrio, SendRel, accepted, refused_send, replied}
@@ -77,7 +77,8 @@ prio_paths (OnlyPaths found) = refl
 prio_within : (n : NodeState) (m : PrioSend) (choice : Choice) → Within may_refuse_prio (send_prio_refusal n m choice)
 prio_within n m choice =
     within_or may_refuse_prio (prio_refusal n m) (no_paths choice)
-    (within_test may_refuse_prio ((m.dst.0 == n.fixed.me.0) || not (is_node n.parts.prio.nodes m.dst.0) || is_unmet n m.dst) refusals.BadEnd
+    (within_test may_refuse_prio
+    ((m.dst.0 == n.fixed.me.0) || not (is_there n.parts.prio m.dst.0) || not (is_there n.parts.prio n.fixed.me.0) || is_unmet n m.dst) refusals.BadEnd
     (if nat_lt m.expiry n.now then Some (refusals.Expired n.now) else signer_refusal n.signer) refl
     (within_test may_refuse_prio (nat_lt m.expiry n.now) (refusals.Expired n.now) (signer_refusal n.signer) refl
     (within_signer may_refuse_prio n.signer refl refl)))

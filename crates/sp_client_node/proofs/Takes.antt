@@ -9,7 +9,7 @@ use Rattle.sp_node_format.specs.Format.{format_of}
 use Rattle.sp_node.specs.Calls.{TakesRel}
 use Rattle.sp_node_state.specs.States.{is_other}
 use Rattle.sp_rules.specs.Node.{NodeState}
-use Rattle.sp_rules.specs.Parts.{is_signed}
+use Rattle.sp_rules.specs.Parts.{is_signed, nodes_of}
 use Rattle.sp_rules.specs.Prio.{is_node}
 use Rattle.sp_rules.specs.Rel as rel
 use Rattle.sp_rules.specs.Steps.{Output, Payload, Reply}
@@ -37,7 +37,8 @@ second false b is = absurd (cc)
 pub short : (n new : NodeState) (src : NodeId) (payload : Option (List ℕ)) → IsKept (format_of n.fixed) n → is_other n src ≡ true → TakesRel n src payload new
     → IfSome payload (λ p. length p ≤ MAX_PAYLOAD_BYTES)
 short n new src payload h is takes =
-    let node = second (not (src.0 == n.fixed.me.0)) (is_node n.parts.prio.nodes src.0) is in
+    let one = second (not (src.0 == n.fixed.me.0)) (is_node (nodes_of n.fixed.topology) src.0) is in
+    let node = subst (λ (nodes : List NodeId). is_node nodes src.0 ≡ true) (sym h.parts.prio.known) one in
     let from = in_range (sizes n).format n.parts.prio.nodes src h.parts.prio.nodes node in
     let me : IsNode (sizes n).format n.parts.rel.me = subst (IsNode (sizes n).format) (sym h.parts.rel.me) h.fixed.is_node in
     let row = read (sizes n) n.signer.index n.parts.rel.flows (rel.flow_to_me n.parts.rel src) from me h.parts.rel.flows in

@@ -81,6 +81,14 @@ impl Inbox {
         self.base = self.have;
     }
 
+    /// The flow ended: its numbers are as before its first message. What wasn't taken still waits.
+    pub fn end(&mut self)
+        ensures { self.new ≡ record self.old { base = 0; have = 0 } }
+    {
+        self.base = 0;
+        self.have = 0;
+    }
+
     /// The oldest message, which leaves.
     pub fn take(&mut self) -> Option<Bytes>
         ensures taken { result ≡ slice_get self.old.items 0 }

@@ -17,10 +17,16 @@ use Rattle.sp_forgery.specs.Turns.{epoch_objects, forged_in_turn, handled_of, sl
 use Rattle.sp_journal.specs.declared.entry.Entry.{Entry}
 use Rattle.sp_schedule_events.specs.declared.event.Event.{Event}
 
-pub in_turn : (x : Setting) (es : List Event) (js : List Entry) (xs : List (Kept × Item))
-    → forged_in_turn x es js (map (λ a. a.0) xs) (map (λ a. a.1) xs) ≡ forged_object (format_in x.topology.format) x es js xs
-in_turn x es js [] = refl
-in_turn x es js (a ∷ xs) = rw (in_turn x es js xs) refl
+-- where no object is left, none is forged
+pub none_left : (x : Setting) (es : List Event) (js : List Entry) (items : List Item) → forged_in_turn x es js [] items ≡ None
+none_left x es js [] = refl
+none_left x es js (item ∷ items) = refl
+
+-- whatever else is answered after the objects
+pub in_turn : (x : Setting) (es : List Event) (js : List Entry) (xs : List (Kept × Item)) (more : List Item)
+    → forged_in_turn x es js (map (λ a. a.0) xs) (map (λ a. a.1) xs ++ more) ≡ forged_object (format_in x.topology.format) x es js xs
+in_turn x es js [] more = none_left x es js more
+in_turn x es js (a ∷ xs) more = rw (in_turn x es js xs more) refl
 
 -- the objects of sections, part by part, up to these last pieces
 module _ (last : List Piece) where
@@ -61,8 +67,3 @@ objects_in_sections true s =
     all_then (map EpochPiece (as_list (option_map as_object s.epoch))) s s.weight
     ∙ ap (λ (os : List Kept). as_list (option_map as_object s.weight) ++ (map (λ m. as_object m.1) s.prios ++ slot_objects s.slot os)) (epoch_is s.epoch)
 objects_in_sections false s = all_then [] s s.weight
-
--- where no object is left, none is forged
-pub none_left : (x : Setting) (es : List Event) (js : List Entry) (items : List Item) → forged_in_turn x es js [] items ≡ None
-none_left x es js [] = refl
-none_left x es js (item ∷ items) = refl

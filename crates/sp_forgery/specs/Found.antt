@@ -7,10 +7,10 @@ use Rattle.sp_frame.specs.declared.refused.FrameRefused.{FrameRefused}
 use Rattle.sp_frame.specs.declared.refused.SectionRefused.{SectionRefused}
 use Rattle.sp_journal.specs.declared.entry.Entry.{Entry}
 use Rattle.sp_node_format.specs.Format.{format_in}
-use Rattle.sp_rules.specs.Arrivals.{handled}
+use Rattle.sp_rules.specs.Arrivals.{before_document, document_at, handled, pieces_beside}
 use Rattle.sp_rules.specs.Node.{NodeState}
 use Rattle.sp_rules.specs.Pieces.{pieces_of}
-use Rattle.sp_rules.specs.Steps.{Arrived, Datagram, NodeStep, Output}
+use Rattle.sp_rules.specs.Steps.{Arrived, Datagram, NodeStep, Output, document_adopted}
 use Rattle.sp_rules.specs.declared.answers.Item.{Item}
 use Rattle.sp_rules.specs.declared.node.Step.{Step}
 use Rattle.sp_rules.specs.declared.node.Taken.{Taken}
@@ -21,7 +21,13 @@ use Rattle.sp_forgery.specs.Turns.{forged_in_turn, handled_of}
 -- the output of an arrival that was answered so, in a format
 abbrev pub answered : (format : ℕ) → NodeState → NodeId → List ℕ → Step Taken → Output
 answered format n u bytes step =
-    record { reply = Arrived step.reply.link step.reply.items; effects = step.effects.list; answered = (handled (format_in format) n u bytes).answered }
+    let arts = format_in format in
+    record {
+      reply = Arrived step.reply.link step.reply.items;
+      effects = step.effects.list;
+      answered = (handled arts n u bytes).answered;
+      adopted = document_adopted arts (before_document arts n u bytes) (document_at arts n u bytes);
+    }
 
 -- the node answered so to a datagram of u
 abbrev pub Answered : (format : ℕ) → NodeState → NodeId → List ℕ → Step Taken → NodeState → Type 0
@@ -29,6 +35,7 @@ Answered format n u bytes step new = NodeStep (format_in format) n (Datagram u b
 
 -- the first object that is forged, of bytes that open so and have these sections
 abbrev pub found_at : Setting → List Event → List Entry → Result (List ℕ) FrameRefused → Result Contents SectionRefused → List Item → Option (List ℕ)
-found_at x es js (Ok frame) (Ok contents) items = forged_in_turn x es js (objects_in (pieces_of (handled_of x.epochs contents))) items
+found_at x es js (Ok frame) (Ok contents) items =
+    forged_in_turn x es js (objects_in (pieces_beside contents.document (pieces_of (handled_of x.epochs contents)))) items
 found_at x es js (Ok frame) (Err refused) items = None
 found_at x es js (Err refused) sections items = None

@@ -1,3 +1,4 @@
+pub mod Brought
 pub mod Found
 pub mod Whats
 -- ---- what proofs and the parts of this crate use among themselves

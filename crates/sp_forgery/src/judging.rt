@@ -1,5 +1,5 @@
-// What of an arrival is forged: its tag, or else the first object in the order of handling.
-ghost use Rattle.std.specs.Prelude.{◌≡◌, ◌≤◌, [], IfSome, None as Nothing, length, map, option_map, vec_capacity};
+// What of an arrival is forged: its tag, or else the first object in the order of handling, or its document.
+ghost use Rattle.std.specs.Prelude.{ℕ, ◌≡◌, ◌≤◌, ◌++◌, List, [], IfSome, None as Nothing, length, map, option_map, vec_capacity};
 ghost use Rattle.sp_frame.specs.Frames.{opened_in, sections_part};
 ghost use Rattle.sp_frame.specs.Sections.{sections_of_in};
 ghost use Rattle.sp_node_format.specs.Format.{format_in};
@@ -7,12 +7,15 @@ ghost use Rattle.sp_rules.specs.Arrivals.{handled, reply_at};
 ghost use Rattle.sp_rules.specs.Node.{NodeState, call_refusal};
 ghost use Rattle.sp_base.specs.declared.id.NodeId.{NodeId};
 ghost use Rattle.sp_rules.specs.Steps.{Datagram};
+ghost use Rattle.sp_rules.specs.declared.answers.Item.{Item as Answer};
 ghost use Rattle.sp_runs.specs.Forgery.{forged, forged_object};
 ghost use Rattle.sp_runs.specs.Scenarios.{setting_of};
 ghost use Rattle.sp_runs.specs.Worlds.{World};
+ghost use Rattle.sp_forgery.specs.Brought.{as_brought, brought_at};
 ghost use Rattle.sp_forgery.specs.Found.{Answered, answered, found_at};
 ghost use Rattle.sp_forgery.specs.Whats.{IsShort, what_of};
 
+use crate::documents::{Brought, forged_document};
 use crate::objects::{Known, first_forged};
 use crate::tags::has_forged_tag;
 use sp_base::{Bytes, NodeId};
@@ -24,7 +27,7 @@ use sp_world_steps::Directions;
 /// How long a message is at most.
 pub const MAX_MESSAGE_BYTES: usize = 1_086;
 
-/// What of an arrival is forged, as it stands in the datagram.
+/// What of an arrival is forged, as it stands in the datagram: an object, or a document.
 #[derive(Clone, Copy, Debug)]
 pub enum Forgery<'a> {
     Tag,
@@ -32,11 +35,10 @@ pub enum Forgery<'a> {
 }
 
 impl Forgery<'_> {
-    /// The same with bytes of its own, in an empty vector that has room for any message. It takes no memory.
+    /// The same with bytes of its own, in an empty vector that has room for them. It takes no memory.
     pub fn copied(&self, mut room: Vec<u8>) -> What
         requires empty { room.items ≡ [] }
-        requires room { MAX_MESSAGE_BYTES ≤ vec_capacity room }
-        requires short { IsShort self.now }
+        requires short { IsShort (vec_capacity room) self.now }
         ensures { result ≡ what_of self.now }
     {
         match self {
@@ -61,7 +63,8 @@ fn fill(room: &mut Vec<u8>, bytes: &[u8])
     }
 }
 
-/// What of an arrival at `v` from `u` is forged, by what the node answered. None exactly where nothing is. It takes no memory.
+/// What of an arrival at `v` from `u` is forged, by what the node answered. None exactly where nothing is. It takes no memory. What it gives is no longer
+/// than any message or the datagram.
 #[tactic(auto, using(crate::proofs::Rules::judged))]
 pub fn judge<'a>(
     known: &Known<'_>,
@@ -69,9 +72,12 @@ pub fn judge<'a>(
     u: NodeId,
     v: NodeId,
     bytes: &'a [u8],
+    brought: &Option<Brought<'a>>,
     step: &Step<Taken>,
 ) -> Option<Forgery<'a>>
-    requires { length known.now.events.now ≡ length known.now.journal.now }
+    requires even { length known.now.events.now ≡ length known.now.journal.now }
+    requires brought { option_map as_brought brought.now ≡ brought_at (opened_in known.now.scenario.now.format bytes.now)
+        (sections_of_in known.now.scenario.now.format known.now.signature_len (sections_part bytes.now)) }
     ensures judged { (n new : NodeState) (w : World) → n.fixed.me ≡ v → n.fixed.signature_len ≡ known.now.signature_len
         → n.fixed.epochs ≡ known.now.scenario.now.epochs → call_refusal n u ≡ Nothing → w.directions ≡ directions.now
         → Answered known.now.scenario.now.format n u bytes.now step.now new
@@ -80,13 +86,18 @@ pub fn judge<'a>(
         (Datagram u bytes.now) (answered known.now.scenario.now.format n u bytes.now step.now) }
     ensures short { (n new : NodeState) → n.fixed.signature_len ≡ known.now.signature_len → n.fixed.epochs ≡ known.now.scenario.now.epochs
         → call_refusal n u ≡ Nothing
-        → Answered known.now.scenario.now.format n u bytes.now step.now new → IfSome result IsShort }
+        → Answered known.now.scenario.now.format n u bytes.now step.now new
+        → (room : ℕ) → MAX_MESSAGE_BYTES ≤ room → length bytes.now ≤ room → IfSome result (IsShort room) }
 {
     if has_forged_tag(known.scenario, directions, u, v, bytes, &step.reply.link) {
         return Some(Forgery::Tag);
     }
-    match forged_in(known, &step.reply.link, bytes, step.reply.items.as_slice()) {
-        Some(body) => Some(Forgery::Object(body)),
+    let items = step.reply.items.as_slice();
+    if let Some(body) = forged_in(known, &step.reply.link, bytes, items) {
+        return Some(Forgery::Object(body));
+    }
+    match forged_document(known.events, &step.reply.link, items, brought) {
+        Some(document) => Some(Forgery::Object(document)),
         None => None,
     }
 }
@@ -102,7 +113,7 @@ fn forged_in<'a>(
     requires { length known.now.events.now ≡ length known.now.journal.now }
     ensures { (n : NodeState) (u : NodeId) → n.fixed.signature_len ≡ known.now.signature_len → n.fixed.epochs ≡ known.now.scenario.now.epochs
         → link.now ≡ reply_at (format_in known.now.scenario.now.format) n u bytes.now
-        → items.now ≡ map (λ a. a.1) (handled (format_in known.now.scenario.now.format) n u bytes.now).answered
+        → (more : List Answer) → items.now ≡ map (λ a. a.1) (handled (format_in known.now.scenario.now.format) n u bytes.now).answered ++ more
         → option_map (λ b. b.now) result ≡ forged_object (format_in known.now.scenario.now.format) (setting_of known.now.scenario.now)
         known.now.events.now known.now.journal.now
         (handled (format_in known.now.scenario.now.format) n u bytes.now).answered }

@@ -8,6 +8,7 @@ ghost use Rattle.sp_msg.specs.Views.{as_body};
 ghost use Rattle.sp_msg.specs.declared.kept.Kept.{Kept};
 ghost use Rattle.sp_node_format.specs.Format.{format_in};
 ghost use Rattle.sp_rules.specs.Answers.{is_new};
+ghost use Rattle.sp_rules.specs.Arrivals.{pieces_beside};
 ghost use Rattle.sp_rules.specs.Pieces.{pieces_of};
 ghost use Rattle.sp_runs.specs.Forgery.{is_forged};
 ghost use Rattle.sp_runs.specs.Scenarios.{setting_of};
@@ -43,13 +44,29 @@ struct Looked<'a, 'b> {
 }
 
 /// The first object of a handled frame of the scenario's format that is forged: its bytes. The answers are those to its objects, in the order of handling.
-/// The Epoch object comes last. A node handles it where nodes run with epochs.
-#[tactic(auto, using(crate::proofs::Turns::objects_in_sections))]
+/// Beside a document there is none.
+#[tactic(auto, using(crate::proofs::Turns::none_left))]
 pub fn first_forged<'a>(
     known: &Known<'_>,
     sections: &Sections<'a>,
     items: &[Item],
 ) -> Option<&'a [u8]>
+    requires known { length known.now.events.now ≡ length known.now.journal.now }
+    requires of_format { AreOf known.now.scenario.now.format sections.now }
+    ensures { option_map (λ b. b.now) result
+        ≡ forged_in_turn (setting_of known.now.scenario.now) known.now.events.now known.now.journal.now
+        (objects_in (pieces_beside (as_contents sections.now).document (pieces_of (handled_of known.now.scenario.now.epochs (as_contents sections.now)))))
+        items.now }
+{
+    match sections.document {
+        Some(_) => None,
+        None => first_in(known, sections, items),
+    }
+}
+
+/// The first one where there is no document. The Epoch object comes last. A node handles it where nodes run with epochs.
+#[tactic(auto, using(crate::proofs::Turns::objects_in_sections))]
+fn first_in<'a>(known: &Known<'_>, sections: &Sections<'a>, items: &[Item]) -> Option<&'a [u8]>
     requires known { length known.now.events.now ≡ length known.now.journal.now }
     requires of_format { AreOf known.now.scenario.now.format sections.now }
     ensures { option_map (λ b. b.now) result

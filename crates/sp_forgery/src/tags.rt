@@ -38,6 +38,7 @@ fn is_tagged(link: &LinkReply) -> bool
             | LinkReply::Stale { .. }
             | LinkReply::OtherTopology { .. }
             | LinkReply::Section(_)
+            | LinkReply::Withdrawn
             | LinkReply::Fresh
     )
 }

@@ -3,16 +3,17 @@
 --     accepted SEQ           ticked                        toolong              stale BOOT COUNTER
 --     full BASE HAVE         tickspent INDEX               short NEED LEFT      topology THEIRS
 --     spent INDEX            ticknotreserved BOUND         magic                section cut | count | object | tail
---     expired NOW            low MIN                       version              fresh, and a word for each object: weight: prio: ack: rel: epoch:
---     nopaths FOUND          frame NUMBER LENGTH DIGEST    notforme               with new badend epoch foreign low old expired seen ahead
---     payload HEX            payload SRC SEQ HEX           badtag                 gap full inboxfull badsig
---     empty                  badend                        learned BOOT
+--     expired NOW            low MIN                       version              withdrawn
+--     nopaths FOUND          frame NUMBER LENGTH DIGEST    notforme             fresh, and a word for each object: weight: prio: ack: rel: epoch:
+--     payload HEX            payload SRC SEQ HEX           badtag                 with new badend epoch foreign low old expired seen ahead gap full
+--     empty                  badend                        learned BOOT           inboxfull badsig; or document: with new bad old badsig strange
 --     started BOOT INDEX     exhausted BOUND               stopped              down
+--     adopted VERSION        document old
 --
 --     + signed HEX                        + delivered rel SRC SEQ HEX
 --     + stored PLACE ID SRC SEQ PRIO      + delivered prio SRC SEQ HEX
 --     + gone PLACE ID WHY                 + weight ORIGIN EDGE SEQ WEIGHT
---                                         + ended S D
+--     + version VERSION                   + ended S D
 use Rattle.std.specs.Prelude.{List, [], ◌∷◌, ◌++◌, map, codes}
 use Rattle.std.specs.Fmt.{decimal}
 use Rattle.sp_text.specs.Spelling.{Word, hex_word}
@@ -47,6 +48,8 @@ answer_word answers.Gap = codes "gap"
 answer_word answers.Full = codes "full"
 answer_word answers.InboxFull = codes "inboxfull"
 answer_word answers.BadSig = codes "badsig"
+answer_word answers.Bad = codes "bad"
+answer_word answers.Strange = codes "strange"
 
 abbrev pub item_word : ItemWord → Word
 item_word (items.Weight answer) = codes "weight:" ++ answer_word answer
@@ -54,6 +57,7 @@ item_word (items.Prio answer) = codes "prio:" ++ answer_word answer
 item_word (items.Ack answer) = codes "ack:" ++ answer_word answer
 item_word (items.Rel answer) = codes "rel:" ++ answer_word answer
 item_word (items.Epoch answer) = codes "epoch:" ++ answer_word answer
+item_word (items.Document answer) = codes "document:" ++ answer_word answer
 
 abbrev pub section_word : SectionWord → Word
 section_word sections.Cut = codes "cut"
@@ -73,6 +77,7 @@ link_name (links.Learned boot) = codes "learned"
 link_name (links.Stale boot counter) = codes "stale"
 link_name (links.Topology theirs) = codes "topology"
 link_name (links.Section why) = codes "section"
+link_name links.Withdrawn = codes "withdrawn"
 link_name links.Fresh = codes "fresh"
 
 abbrev pub link_fields : LinkWord → List Word
@@ -104,6 +109,8 @@ reply_name (replies.Started boot index) = codes "started"
 reply_name (replies.Exhausted bound) = codes "exhausted"
 reply_name replies.Stopped = codes "stopped"
 reply_name replies.Down = codes "down"
+reply_name (replies.Adopted version) = codes "adopted"
+reply_name replies.DocumentOld = codes "document"
 
 abbrev pub reply_fields : Reply → List Word
 reply_fields (replies.Accepted seq) = decimal seq ∷ []
@@ -125,6 +132,8 @@ reply_fields (replies.Started boot index) = decimal boot ∷ decimal index ∷ [
 reply_fields (replies.Exhausted bound) = decimal bound ∷ []
 reply_fields replies.Stopped = []
 reply_fields replies.Down = []
+reply_fields (replies.Adopted version) = decimal version ∷ []
+reply_fields replies.DocumentOld = codes "old" ∷ []
 
 abbrev pub reply_words : Reply → List Word
 reply_words reply = reply_name reply ∷ reply_fields reply
@@ -136,6 +145,7 @@ why_word whys.Evicted = codes "evicted"
 why_word whys.Expired = codes "expired"
 why_word whys.Acked = codes "acked"
 why_word whys.Taken = codes "taken"
+why_word whys.Withdrawn = codes "withdrawn"
 
 -- the words of an effect after its plus
 abbrev pub effect_fields : Effect → List Word
@@ -146,6 +156,7 @@ effect_fields (effects.Delivered src seq payload) = codes "delivered" ∷ codes 
 effect_fields (effects.DeliveredPrio src seq payload) = codes "delivered" ∷ codes "prio" ∷ decimal src.0 ∷ decimal seq ∷ hex_word payload ∷ []
 effect_fields (effects.WeightHeld origin edge seq weight) = codes "weight" ∷ decimal origin.0 ∷ decimal edge.0 ∷ decimal seq ∷ decimal weight ∷ []
 effect_fields (effects.Ended flow) = codes "ended" ∷ decimal flow.src.0 ∷ decimal flow.dst.0 ∷ []
+effect_fields (effects.Version version) = codes "version" ∷ decimal version ∷ []
 
 abbrev pub effect_words : Effect → List Word
 effect_words effect = codes "+" ∷ effect_fields effect

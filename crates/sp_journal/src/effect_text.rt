@@ -79,6 +79,10 @@ fn push_fields(out: &mut String, effect: &Effect) -> Result<(), Memory>
             push_field(out, u64::from(flow.src.0))?;
             push_field(out, u64::from(flow.dst.0))
         }
+        Effect::Version { version } => {
+            push_name_field(out, "version")?;
+            push_field(out, u64::from(*version))
+        }
     }
 }
 
@@ -118,5 +122,6 @@ fn why_word(why: Why) -> &'static str
         Why::Expired => "expired",
         Why::Acked => "acked",
         Why::Taken => "taken",
+        Why::Withdrawn => "withdrawn",
     }
 }

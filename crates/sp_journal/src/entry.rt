@@ -81,6 +81,12 @@ pub enum Reply {
     Stopped,
     /// The node that was to act doesn't run, or the frame that was to arrive wasn't made since its node didn't.
     Down,
+    /// The node took the administrator's document: from now on it runs under this version.
+    Adopted {
+        version: u32,
+    },
+    /// The node runs under this version or a later one already.
+    DocumentOld,
 }
 
 /// How a link took what arrived.
@@ -96,6 +102,7 @@ pub enum LinkWord {
     Stale { boot: u64, counter: u64 },
     Topology { theirs: u32 },
     Section(SectionWord),
+    Withdrawn,
     Fresh,
 }
 
@@ -116,12 +123,14 @@ pub enum ItemWord {
     Ack(AnswerWord),
     Rel(AnswerWord),
     Epoch(AnswerWord),
+    Document(AnswerWord),
 }
 
 /// The word of an answer. Which object may have which, is a matter of the rules.
 #[derive(Clone, Copy, Debug, PartialEq, Eq)]
 pub enum AnswerWord {
     New,
+    Bad,
     BadEnd,
     Epoch,
     Foreign,
@@ -134,4 +143,5 @@ pub enum AnswerWord {
     Full,
     InboxFull,
     BadSig,
+    Strange,
 }

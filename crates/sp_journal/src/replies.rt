@@ -78,6 +78,8 @@ fn reply_name(reply: &Reply) -> &'static str
         Reply::Exhausted { .. } => "exhausted",
         Reply::Stopped => "stopped",
         Reply::Down => "down",
+        Reply::Adopted { .. } => "adopted",
+        Reply::DocumentOld => "document",
     }
 }
 
@@ -96,6 +98,7 @@ fn link_name(link: LinkWord) -> &'static str
         LinkWord::Stale { .. } => "stale",
         LinkWord::Topology { .. } => "topology",
         LinkWord::Section(_) => "section",
+        LinkWord::Withdrawn => "withdrawn",
         LinkWord::Fresh => "fresh",
     }
 }
@@ -121,6 +124,8 @@ fn push_fields(out: &mut String, reply: &Reply) -> Result<(), Memory>
             push_hex_field(out, payload.as_slice())
         }
         Reply::Empty | Reply::Ticked | Reply::BadEnd | Reply::Stopped | Reply::Down => Ok(()),
+        Reply::Adopted { version } => push_field(out, u64::from(*version)),
+        Reply::DocumentOld => push_name_field(out, "old"),
         Reply::Low { min } => push_field(out, u64::from(*min)),
         Reply::Frame {
             number,
@@ -164,6 +169,7 @@ fn push_link(out: &mut String, link: LinkWord) -> Result<(), Memory>
         | LinkWord::Version
         | LinkWord::NotForMe
         | LinkWord::BadTag
+        | LinkWord::Withdrawn
         | LinkWord::Fresh => Ok(()),
     }
 }
@@ -197,6 +203,7 @@ fn push_item(out: &mut String, item: ItemWord) -> Result<(), Memory>
         ItemWord::Ack(answer) => (" ack:", answer),
         ItemWord::Rel(answer) => (" rel:", answer),
         ItemWord::Epoch(answer) => (" epoch:", answer),
+        ItemWord::Document(answer) => (" document:", answer),
     };
     out.push_str(object)?;
     out.push_str(answer_word(answer))?;
@@ -220,5 +227,7 @@ fn answer_word(answer: AnswerWord) -> &'static str
         AnswerWord::Full => "full",
         AnswerWord::InboxFull => "inboxfull",
         AnswerWord::BadSig => "badsig",
+        AnswerWord::Bad => "bad",
+        AnswerWord::Strange => "strange",
     }
 }

@@ -25,10 +25,12 @@ effect_back (effects.Gone at key whys.Evicted) = refl
 effect_back (effects.Gone at key whys.Expired) = refl
 effect_back (effects.Gone at key whys.Acked) = refl
 effect_back (effects.Gone at key whys.Taken) = refl
+effect_back (effects.Gone at key whys.Withdrawn) = refl
 effect_back (effects.Delivered src number bytes) = refl
 effect_back (effects.DeliveredPrio src number bytes) = refl
 effect_back (effects.WeightHeld origin edge number weight) = refl
 effect_back (effects.Ended flow) = refl
+effect_back (effects.Version version) = refl
 
 -- its words are those of its row
 pub row_words : (e : Effect) → spelled (cells (form_of e)) (values_of e) ≡ effect_fields e
@@ -38,10 +40,12 @@ row_words (effects.Gone at key whys.Evicted) = refl
 row_words (effects.Gone at key whys.Expired) = refl
 row_words (effects.Gone at key whys.Acked) = refl
 row_words (effects.Gone at key whys.Taken) = refl
+row_words (effects.Gone at key whys.Withdrawn) = refl
 row_words (effects.Delivered src number bytes) = refl
 row_words (effects.DeliveredPrio src number bytes) = refl
 row_words (effects.WeightHeld origin edge number weight) = refl
 row_words (effects.Ended flow) = refl
+row_words (effects.Version version) = refl
 
 -- and they fit that row, and none before it
 form_again : (e : Effect) → form_for (effect_fields e) ≡ Some (form_of e)
@@ -51,10 +55,12 @@ form_again (effects.Gone at key whys.Evicted) = refl
 form_again (effects.Gone at key whys.Expired) = refl
 form_again (effects.Gone at key whys.Acked) = refl
 form_again (effects.Gone at key whys.Taken) = refl
+form_again (effects.Gone at key whys.Withdrawn) = refl
 form_again (effects.Delivered src number bytes) = refl
 form_again (effects.DeliveredPrio src number bytes) = refl
 form_again (effects.WeightHeld origin edge number weight) = refl
 form_again (effects.Ended flow) = refl
+form_again (effects.Version version) = refl
 
 -- the words of a row's values are those of its effect, which are in the same ranges
 record IsOfForm (form : Form) (xs : Values (cells form)) : Type 0 where
@@ -68,10 +74,12 @@ of_form (forms.Gone whys.Evicted) xs = record { words = refl; ranges = λ are. a
 of_form (forms.Gone whys.Expired) xs = record { words = refl; ranges = λ are. are }
 of_form (forms.Gone whys.Acked) xs = record { words = refl; ranges = λ are. are }
 of_form (forms.Gone whys.Taken) xs = record { words = refl; ranges = λ are. are }
+of_form (forms.Gone whys.Withdrawn) xs = record { words = refl; ranges = λ are. are }
 of_form (forms.Delivered kinds.Rel) xs = record { words = refl; ranges = λ are. are }
 of_form (forms.Delivered kinds.Prio) xs = record { words = refl; ranges = λ are. are }
 of_form forms.Weight xs = record { words = refl; ranges = λ are. are }
 of_form forms.Ended xs = record { words = refl; ranges = λ are. are }
+of_form forms.Version xs = record { words = refl; ranges = λ are. are }
 
 good_form : (form : Form) → is_good_row (cells form) ≡ true
 good_form forms.Signed = refl
@@ -80,10 +88,12 @@ good_form (forms.Gone whys.Evicted) = refl
 good_form (forms.Gone whys.Expired) = refl
 good_form (forms.Gone whys.Acked) = refl
 good_form (forms.Gone whys.Taken) = refl
+good_form (forms.Gone whys.Withdrawn) = refl
 good_form (forms.Delivered kinds.Rel) = refl
 good_form (forms.Delivered kinds.Prio) = refl
 good_form forms.Weight = refl
 good_form forms.Ended = refl
+good_form forms.Version = refl
 
 -- the row that was found is fitted
 pub found_fits : {F : Type 0} (test : F → Bool) (all : List F) (found : F) → find test all ≡ Some found → test found ≡ true

@@ -68,6 +68,9 @@ of_form forms.Started xs = record { words = refl; reads = refl }
 of_form forms.Exhausted xs = record { words = refl; reads = refl }
 of_form forms.Stopped xs = record { words = refl; reads = refl }
 of_form forms.Down xs = record { words = refl; reads = refl }
+of_form forms.Adopted xs = record { words = refl; reads = refl }
+of_form forms.DocumentOld xs = record { words = refl; reads = refl }
+of_form forms.Withdrawn xs = record { words = refl; reads = refl }
 
 pub good_form : (form : Form) → is_good_row (cells form) ≡ true
 good_form forms.Accepted = refl
@@ -101,6 +104,9 @@ good_form forms.Started = refl
 good_form forms.Exhausted = refl
 good_form forms.Stopped = refl
 good_form forms.Down = refl
+good_form forms.Adopted = refl
+good_form forms.DocumentOld = refl
+good_form forms.Withdrawn = refl
 
 pub row_words : (form : Form) (xs : Values (cells form)) → reply_words (reply_of form xs) ≡ spelled (cells form) xs
 row_words form xs = (of_form form xs).words

@@ -79,10 +79,12 @@ good_plus (effect_forms.Gone whys.Evicted) = refl
 good_plus (effect_forms.Gone whys.Expired) = refl
 good_plus (effect_forms.Gone whys.Acked) = refl
 good_plus (effect_forms.Gone whys.Taken) = refl
+good_plus (effect_forms.Gone whys.Withdrawn) = refl
 good_plus (effect_forms.Delivered kinds.Rel) = refl
 good_plus (effect_forms.Delivered kinds.Prio) = refl
 good_plus effect_forms.Weight = refl
 good_plus effect_forms.Ended = refl
+good_plus effect_forms.Version = refl
 
 effect_line : (effect : Effect) → IsInRange effect → IsGoodLine (effect_words effect)
 effect_line effect is =
@@ -150,6 +152,9 @@ good_numbered forms.Started = refl
 good_numbered forms.Exhausted = refl
 good_numbered forms.Stopped = refl
 good_numbered forms.Down = refl
+good_numbered forms.Adopted = refl
+good_numbered forms.DocumentOld = refl
+good_numbered forms.Withdrawn = refl
 
 -- ---- items as places of a row
 
@@ -171,6 +176,8 @@ short_item (items.Weight answers.Gap) = record { good = refl; short = refl }
 short_item (items.Weight answers.Full) = record { good = refl; short = refl }
 short_item (items.Weight answers.InboxFull) = record { good = refl; short = refl }
 short_item (items.Weight answers.BadSig) = record { good = refl; short = refl }
+short_item (items.Weight answers.Bad) = record { good = refl; short = refl }
+short_item (items.Weight answers.Strange) = record { good = refl; short = refl }
 short_item (items.Prio answers.New) = record { good = refl; short = refl }
 short_item (items.Prio answers.BadEnd) = record { good = refl; short = refl }
 short_item (items.Prio answers.Epoch) = record { good = refl; short = refl }
@@ -184,6 +191,8 @@ short_item (items.Prio answers.Gap) = record { good = refl; short = refl }
 short_item (items.Prio answers.Full) = record { good = refl; short = refl }
 short_item (items.Prio answers.InboxFull) = record { good = refl; short = refl }
 short_item (items.Prio answers.BadSig) = record { good = refl; short = refl }
+short_item (items.Prio answers.Bad) = record { good = refl; short = refl }
+short_item (items.Prio answers.Strange) = record { good = refl; short = refl }
 short_item (items.Ack answers.New) = record { good = refl; short = refl }
 short_item (items.Ack answers.BadEnd) = record { good = refl; short = refl }
 short_item (items.Ack answers.Epoch) = record { good = refl; short = refl }
@@ -197,6 +206,8 @@ short_item (items.Ack answers.Gap) = record { good = refl; short = refl }
 short_item (items.Ack answers.Full) = record { good = refl; short = refl }
 short_item (items.Ack answers.InboxFull) = record { good = refl; short = refl }
 short_item (items.Ack answers.BadSig) = record { good = refl; short = refl }
+short_item (items.Ack answers.Bad) = record { good = refl; short = refl }
+short_item (items.Ack answers.Strange) = record { good = refl; short = refl }
 short_item (items.Rel answers.New) = record { good = refl; short = refl }
 short_item (items.Rel answers.BadEnd) = record { good = refl; short = refl }
 short_item (items.Rel answers.Epoch) = record { good = refl; short = refl }
@@ -210,6 +221,8 @@ short_item (items.Rel answers.Gap) = record { good = refl; short = refl }
 short_item (items.Rel answers.Full) = record { good = refl; short = refl }
 short_item (items.Rel answers.InboxFull) = record { good = refl; short = refl }
 short_item (items.Rel answers.BadSig) = record { good = refl; short = refl }
+short_item (items.Rel answers.Bad) = record { good = refl; short = refl }
+short_item (items.Rel answers.Strange) = record { good = refl; short = refl }
 short_item (items.Epoch answers.New) = record { good = refl; short = refl }
 short_item (items.Epoch answers.BadEnd) = record { good = refl; short = refl }
 short_item (items.Epoch answers.Epoch) = record { good = refl; short = refl }
@@ -223,6 +236,23 @@ short_item (items.Epoch answers.Gap) = record { good = refl; short = refl }
 short_item (items.Epoch answers.Full) = record { good = refl; short = refl }
 short_item (items.Epoch answers.InboxFull) = record { good = refl; short = refl }
 short_item (items.Epoch answers.BadSig) = record { good = refl; short = refl }
+short_item (items.Epoch answers.Bad) = record { good = refl; short = refl }
+short_item (items.Epoch answers.Strange) = record { good = refl; short = refl }
+short_item (items.Document answers.New) = record { good = refl; short = refl }
+short_item (items.Document answers.Bad) = record { good = refl; short = refl }
+short_item (items.Document answers.BadEnd) = record { good = refl; short = refl }
+short_item (items.Document answers.Epoch) = record { good = refl; short = refl }
+short_item (items.Document answers.Foreign) = record { good = refl; short = refl }
+short_item (items.Document answers.Low) = record { good = refl; short = refl }
+short_item (items.Document answers.Old) = record { good = refl; short = refl }
+short_item (items.Document answers.Expired) = record { good = refl; short = refl }
+short_item (items.Document answers.Seen) = record { good = refl; short = refl }
+short_item (items.Document answers.Ahead) = record { good = refl; short = refl }
+short_item (items.Document answers.Gap) = record { good = refl; short = refl }
+short_item (items.Document answers.Full) = record { good = refl; short = refl }
+short_item (items.Document answers.InboxFull) = record { good = refl; short = refl }
+short_item (items.Document answers.BadSig) = record { good = refl; short = refl }
+short_item (items.Document answers.Strange) = record { good = refl; short = refl }
 
 abbrev item_cells : List ItemWord → List Cell
 item_cells [] = []

@@ -3,7 +3,7 @@
 --     signed HEX                        delivered rel SRC SEQ HEX
 --     stored PLACE ID SRC SEQ PRIO      delivered prio SRC SEQ HEX
 --     gone PLACE ID WHY                 weight ORIGIN EDGE SEQ WEIGHT
---                                       ended S D
+--     version VERSION                   ended S D
 use Rattle.std.specs.Prelude.{ℕ, ◌+◌, ◌-◌, ◌^◌, List, [], ◌∷◌, Option, Some, None, Result, Ok, Err, codes}
 use Rattle.sp_base.specs.Refusals.{◌>>=◌}
 use Rattle.sp_base.specs.declared.limits.TheConstants.{MAX_EDGES_2, MAX_NODES_2, MAX_PAYLOAD_BYTES, MAX_PRIORITY, MAX_SEQ, MAX_WEIGHT}
@@ -30,11 +30,16 @@ pub data Form : Type 0 where
   Delivered : Kind → Form
   Weight : Form
   Ended : Form
+  Version : Form
 
 -- ---- places
 
 abbrev pub any_number : Cell
 any_number = Number 0 (2 ^ 64 - 1)
+
+-- a number of 32 bits
+abbrev pub small_number : Cell
+small_number = Number 0 (2 ^ 32 - 1)
 
 -- a neighbour, or 0 for the inbox
 abbrev pub place : Cell
@@ -64,12 +69,13 @@ cells (Gone why) = Name (codes "gone") ∷ place ∷ any_number ∷ Name (why_wo
 cells (Delivered kind) = Name (codes "delivered") ∷ Name (kind_word kind) ∷ node ∷ seq ∷ payload ∷ []
 cells Weight = Name (codes "weight") ∷ node ∷ Number 0 (MAX_EDGES_2 - 1) ∷ seq ∷ Number 1 MAX_WEIGHT ∷ []
 cells Ended = Name (codes "ended") ∷ node ∷ node ∷ []
+cells Version = Name (codes "version") ∷ small_number ∷ []
 
 -- all forms
 abbrev pub forms : List Form
 forms =
-    Signed ∷ Stored ∷ Gone whys.Evicted ∷ Gone whys.Expired ∷ Gone whys.Acked ∷ Gone whys.Taken
-    ∷ Delivered kinds.Rel ∷ Delivered kinds.Prio ∷ Weight ∷ Ended ∷ []
+    Signed ∷ Stored ∷ Gone whys.Evicted ∷ Gone whys.Expired ∷ Gone whys.Acked ∷ Gone whys.Taken ∷ Gone whys.Withdrawn
+    ∷ Delivered kinds.Rel ∷ Delivered kinds.Prio ∷ Weight ∷ Ended ∷ Version ∷ []
 
 -- ---- effects
 
@@ -88,6 +94,7 @@ effect_of (Delivered kinds.Rel) x = effects.Delivered (id x.0) x.1.0 x.1.1.0
 effect_of (Delivered kinds.Prio) x = effects.DeliveredPrio (id x.0) x.1.0 x.1.1.0
 effect_of Weight x = effects.WeightHeld (id x.0) (record { 0 = x.1.0 }) x.1.1.0 x.1.1.1.0
 effect_of Ended x = effects.Ended (flow x.0 x.1.0)
+effect_of Version x = effects.Version x.0
 
 -- the row of an effect
 abbrev pub form_of : Effect → Form
@@ -98,6 +105,7 @@ form_of (effects.Delivered src number bytes) = Delivered kinds.Rel
 form_of (effects.DeliveredPrio src number bytes) = Delivered kinds.Prio
 form_of (effects.WeightHeld origin edge number weight) = Weight
 form_of (effects.Ended of) = Ended
+form_of (effects.Version version) = Version
 
 -- its values in that row
 abbrev pub values_of : (e : Effect) → Values (cells (form_of e))
@@ -108,6 +116,7 @@ values_of (effects.Delivered src number bytes) = (src.0, (number, (bytes, tt)))
 values_of (effects.DeliveredPrio src number bytes) = (src.0, (number, (bytes, tt)))
 values_of (effects.WeightHeld origin edge number weight) = (origin.0, (edge.0, (number, (weight, tt))))
 values_of (effects.Ended of) = (of.src.0, (of.dst.0, tt))
+values_of (effects.Version version) = (version, tt)
 
 -- an effect in its ranges
 abbrev pub IsInRange : Effect → Type 0

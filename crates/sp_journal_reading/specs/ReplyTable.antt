@@ -8,10 +8,11 @@
 --     empty               ticknotreserved BOUND                        badtag
 --     frame NUMBER LENGTH DIGEST                                       learned BOOT
 --     badend              started BOOT INDEX                           exhausted BOUND   stopped   down
+--     adopted VERSION     document old                                 withdrawn
 --
 --     weight:  new foreign low old badsig                  ack:  new badend epoch old ahead badsig
 --     prio:    new badend epoch expired seen badsig        rel:  new badend epoch old ahead gap full inboxfull badsig
---     epoch:   new badend old badsig
+--     epoch:   new badend old badsig                       document:  new bad old badsig strange
 use Rattle.std.specs.Prelude.{ℕ, ◌≡◌, ◌≤◌, ◌-◌, ◌^◌, nat_le, List, [], ◌∷◌, ◌++◌, All}
 use Rattle.std.specs.Prelude.{find, length, map, Option, Some, None, Result, Ok, Err, codes, if◌then◌else◌}
 use Rattle.sp_base.specs.Refusals.{◌>>=◌}
@@ -20,7 +21,7 @@ use Rattle.sp_lines.specs.Cells.{Bytes, Cell, Name, Number, number_at, same}
 use Rattle.sp_lines.specs.Rows.{AreIn, Values, form_among, row_at}
 use Rattle.sp_lines.specs.declared.fault.Fault.{Fault}
 use Rattle.sp_lines.specs.declared.fault.Fault.TheVariants as faults
-use Rattle.sp_journal_reading.specs.EffectTable.{any_number, id, node, payload, seq}
+use Rattle.sp_journal_reading.specs.EffectTable.{any_number, id, node, payload, seq, small_number}
 use Rattle.sp_journal.specs.Words.{item_word}
 use Rattle.sp_journal_reading.specs.declared.item_words.TheConstants.{MAX_ITEMS}
 use Rattle.sp_journal.specs.declared.entry.AnswerWord.{AnswerWord}
@@ -64,12 +65,11 @@ pub data Form : Type 0 where
   Exhausted : Form
   Stopped : Form
   Down : Form
+  Adopted : Form
+  DocumentOld : Form
+  Withdrawn : Form
 
 -- ---- rows
-
--- a number of 32 bits
-abbrev pub small_number : Cell
-small_number = Number 0 (2 ^ 32 - 1)
 
 -- the row of a form
 abbrev pub cells : Form → List Cell
@@ -104,6 +104,9 @@ cells Started = Name (codes "started") ∷ any_number ∷ any_number ∷ []
 cells Exhausted = Name (codes "exhausted") ∷ any_number ∷ []
 cells Stopped = Name (codes "stopped") ∷ []
 cells Down = Name (codes "down") ∷ []
+cells Adopted = Name (codes "adopted") ∷ small_number ∷ []
+cells DocumentOld = Name (codes "document") ∷ Name (codes "old") ∷ []
+cells Withdrawn = Name (codes "withdrawn") ∷ []
 
 -- all forms
 abbrev pub forms : List Form
@@ -111,7 +114,7 @@ forms =
     Accepted ∷ Full ∷ Spent ∷ Expired ∷ NoPaths ∷ Payload ∷ PayloadPrio ∷ Empty ∷ Ticked ∷ TickSpent ∷ TickNotReserved
     ∷ Low ∷ BadEnd ∷ Frame ∷ TooLong ∷ Short ∷ Magic ∷ Version ∷ NotForMe ∷ BadTag
     ∷ Learned ∷ Stale ∷ Topology ∷ Section sections.Cut ∷ Section sections.Count ∷ Section sections.Object ∷ Section sections.Tail
-    ∷ Started ∷ Exhausted ∷ Stopped ∷ Down ∷ []
+    ∷ Started ∷ Exhausted ∷ Stopped ∷ Down ∷ Adopted ∷ DocumentOld ∷ Withdrawn ∷ []
 
 -- ---- replies
 
@@ -152,6 +155,9 @@ reply_of Started x = replies.Started x.0 x.1.0
 reply_of Exhausted x = replies.Exhausted x.0
 reply_of Stopped x = replies.Stopped
 reply_of Down x = replies.Down
+reply_of Adopted x = replies.Adopted x.0
+reply_of DocumentOld x = replies.DocumentOld
+reply_of Withdrawn x = without_items links.Withdrawn
 
 -- ---- items
 
@@ -171,11 +177,15 @@ rel_answers = answers.New ∷ answers.BadEnd ∷ answers.Epoch ∷ answers.Old �
 abbrev pub epoch_answers : List AnswerWord
 epoch_answers = answers.New ∷ answers.BadEnd ∷ answers.Old ∷ answers.BadSig ∷ []
 
+abbrev pub document_answers : List AnswerWord
+document_answers = answers.New ∷ answers.Bad ∷ answers.Old ∷ answers.BadSig ∷ answers.Strange ∷ []
+
 -- all items
 abbrev pub all_items : List ItemWord
 all_items =
     map items.Weight weight_answers
-    ++ (map items.Prio prio_answers ++ (map items.Ack ack_answers ++ (map items.Rel rel_answers ++ map items.Epoch epoch_answers)))
+    ++ (map items.Prio prio_answers
+    ++ (map items.Ack ack_answers ++ (map items.Rel rel_answers ++ (map items.Epoch epoch_answers ++ map items.Document document_answers))))
 
 -- the item among these that has this word
 abbrev pub item_among : List ItemWord → Word → Option ItemWord

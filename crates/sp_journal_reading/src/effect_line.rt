@@ -46,6 +46,9 @@ fn two(alloc: Global, name: &[u8], body: &[u8]) -> Result<Effect, LineRefused>
     if named(name, b"signed") {
         return signed(alloc, body);
     }
+    if named(name, b"version") {
+        return version(body);
+    }
     Err(LineRefused::Bad(Fault::Form))
 }
 
@@ -75,6 +78,9 @@ fn four(name: &[u8], place: &[u8], id: &[u8], why: &[u8]) -> Result<Effect, Line
     }
     if named(why, b"taken") {
         return gone(place, id, Why::Taken);
+    }
+    if named(why, b"withdrawn") {
+        return gone(place, id, Why::Withdrawn);
     }
     Err(LineRefused::Bad(Fault::Form))
 }
@@ -211,4 +217,12 @@ fn ended(src: &[u8], dst: &[u8]) -> Result<Effect, LineRefused>
     let src = node(src)?;
     let dst = node(dst)?;
     Ok(Effect::Ended(Flow { src, dst }))
+}
+
+#[tactic(auto, unfolding(crate::specs::EffectTable::read_form))]
+fn version(version: &[u8]) -> Result<Effect, LineRefused>
+    ensures { Reads result (read_form forms.Version (codes "version" ∷ version.now ∷ [])) }
+{
+    let version = ranged(version, 0, u64::from(u32::MAX))? as u32;
+    Ok(Effect::Version { version })
 }

@@ -15,7 +15,7 @@ use std::alloc::Global;
 pub const MAX_ITEMS: usize = 1_024;
 
 /// The word of each item.
-const ITEMS: [(&[u8], ItemWord); 30] = [
+const ITEMS: [(&[u8], ItemWord); 35] = [
     (b"weight:new", ItemWord::Weight(AnswerWord::New)),
     (b"weight:foreign", ItemWord::Weight(AnswerWord::Foreign)),
     (b"weight:low", ItemWord::Weight(AnswerWord::Low)),
@@ -46,6 +46,11 @@ const ITEMS: [(&[u8], ItemWord); 30] = [
     (b"epoch:badend", ItemWord::Epoch(AnswerWord::BadEnd)),
     (b"epoch:old", ItemWord::Epoch(AnswerWord::Old)),
     (b"epoch:badsig", ItemWord::Epoch(AnswerWord::BadSig)),
+    (b"document:new", ItemWord::Document(AnswerWord::New)),
+    (b"document:bad", ItemWord::Document(AnswerWord::Bad)),
+    (b"document:old", ItemWord::Document(AnswerWord::Old)),
+    (b"document:badsig", ItemWord::Document(AnswerWord::BadSig)),
+    (b"document:strange", ItemWord::Document(AnswerWord::Strange)),
 ];
 
 /// The items of these words, or the first fault.

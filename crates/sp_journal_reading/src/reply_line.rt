@@ -7,7 +7,7 @@ ghost use Rattle.sp_journal_reading.specs.ReplyTable as forms;
 
 use crate::item_words::{MAX_ITEMS, read_items};
 use crate::reply_rows::{
-    accepted, arrived, exhausted, expired, frame, full, learned, low, no_paths, payload,
+    accepted, adopted, arrived, exhausted, expired, frame, full, learned, low, no_paths, payload,
     payload_prio, short, spent, stale, started, tick_not_reserved, tick_spent, topology,
 };
 use sp_journal::{LinkWord, Reply, SectionWord};
@@ -101,6 +101,9 @@ fn bare(alloc: Global, name: &[u8]) -> Result<Reply, LineRefused>
     if named(name, b"badtag") {
         return Ok(arrived(alloc, LinkWord::BadTag));
     }
+    if named(name, b"withdrawn") {
+        return Ok(arrived(alloc, LinkWord::Withdrawn));
+    }
     Err(LineRefused::Bad(Fault::Form))
 }
 
@@ -113,13 +116,17 @@ fn one(alloc: Global, name: &[u8], a: &[u8]) -> Result<Reply, LineRefused>
     if named(name, b"section") {
         return section(alloc, a);
     }
+    if named(name, b"document") {
+        return document(a);
+    }
     one_other(alloc, name, a)
 }
 
-/// What a name and one word say where it is neither of these names.
+/// What a name and one word say where it is none of these names.
 fn one_other(alloc: Global, name: &[u8], a: &[u8]) -> Result<Reply, LineRefused>
     requires exhausted { same name.now (codes "exhausted") ≡ false }
     requires section { same name.now (codes "section") ≡ false }
+    requires document { same name.now (codes "document") ≡ false }
     ensures { Reads result (read_for (form_for (name.now ∷ a.now ∷ [])) (name.now ∷ a.now ∷ [])) }
 {
     if named(name, b"accepted") {
@@ -151,6 +158,20 @@ fn one_other(alloc: Global, name: &[u8], a: &[u8]) -> Result<Reply, LineRefused>
     }
     if named(name, b"topology") {
         return topology(alloc, a);
+    }
+    if named(name, b"adopted") {
+        return adopted(a);
+    }
+    Err(LineRefused::Bad(Fault::Form))
+}
+
+/// A document that isn't above the node's own.
+#[tactic(auto, unfolding(crate::specs::ReplyTable::read_form))]
+fn document(answer: &[u8]) -> Result<Reply, LineRefused>
+    ensures { Reads result (read_for (form_for (codes "document" ∷ answer.now ∷ [])) (codes "document" ∷ answer.now ∷ [])) }
+{
+    if named(answer, b"old") {
+        return Ok(Reply::DocumentOld);
     }
     Err(LineRefused::Bad(Fault::Form))
 }

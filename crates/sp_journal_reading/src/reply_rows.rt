@@ -129,6 +129,14 @@ pub fn exhausted(bound: &[u8]) -> Result<Reply, LineRefused>
 }
 
 #[tactic(auto, unfolding(crate::specs::ReplyTable::read_form))]
+pub fn adopted(version: &[u8]) -> Result<Reply, LineRefused>
+    ensures { Reads result (read_form forms.Adopted (codes "adopted" ∷ version.now ∷ [])) }
+{
+    let version = ranged(version, 0, u64::from(u32::MAX))? as u32;
+    Ok(Reply::Adopted { version })
+}
+
+#[tactic(auto, unfolding(crate::specs::ReplyTable::read_form))]
 pub fn frame(
     alloc: Global,
     number: &[u8],

@@ -1,5 +1,6 @@
 pub mod Words
 pub mod PlaceLemmas
+pub mod NumbersLemmas
 pub mod RowLemmas
 pub mod TextLemmas
 pub mod WidthLemmas

@@ -5,11 +5,12 @@ use Rattle.std.proofs.lemmas.Bool.Decides.{nat_tests}
 use Rattle.sp_base.specs.Refusals.{◌>>=◌}
 use Rattle.sp_base.proofs.RefusalLemmas.{then_ok}
 use Rattle.sp_text.specs.Spelling.{Word}
-use Rattle.sp_lines.specs.Cells.{Bytes, Cell, Mask, Name, Number, Tested, bytes_at, mask_at, number_at, same, tested_at}
+use Rattle.sp_lines.specs.Cells.{Bytes, Cell, Mask, Name, Number, Numbers, Tested, bytes_at, mask_at, number_at, numbers_at, same, tested_at}
 use Rattle.sp_lines.specs.Rows.{AreIn, HaveRoom, Values, agrees, fits, line_of, row_at, spelled}
 use Rattle.sp_lines.specs.Laws.{RowsHaveOneSpelling}
 use Rattle.sp_lines.specs.declared.fault.Fault.{Fault}
 use Rattle.sp_lines.specs.declared.fault.Fault.TheVariants as faults
+use Rattle.sp_lines.proofs.NumbersLemmas.{cons_same, numbers_at_back, numbers_at_read}
 use Rattle.sp_lines.proofs.Words.{same_self, same_words}
 use Rattle.sp_lines.proofs.PlaceLemmas.{bytes_at_back, bytes_at_read, mask_at_back, mask_at_read, number_at_back, number_at_read, tested_at_back, tested_at_read}
 
@@ -22,6 +23,7 @@ row_back (Number low high ∷ cs) xs room are = rw (number_at_back low high xs.0
 row_back (Tested low high test ∷ cs) xs room are = rw (tested_at_back low high xs.0 test room.0 are.0 are.1 are.2) (rw (row_back cs xs.1 room.1 are.3) refl)
 row_back (Bytes low high ∷ cs) xs room are = rw (bytes_at_back low high xs.0 are.0) (rw (row_back cs xs.1 room are.1) refl)
 row_back (Mask format ∷ cs) xs room are = rw (mask_at_back format xs.0 are.0) (rw (row_back cs xs.1 room are.1) refl)
+row_back (Numbers count high ∷ cs) xs room are = rw (numbers_at_back count high xs.0 room.0 are.0) (rw (row_back cs xs.1 room.1 are.1) refl)
 
 -- the words of values fit their row
 pub as_many : (cs : List Cell) (xs : Values cs) → length (spelled cs xs) ≡ length cs
@@ -31,6 +33,7 @@ as_many (Number low high ∷ cs) xs = omega (arith, as_many cs xs.1)
 as_many (Tested low high test ∷ cs) xs = omega (arith, as_many cs xs.1)
 as_many (Bytes low high ∷ cs) xs = omega (arith, as_many cs xs.1)
 as_many (Mask format ∷ cs) xs = omega (arith, as_many cs xs.1)
+as_many (Numbers count high ∷ cs) xs = omega (arith, as_many cs xs.1)
 
 agrees_spelled : (cs : List Cell) (xs : Values cs) → agrees cs (spelled cs xs) ≡ true
 agrees_spelled [] xs = refl
@@ -39,6 +42,7 @@ agrees_spelled (Number low high ∷ cs) xs = agrees_spelled cs xs.1
 agrees_spelled (Tested low high test ∷ cs) xs = agrees_spelled cs xs.1
 agrees_spelled (Bytes low high ∷ cs) xs = agrees_spelled cs xs.1
 agrees_spelled (Mask format ∷ cs) xs = agrees_spelled cs xs.1
+agrees_spelled (Numbers count high ∷ cs) xs = agrees_spelled cs xs.1
 
 pub fits_spelled : (cs : List Cell) (xs : Values cs) → fits cs (spelled cs xs) ≡ true
 fits_spelled cs xs =
@@ -46,9 +50,6 @@ fits_spelled cs xs =
     rw long (agrees_spelled cs xs)
 
 -- ---- what is read is spelled
-
-cons_same : (a b : Word) (vs ws : List Word) → a ≡ b → vs ≡ ws → (a ∷ vs) ≡ (b ∷ ws)
-cons_same a b vs ws p q = rw (p, q) refl
 
 -- the words of a row with these values
 pub row_read : (cs : List Cell) (ws : List Word) (xs : Values cs) → length cs ≡ length ws → agrees cs ws ≡ true → row_at cs ws ≡ Ok xs
@@ -94,6 +95,14 @@ row_read (Mask format ∷ cs) (x ∷ ws) xs long agree e =
     let pair : (one.0, two.0) ≡ xs = let f : Ok (one.0, two.0) ≡ Ok xs = two.2 in cc in
     let both : AreIn (Mask format ∷ cs) (one.0, two.0) × ((x ∷ ws) ≡ spelled (Mask format ∷ cs) (one.0, two.0)) = ((first.1, more.0), cons_same _ _ _ _ first.0 more.1) in
     subst (λ (z : Values (Mask format ∷ cs)). AreIn (Mask format ∷ cs) z × ((x ∷ ws) ≡ spelled (Mask format ∷ cs) z)) pair both
+row_read (Numbers count high ∷ cs) (x ∷ ws) xs long agree e =
+    let one = then_ok (numbers_at count high x) (λ n. row_at cs ws >>= λ ns. Ok (n, ns)) xs e in
+    let two = then_ok (row_at cs ws) (λ ns. Ok (one.0, ns)) xs one.2 in
+    let first = numbers_at_read count high one.0 x one.1 in
+    let more = row_read cs ws two.0 (omega (arith, long)) agree two.1 in
+    let pair : (one.0, two.0) ≡ xs = let f : Ok (one.0, two.0) ≡ Ok xs = two.2 in cc in
+    let both : AreIn (Numbers count high ∷ cs) (one.0, two.0) × ((x ∷ ws) ≡ spelled (Numbers count high ∷ cs) (one.0, two.0)) = ((first.1, more.0), cons_same _ _ _ _ first.0 more.1) in
+    subst (λ (z : Values (Numbers count high ∷ cs)). AreIn (Numbers count high ∷ cs) z × ((x ∷ ws) ≡ spelled (Numbers count high ∷ cs) z)) pair both
 
 -- words that fit a row: their count and their names
 pub fit_parts : (cs : List Cell) (ws : List Word) → fits cs ws ≡ true → (length cs ≡ length ws) × (agrees cs ws ≡ true)

@@ -18,9 +18,10 @@ use Rattle.sp_base.specs.declared.limits.TheConstants.{MAX_LINE_BYTES}
 use Rattle.sp_text.specs.Spelling.{Word, hex_word}
 use Rattle.sp_text.specs.Texts.{IsWord, is_word_byte}
 use Rattle.sp_text.proofs.HexWordLemmas.{hex_word_nonempty}
-use Rattle.sp_lines.specs.Cells.{Bytes, Cell, Mask, Name, Number, Tested, mask_word}
+use Rattle.sp_lines.specs.Cells.{Bytes, Cell, Mask, Name, Number, Numbers, Tested, mask_word, numbers_word}
 use Rattle.sp_lines.specs.Rows.{AreIn, HaveRoom, Values, spelled}
 use Rattle.sp_lines.specs.Widths.{is_good_cell, is_good_row, widths}
+use Rattle.sp_lines.proofs.NumbersLemmas.{clean_numbers, short_numbers}
 use Rattle.sp_lines.proofs.RowLemmas.{as_many}
 use Rattle.sp_lines.proofs.TextLemmas.{IsGoodLine, clean_name, clean_number, short_number}
 
@@ -98,6 +99,7 @@ good_cells (Number low high ∷ cs) good = let both = and_parts (is_good_cell (N
 good_cells (Tested low high test ∷ cs) good = let both = and_parts (is_good_cell (Tested low high test)) (list_all is_good_cell cs) good in (grind (arith, nat_tests, both.0), good_cells cs both.1)
 good_cells (Bytes low high ∷ cs) good = good_cells cs good
 good_cells (Mask format ∷ cs) good = good_cells cs good
+good_cells (Numbers count high ∷ cs) good = let both = and_parts (is_good_cell (Numbers count high)) (list_all is_good_cell cs) good in (grind (arith, nat_tests, both.0), good_cells cs both.1)
 
 -- the words of a row, and how long they are
 record IsClean (ws : List Word) (most : ℕ) : Type 0 where
@@ -129,6 +131,11 @@ clean_row (Bytes low high ∷ cs) xs good are =
 clean_row (Mask format ∷ cs) xs good are =
     one_more (mask_word format xs.0) (spelled cs xs.1) (by_format format 33 65) (widths cs) (clean_mask format xs.0) (short_mask format xs.0)
     (clean_row cs xs.1 good are.1)
+clean_row (Numbers count high ∷ cs) xs good are =
+    let both = and_parts (is_good_cell (Numbers count high)) (list_all is_good_cell cs) good in
+    let room : high < 2 ^ 64 = grind (arith, nat_tests, both.0) in
+    one_more (numbers_word xs.0) (spelled cs xs.1) (count * 21 + 5) (widths cs) (clean_numbers count high xs.0 room are.0) (short_numbers count high xs.0 room are.0)
+    (clean_row cs xs.1 both.1 are.1)
 
 -- the line of values in the ranges of a good row can be read
 pub good_row_line : (cs : List Cell) (xs : Values cs) → is_good_row cs ≡ true → AreIn cs xs → IsGoodLine (spelled cs xs)

@@ -5,7 +5,10 @@
 --     Tested LOW HIGH T    a decimal from LOW to HIGH that passes the test T
 --     Bytes LOW HIGH       so many bytes in hexadecimal
 --     Mask FORMAT          a set of edges: 16 bytes in hexadecimal, in format 2 32, the highest first, a bit for each edge
-use Rattle.std.specs.Prelude.{ℕ, ◌<◌, ◌≤◌, ◌^◌, ◌==◌, ◌&&◌, nat_le, nat_lt, nat_eq, Bool, List, [], ◌++◌, drop, length, Option, Some, None, Result, Ok, Err, if◌then◌else◌}
+--     Numbers COUNT HIGH   so many decimals up to HIGH with commas between, or the word `same` for those of an earlier line
+use Rattle.std.specs.Prelude.{ℕ, ◌≡◌, ◌<◌, ◌≤◌, ◌^◌, ◌==◌, ◌&&◌, nat_le, nat_lt, nat_eq, All, Bool, List, [], ◌∷◌, ◌++◌, codes, drop, is_some, length, map}
+use Rattle.std.specs.Prelude.{Option, Some, None, Result, Ok, Err, if◌then◌else◌}
+use Rattle.std.specs.List.{join_with_byte, list_all, slice_split}
 use Rattle.std.specs.Str.Parse.{digits_value}
 use Rattle.std.specs.Cmp.Lexicographic.{pointwise}
 use Rattle.std.specs.Fmt.{decimal}
@@ -28,6 +31,7 @@ pub data Cell : Type 0 where
   Tested : ℕ → ℕ → (ℕ → Bool) → Cell
   Bytes : ℕ → ℕ → Cell
   Mask : ℕ → Cell
+  Numbers : ℕ → ℕ → Cell
 
 -- ---- words as values
 
@@ -99,3 +103,36 @@ pub record IsMask (format : ℕ) (mask : ℕ × ℕ) : Type 0 where
 -- so many bytes
 abbrev pub AreSoMany : ℕ → ℕ → List ℕ → Type 0
 AreSoMany low high bs = (low ≤ length bs) × (length bs ≤ high) × AreBytes bs
+
+-- ---- numbers with commas between
+
+-- what stands between the commas of a word
+abbrev pub pieces : Word → List Word
+pieces word = slice_split (λ byte. byte == 44) word
+
+abbrev pub is_number : Word → Bool
+is_number word = is_some (number_of word)
+
+-- the numbers of these words, none above the greatest
+abbrev pub each_at : ℕ → List Word → Result (List ℕ) Fault
+each_at high [] = Ok []
+each_at high (word ∷ words) = number_at 0 high word >>= λ n. each_at high words >>= λ ns. Ok (n ∷ ns)
+
+abbrev pub so_many_at : ℕ → ℕ → List Word → Result (Option (List ℕ)) Fault
+so_many_at count high words = if length words == count then (each_at high words >>= λ ns. Ok (Some ns)) else Err faults.Range
+
+-- the pieces are judged as numbers before their count and their ranges
+unfoldable pub numbers_at : ℕ → ℕ → Word → Result (Option (List ℕ)) Fault
+numbers_at count high word =
+    if same word (codes "same") then Ok None
+    else (if list_all is_number (pieces word) then so_many_at count high (pieces word) else Err faults.Number)
+
+-- as a word
+unfoldable pub numbers_word : Option (List ℕ) → Word
+numbers_word None = codes "same"
+numbers_word (Some ns) = join_with_byte 44 (map decimal ns)
+
+-- so many, and one at least, none above the greatest
+abbrev pub AreNumbers : ℕ → ℕ → Option (List ℕ) → Type 0
+AreNumbers count high None = Unit {0}
+AreNumbers count high (Some ns) = (length ns ≡ count) × (1 ≤ count) × All (λ n. n ≤ high) ns

@@ -4,7 +4,8 @@ use Rattle.std.specs.List.{join_with_byte}
 use Rattle.std.specs.Fmt.{decimal}
 use Rattle.sp_base.specs.Refusals.{◌>>=◌}
 use Rattle.sp_text.specs.Spelling.{Word, hex_word}
-use Rattle.sp_lines.specs.Cells.{AreSoMany, Bytes, Cell, IsMask, Mask, Name, Number, Tested, bytes_at, mask_at, mask_word, number_at, same, tested_at}
+use Rattle.sp_lines.specs.Cells.{AreNumbers, AreSoMany, Bytes, Cell, IsMask, Mask, Name, Number, Numbers, Tested}
+use Rattle.sp_lines.specs.Cells.{bytes_at, mask_at, mask_word, number_at, numbers_at, numbers_word, same, tested_at}
 use Rattle.sp_lines.specs.declared.fault.Fault.{Fault}
 use Rattle.sp_lines.specs.declared.fault.Fault.TheVariants as faults
 
@@ -12,6 +13,7 @@ use Rattle.sp_lines.specs.declared.fault.Fault.TheVariants as faults
 abbrev pub Value : Cell → Type 0
 Value (Bytes low high) = List ℕ
 Value (Mask format) = ℕ × ℕ
+Value (Numbers count high) = Option (List ℕ)
 Value _ = ℕ
 
 -- a value for each place but those of names
@@ -47,6 +49,7 @@ row_at (Number low high ∷ cs) (x ∷ words) = number_at low high x >>= λ n. r
 row_at (Tested low high test ∷ cs) (x ∷ words) = tested_at low high test x >>= λ n. row_at cs words >>= λ ns. Ok (n, ns)
 row_at (Bytes low high ∷ cs) (x ∷ words) = bytes_at low high x >>= λ bs. row_at cs words >>= λ ns. Ok (bs, ns)
 row_at (Mask format ∷ cs) (x ∷ words) = mask_at format x >>= λ n. row_at cs words >>= λ ns. Ok (n, ns)
+row_at (Numbers count high ∷ cs) (x ∷ words) = numbers_at count high x >>= λ n. row_at cs words >>= λ ns. Ok (n, ns)
 
 -- the values of a line of this row
 abbrev pub line_of : (cs : List Cell) → List Word → Result (Values cs) Fault
@@ -62,6 +65,7 @@ spelled (Number low high ∷ cs) xs = decimal xs.0 ∷ spelled cs xs.1
 spelled (Tested low high test ∷ cs) xs = decimal xs.0 ∷ spelled cs xs.1
 spelled (Bytes low high ∷ cs) xs = hex_word xs.0 ∷ spelled cs xs.1
 spelled (Mask format ∷ cs) xs = mask_word format xs.0 ∷ spelled cs xs.1
+spelled (Numbers count high ∷ cs) xs = numbers_word xs.0 ∷ spelled cs xs.1
 
 -- each value is in its range
 abbrev pub AreIn : (cs : List Cell) → Values cs → Type 0
@@ -71,12 +75,14 @@ AreIn (Number low high ∷ cs) xs = (low ≤ xs.0) × (xs.0 ≤ high) × AreIn c
 AreIn (Tested low high test ∷ cs) xs = (low ≤ xs.0) × (xs.0 ≤ high) × (test xs.0 ≡ true) × AreIn cs xs.1
 AreIn (Bytes low high ∷ cs) xs = AreSoMany low high xs.0 × AreIn cs xs.1
 AreIn (Mask format ∷ cs) xs = IsMask format xs.0 × AreIn cs xs.1
+AreIn (Numbers count high ∷ cs) xs = AreNumbers count high xs.0 × AreIn cs xs.1
 
 -- each greatest number has room in 64 bits
 abbrev pub HaveRoom : List Cell → Type 0
 HaveRoom [] = Unit {0}
 HaveRoom (Number low high ∷ cs) = (high < 2 ^ 64) × HaveRoom cs
 HaveRoom (Tested low high test ∷ cs) = (high < 2 ^ 64) × HaveRoom cs
+HaveRoom (Numbers count high ∷ cs) = (high < 2 ^ 64) × HaveRoom cs
 HaveRoom (c ∷ cs) = HaveRoom cs
 
 -- each word after a space

@@ -18,7 +18,7 @@ pub fn named(word: &[u8], name: &[u8]) -> bool
 }
 
 /// The number that a word spells.
-fn number_of(word: &[u8]) -> Option<u64>
+pub(crate) fn number_of(word: &[u8]) -> Option<u64>
     ensures { result ≡ number_of word.now }
 {
     number(word)

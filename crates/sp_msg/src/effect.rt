@@ -44,8 +44,12 @@ pub enum Effect {
         seq: u64,
         weight: u32,
     },
-    /// Another life of an end of this flow began. The flow was active, and is as before its first message.
+    /// This flow was active and isn't any more: another life of one of its ends began, or one of them is removed.
     Ended(Flow),
+    /// From now on the node runs under this version of the topology.
+    Version {
+        version: u32,
+    },
 }
 
 /// Why an entry left a store.
@@ -59,6 +63,8 @@ pub enum Why {
     Acked,
     /// A client took it.
     Taken,
+    /// The edge to the neighbour is withdrawn, or an end of the message is removed.
+    Withdrawn,
 }
 
 /// The effects so far, with room for more. A push takes no memory: all of it was taken at the start.

@@ -61,7 +61,8 @@ impl From<Memory> for MsgRefused {
 /// Why a node doesn't send what its client asked for.
 #[derive(Clone, Copy, Debug, PartialEq, Eq, Error)]
 pub enum SendRefused {
-    /// The destination isn't another node of the topology.
+    /// The destination isn't another node of the topology, or one of the two is removed, or no life of the destination is known where nodes run with
+    /// epochs. For a weight: the edge isn't there, or is withdrawn.
     #[error("the destination isn't another node")]
     BadEnd,
     /// The flow's buffer is full: it holds the messages after `base`, up to `have`.

@@ -1,19 +1,19 @@
 -- What is fixed of a node stays in each call.
-use Rattle.std.proofs.Common.{◌≡◌, ℕ, List, Option, Result, Ok, Err, [], ap}
+use Rattle.std.proofs.Common.{◌≡◌, ℕ, List, Option, None, Result, Ok, Err, [], ap}
 use Rattle.laws_node.proofs.Shapes.{shapes_stay}
 use Rattle.laws_node.specs.Shapes.{Shape}
 use Rattle.sp_base.specs.declared.id.NodeId.{NodeId}
 use Rattle.sp_msg.specs.declared.effect.Why.TheVariants.{Taken as TakenAway}
 use Rattle.sp_msg.specs.declared.refused.SendRefused.{SendRefused}
 use Rattle.sp_msg.specs.declared.refused.SendRefused.TheVariants as sends
-use Rattle.sp_node.specs.Calls.{Datagrams, Polls, TakesPrio, TakesRel, Ticks}
+use Rattle.sp_node.specs.Calls.{Datagrams, Polls, Publishes, TakesPrio, TakesRel, Ticks, published, taken_in, ticked}
 use Rattle.sp_node_format.specs.Format.{format_of}
 use Rattle.sp_node_state.specs.Sends.{Sends}
-use Rattle.sp_rules.specs.Arrivals.{handled}
 use Rattle.sp_rules.specs.Node.{NodeState}
 use Rattle.sp_rules.specs.PrioPeer.{gone}
-use Rattle.sp_rules.specs.Steps.{Arrived, Datagram, Frame, Input, Message, NodeStep, NotCalled, Output, Payload, Poll, Refused, TakePrio, TakeRel, Tick}
-use Rattle.sp_rules.specs.Steps.{Ticked, accepted, replied}
+use Rattle.sp_rules.specs.Steps.{Datagram, Frame, Input, Message, NodeStep, NotCalled, Output, Payload, Poll, Publish, Refused, TakePrio, TakeRel, Tick}
+use Rattle.sp_rules.specs.Steps.{accepted, replied}
+use Rattle.sp_rules.specs.declared.answers.DocumentAnswer.{DocumentAnswer}
 use Rattle.sp_rules.specs.declared.node.NodeRefused.{NodeRefused}
 use Rattle.sp_rules.specs.declared.node.NodeRefused.TheVariants as calls
 use Rattle.sp_rules.specs.declared.node.Step.{Step}
@@ -47,19 +47,14 @@ pub fixed_by_datagram : (old : NodeState) (u : NodeId) (bytes : List ℕ) (new :
     → Datagrams old u bytes done new
     → new.fixed ≡ old.fixed
 fixed_by_datagram old u bytes new (Ok step) gave =
-    fixed_stays old (Datagram u bytes)
-    (record {
-      reply = Arrived step.reply.link step.reply.items;
-      effects = step.effects.list;
-      answered = (handled (format_of old.fixed) old u bytes).answered;
-    }) new gave
+    fixed_stays old (Datagram u bytes) (taken_in old u bytes step) new gave
 fixed_by_datagram old u bytes new (Err calls.NotNeighbour) gave = fixed_stays old (Datagram u bytes) (replied (NotCalled calls.NotNeighbour)) new gave
 fixed_by_datagram old u bytes new (Err calls.Worn) gave = fixed_stays old (Datagram u bytes) (replied (NotCalled calls.Worn)) new gave
 fixed_by_datagram old u bytes new (Err calls.Memory) gave = ap (λ (n : NodeState). n.fixed) gave.1
 
 pub fixed_by_tick : (old : NodeState) (now : ℕ) (new : NodeState) (done : Result (Step TickReply) NodeRefused) → Ticks old now done new → new.fixed ≡ old.fixed
 fixed_by_tick old now new (Ok step) gave =
-    fixed_stays old (Tick now) (record { reply = Ticked step.reply; effects = step.effects.list; answered = [] }) new gave
+    fixed_stays old (Tick now) (ticked step) new gave
 fixed_by_tick old now new (Err refused) gave = ap (λ (n : NodeState). n.fixed) gave.1
 
 pub fixed_by_take_rel : (old : NodeState) (src : NodeId) (payload : Option (List ℕ)) (new : NodeState) → TakesRel old src payload new → new.fixed ≡ old.fixed
@@ -67,4 +62,9 @@ fixed_by_take_rel old src payload new gave = fixed_stays old (TakeRel src) (repl
 
 pub fixed_by_take_prio : (old : NodeState) (entry : Option Stored) (new : NodeState) → TakesPrio old entry new → new.fixed ≡ old.fixed
 fixed_by_take_prio old entry new gave =
-    fixed_stays old TakePrio (record { reply = Message entry; effects = gone 0 TakenAway entry; answered = [] }) new gave
+    fixed_stays old TakePrio (record { reply = Message entry; effects = gone 0 TakenAway entry; answered = []; adopted = None }) new gave
+
+pub fixed_by_publish : (old : NodeState) (document : List ℕ) (new : NodeState) (done : Result (Step DocumentAnswer) NodeRefused)
+    → Publishes old document done new → new.fixed ≡ old.fixed
+fixed_by_publish old document new (Ok step) gave = fixed_stays old (Publish document) (published step) new gave
+fixed_by_publish old document new (Err refused) gave = ap (λ (n : NodeState). n.fixed) gave.1

@@ -12,7 +12,7 @@ use Rattle.sp_link.specs.Sealing.{sealed}
 use Rattle.sp_node_format.specs.Format.{format_of}
 use Rattle.sp_rules.specs.Link.{Link, next_head}
 use Rattle.sp_rules.specs.Node.{NodeState, link_in}
-use Rattle.sp_rules.specs.Polls.{contents_to, frame_to}
+use Rattle.sp_rules.specs.Polls.{contents_at, frame_to}
 
 -- before the zeros
 signed_is : (body zeros : List ℕ) → length zeros ≡ 32 → tagged_part (body ++ zeros) ≡ body
@@ -36,12 +36,12 @@ long_enough h s =
 
 -- sealed by the link, it is the frame of the rules
 pub frame_is : (n : NodeState) (v : NodeId) (l : Link) (h : Head) (bytes : List ℕ) → l ≡ link_in n v
-    → h ≡ next_head l n.fixed.topology.version n.fixed.topology.format
-    → bytes ≡ sealed l.key (frame_bytes h (contents_to n.fixed n.parts v) (replicate 32 0)) → bytes ≡ frame_to (format_of n.fixed) n v
+    → h ≡ next_head l n.live.version n.fixed.topology.format
+    → bytes ≡ sealed l.key (frame_bytes h (contents_at n v) (replicate 32 0)) → bytes ≡ frame_to (format_of n.fixed) n v
 frame_is n v l h bytes same head is =
-    let c = contents_to n.fixed n.parts v in
-    let t = n.fixed.topology in
+    let c = contents_at n v in
+    let format = n.fixed.topology.format in
     is
     ∙ ap (λ (hd : Head). sealed l.key (frame_bytes hd c (replicate 32 0))) head
-    ∙ sealed_is l.key (next_head l t.version t.format) c
-    ∙ ap (λ (k : Link). let part = head_bytes (next_head k t.version t.format) ++ sections_bytes_in t.format c in part ++ hmac k.key part) same
+    ∙ sealed_is l.key (next_head l n.live.version format) c
+    ∙ ap (λ (k : Link). let part = head_bytes (next_head k n.live.version format) ++ sections_bytes_in format c in part ++ hmac k.key part) same

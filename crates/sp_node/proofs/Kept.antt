@@ -1,16 +1,17 @@
 -- What a node keeps gives the conditions of the calls of its parts.
-use Rattle.std.proofs.Common.{◌≡◌, ◌<◌, ◌≤◌, ◌+◌, ◌^◌, [], Some, arith}
+use Rattle.std.proofs.Common.{◌≡◌, ◌<◌, ◌≤◌, ◌+◌, ◌^◌, ◌&&◌, ◌||◌, if◌then◌else◌, Bool, true, false, not, [], Some, refl, arith}
 use Rattle.std.specs.List.{All}
 use Rattle.sp_base.specs.declared.id.NodeId.{NodeId}
 use Rattle.sp_base.specs.declared.limits.TheConstants.{MAX_MESSAGES}
 use Rattle.sp_node_format.specs.Format.{format_of}
 use Rattle.sp_frame.specs.Ranges.{IsContentsIn}
+use Rattle.sp_frame.specs.Sections.{with_document}
 use Rattle.sp_msg.specs.Bodies.{HasGoodFieldsIn}
 use Rattle.sp_msg.specs.declared.body.Ack.{Ack}
 use Rattle.sp_msg.specs.declared.body.Body.TheVariants as bodies
 use Rattle.sp_rules.specs.Link.{Link, new_link}
-use Rattle.sp_rules.specs.Node.{NodeState, is_link, link_in}
-use Rattle.sp_rules.specs.Polls.{contents_to}
+use Rattle.sp_rules.specs.Node.{NodeState, is_behind, is_link, is_shut_to, link_in}
+use Rattle.sp_rules.specs.Polls.{contents_at, contents_to, no_contents, parts_after, polled}
 use Rattle.sp_rules.specs.Prio.{is_peer, no_peer, peer_in}
 use Rattle.sp_rules.specs.Ticks.{due_now}
 use Rattle.laws_node.proofs.Frames.{frames_fit}
@@ -24,8 +25,40 @@ use Rattle.sp_node_state.proofs.Sizes.{sizes}
 
 -- ---- a poll
 
-pub contents_kept : (n : NodeState) (v : NodeId) → IsKept (format_of n.fixed) n → IsContentsIn n.fixed.topology.format n.fixed.signature_len (contents_to n.fixed n.parts v)
-contents_kept n v kept = frames_fit (format_of n.fixed) n v kept
+-- what is in turn, where it goes
+pub contents_kept : (n : NodeState) (v : NodeId) → IsKept (format_of n.fixed) n → is_behind n v ≡ false → is_shut_to n v ≡ false
+    → IsContentsIn n.fixed.topology.format n.fixed.signature_len (contents_to n.fixed n.parts v)
+contents_kept n v kept level there = go (is_behind n v) (is_shut_to n v) level there (frames_fit (format_of n.fixed) n v kept)
+  where
+    go : (behind shut : Bool) → behind ≡ false → shut ≡ false
+        → IsContentsIn n.fixed.topology.format n.fixed.signature_len
+        (if behind then with_document n.live.document else if shut then no_contents else contents_to n.fixed n.parts v)
+        → IsContentsIn n.fixed.topology.format n.fixed.signature_len (contents_to n.fixed n.parts v)
+    go true shut level there fits = absurd (cc)
+    go false true level there fits = absurd (cc)
+    go false false level there fits = fits
+
+-- the three kinds of frame
+pub behind_is : (n : NodeState) (v : NodeId) → is_behind n v ≡ true → with_document n.live.document ≡ contents_at n v
+behind_is n v behind = rw behind refl
+
+pub shut_is : (n : NodeState) (v : NodeId) → is_behind n v ≡ false → is_shut_to n v ≡ true → no_contents ≡ contents_at n v
+shut_is n v level shut = rw (level, shut) refl
+
+pub served_is : (n : NodeState) (v : NodeId) → is_behind n v ≡ false → is_shut_to n v ≡ false → contents_to n.fixed n.parts v ≡ contents_at n v
+served_is n v level there = rw (level, there) refl
+
+-- what goes on of the parts
+pub unserved : (n : NodeState) (v : NodeId) → (is_behind n v || is_shut_to n v) ≡ true → n.parts ≡ parts_after n v
+unserved n v not_served = go (is_behind n v) (is_shut_to n v) not_served
+  where
+    go : (behind shut : Bool) → (behind || shut) ≡ true → n.parts ≡ (if not behind && not shut then polled n.fixed n.parts v else n.parts)
+    go true shut is = refl
+    go false true is = refl
+    go false false is = absurd (cc)
+
+pub served : (n : NodeState) (v : NodeId) → is_behind n v ≡ false → is_shut_to n v ≡ false → polled n.fixed n.parts v ≡ parts_after n v
+served n v level there = rw (level, there) refl
 
 pub number_low : (n : NodeState) (v : NodeId) → IsKept (format_of n.fixed) n → (peer_in n.parts.prio v.0).number + MAX_MESSAGES ≤ 2 ^ 63
 number_low n v kept =

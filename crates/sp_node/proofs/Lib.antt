@@ -1,10 +1,14 @@
+pub mod Adopted
 pub mod Arrived
 pub mod Expired
 pub mod Frames
+pub mod Greeted
 pub mod Kept
 pub mod Passed
+pub mod ShortDocuments
 pub mod Starts
 pub mod Steps
 pub mod Written
 pub mod FixedStays
 pub mod Lengths
+pub mod NoSections

@@ -1,10 +1,14 @@
 -- A node that starts keeps what every step keeps.
-use Rattle.std.proofs.Common.{◌≡◌, ◌<◌, ◌^◌, ℕ, Bool, true, false, refl, sym, subst, arith, cond}
+use Rattle.std.proofs.Common.{◌≡◌, ◌<◌, ◌^◌, ℕ, Bool, true, false, List, map, refl, sym, subst, arith, cond}
+use Rattle.sp_base.specs.Spelling.{AreBytes}
+use Rattle.sp_base.specs.declared.id.EdgeId.{EdgeId}
 use Rattle.sp_node_format.specs.Format.{format_of}
 use Rattle.sp_rules.specs.Node.{NodeState, announced}
 use Rattle.sp_rules.specs.Parts.{Fixed}
 use Rattle.sp_sign.specs.NodeSigner.{NodeSigner}
+use Rattle.laws_node.proofs.Withdrawing.{start_obeys}
 use Rattle.laws_node.specs.Nodes.{IsKept, SignerHolds}
+use Rattle.laws_node.specs.Withdrawals.{Obeys}
 use Rattle.sp_node_state.proofs.Started.{started_kept}
 use Rattle.sp_node_state.specs.Boots.{IsBootable, booted_of, fixed_of, started_of}
 use Rattle.sp_node_state.specs.States.{signer_in}
@@ -29,8 +33,20 @@ same_fixed c own boot = go c.epochs
     go true = refl
     go false = refl
 
-pub kept_at_start : (c : NodeConfig) (own : NodeSigner) (boot : ℕ) → boot < 2 ^ 64 → IsBootable c own boot → SignerHolds (started_of c own boot).signer
-    → IsKept (format_of (started_of c own boot).fixed) (started_of c own boot)
-kept_at_start c own boot small is holds =
+-- the document of its version is that of its configuration
+same_document : (c : NodeConfig) (own : NodeSigner) (boot : ℕ) → AreBytes (started_of c own boot).live.document → AreBytes c.document
+same_document c own boot = go c.epochs
+  where
+    go : (epochs : Bool) → AreBytes (cond epochs (with_boot c own boot) (booted_of c own boot)).live.document → AreBytes c.document
+    go true are = are
+    go false are = are
+
+pub kept_at_start : (c : NodeConfig) (own : NodeSigner) (boot : ℕ) → boot < 2 ^ 64 → AreBytes (started_of c own boot).live.document → IsBootable c own boot
+    → SignerHolds (started_of c own boot).signer → IsKept (format_of (started_of c own boot).fixed) (started_of c own boot)
+kept_at_start c own boot small bytes is holds =
     subst (λ (f : Fixed). IsKept (format_of f) (started_of c own boot)) (sym (same_fixed c own boot))
-    (started_kept c own boot small is (signer_before c own boot holds))
+    (started_kept c own boot small (same_document c own boot bytes) is (signer_before c own boot holds))
+
+pub obeys_at_start : (c : NodeConfig) (own : NodeSigner) (boot : ℕ) → Obeys (started_of c own boot)
+obeys_at_start c own boot =
+    start_obeys (format_of (fixed_of c boot)) (fixed_of c boot) (signer_in own) (map (λ (k : EdgeId × List ℕ). k.1) c.keys) c.limits.buffer c.limits.store

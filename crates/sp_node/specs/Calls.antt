@@ -4,10 +4,12 @@ use Rattle.std.specs.Prelude.{ℕ, ◌≡◌, List, [], Option, None, Result, Ok
 use Rattle.sp_base.specs.declared.id.NodeId.{NodeId}
 use Rattle.sp_node_format.specs.Format.{format_of}
 use Rattle.sp_msg.specs.declared.effect.Why.TheVariants.{Taken as TakenAway}
-use Rattle.sp_rules.specs.Arrivals.{handled}
+use Rattle.sp_rules.specs.Arrivals.{before_document, document_at, handled}
 use Rattle.sp_rules.specs.Node.{NodeState, call_refusal}
 use Rattle.sp_rules.specs.PrioPeer.{gone}
-use Rattle.sp_rules.specs.Steps.{NodeStep, Poll, Datagram, Tick, TakePrio, TakeRel, Frame, Arrived, Message, NotCalled, Payload, Ticked, replied}
+use Rattle.sp_rules.specs.Steps.{NodeStep, Poll, Datagram, Publish, Tick, TakePrio, TakeRel, Frame, Arrived, Message, NotCalled, Output, Payload, Replaced}
+use Rattle.sp_rules.specs.Steps.{Ticked, document_adopted, replied}
+use Rattle.sp_rules.specs.declared.answers.DocumentAnswer.{DocumentAnswer}
 use Rattle.sp_rules.specs.declared.node.NodeRefused.{NodeRefused}
 use Rattle.sp_rules.specs.declared.node.NodeRefused.TheVariants as calls
 use Rattle.sp_rules.specs.declared.node.Step.{Step}
@@ -22,16 +24,29 @@ Polls old v (Err calls.NotNeighbour) new = NodeStep (format_of old.fixed) old (P
 Polls old v (Err calls.Worn) new = NodeStep (format_of old.fixed) old (Poll v) (replied (NotCalled calls.Worn)) new
 Polls old v (Err calls.Memory) new = (call_refusal old v ≡ None) × (new ≡ old)
 
+abbrev pub ticked : Step TickReply → Output
+ticked step = record { reply = Ticked step.reply; effects = step.effects.list; answered = []; adopted = None }
+
 -- a tick: what it did of the acknowledgement that was due, and what it caused
 abbrev pub Ticks : NodeState → ℕ → Result (Step TickReply) NodeRefused → NodeState → Type 0
-Ticks old now (Ok step) new = NodeStep (format_of old.fixed) old (Tick now) (record { reply = Ticked step.reply; effects = step.effects.list; answered = [] }) new
+Ticks old now (Ok step) new = NodeStep (format_of old.fixed) old (Tick now) (ticked step) new
 Ticks old now (Err refused) new = (refused ≡ calls.Memory) × (new ≡ old)
+
+abbrev pub taken_in : NodeState → NodeId → List ℕ → Step Taken → Output
+taken_in old from bytes step =
+    let arts = format_of old.fixed in
+    record {
+      reply = Arrived step.reply.link step.reply.items;
+      effects = step.effects.list;
+      answered = (handled arts old from bytes).answered;
+      adopted = document_adopted arts (before_document arts old from bytes) (document_at arts old from bytes);
+    }
 
 -- a datagram: what became of it at its link, the answers to its objects, and what they caused, or why it isn't answered
 abbrev pub Datagrams : NodeState → NodeId → List ℕ → Result (Step Taken) NodeRefused → NodeState → Type 0
 Datagrams old from bytes (Ok step) new =
     NodeStep (format_of old.fixed) old (Datagram from bytes)
-    (record { reply = Arrived step.reply.link step.reply.items; effects = step.effects.list; answered = (handled (format_of old.fixed) old from bytes).answered }) new
+    (taken_in old from bytes step) new
 Datagrams old from bytes (Err calls.NotNeighbour) new = NodeStep (format_of old.fixed) old (Datagram from bytes) (replied (NotCalled calls.NotNeighbour)) new
 Datagrams old from bytes (Err calls.Worn) new = NodeStep (format_of old.fixed) old (Datagram from bytes) (replied (NotCalled calls.Worn)) new
 Datagrams old from bytes (Err calls.Memory) new = (call_refusal old from ≡ None) × (new ≡ old)
@@ -42,4 +57,17 @@ TakesRel old src payload new = NodeStep (format_of old.fixed) old (TakeRel src) 
 
 -- a client takes the oldest priority message, which leaves the inbox, place 0
 abbrev pub TakesPrio : NodeState → Option Entry → NodeState → Type 0
-TakesPrio old entry new = NodeStep (format_of old.fixed) old TakePrio (record { reply = Message entry; effects = gone 0 TakenAway entry; answered = [] }) new
+TakesPrio old entry new = NodeStep (format_of old.fixed) old TakePrio (record {
+  reply = Message entry;
+  effects = gone 0 TakenAway entry;
+  answered = [];
+  adopted = None;
+}) new
+
+abbrev pub published : Step DocumentAnswer → Output
+published step = record { reply = Replaced step.reply; effects = step.effects.list; answered = []; adopted = None }
+
+-- the administrator hands a document to the node: the answer to it, and what it causes
+abbrev pub Publishes : NodeState → List ℕ → Result (Step DocumentAnswer) NodeRefused → NodeState → Type 0
+Publishes old document (Ok step) new = NodeStep (format_of old.fixed) old (Publish document) (published step) new
+Publishes old document (Err refused) new = (refused ≡ calls.Memory) × (new ≡ old)

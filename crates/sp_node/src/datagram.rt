@@ -1,16 +1,21 @@
 // A datagram arrives from a neighbour.
-ghost use Rattle.std.specs.Prelude.{◌≡◌, ◌≤◌, ◌<◌, ◌+◌, [], IfOk, IfSome, OnErr, Some as There, length, position, slice_index};
+ghost use Rattle.std.specs.Prelude.{◌≡◌, ◌≤◌, ◌<◌, ◌+◌, ◌==◌, ◌&&◌, [], ◌∷◌, IfErr, IfOk, IfSome, OnErr, Ok, None as Nothing, Some as There, length, option_map};
+ghost use Rattle.std.specs.Prelude.{position, slice_index, if◌then◌else◌};
 ghost use Rattle.sp_base.specs.Cursor.{or_else};
 ghost use Rattle.sp_base.specs.Refusals.{Gives};
 ghost use Rattle.sp_base.specs.Rows.{replace_where};
-ghost use Rattle.sp_rules.specs.Node.{called, is_link, link_in, with_link};
+ghost use Rattle.sp_node_state.specs.Publications.{document_checks};
+ghost use Rattle.sp_rules.specs.Node.{called, is_link, is_shut_to, link_in, version_of, with_link};
+ghost use Rattle.sp_rules.specs.Parts.{changes};
+ghost use Rattle.sp_rules.specs.Versions.{kept_version};
 ghost use Rattle.sp_rules.specs.declared.node.TheConstants.{MAX_CALLS};
 ghost use Rattle.laws_node.specs.Nodes.{IsKept};
 ghost use Rattle.sp_node_arrivals.specs.Admitted.{IsAdmitted};
 ghost use Rattle.sp_node_format.specs.Format.{format_of};
-ghost use Rattle.sp_frame.specs.Frames.{head_of, opened_in};
+ghost use Rattle.sp_frame.specs.Frames.{opened_in, sections_part};
 ghost use Rattle.sp_frame.specs.OfFormat.{AreOf};
-ghost use Rattle.sp_node.specs.Arrived.{pieces_with};
+ghost use Rattle.sp_frame.specs.Sections.{has_document};
+ghost use Rattle.sp_node.specs.Arrived.{IsMet, heard_with, met_by, pieces_with, tests_after};
 ghost use Rattle.sp_node.specs.Calls.{Datagrams};
 ghost use Rattle.sp_node.specs.Life.{datagram_checks, datagram_tags};
 ghost use Rattle.sp_node_arrivals.specs.Work.{frame_checks};
@@ -18,31 +23,46 @@ ghost use Rattle.sp_frame.specs.declared.sections.TheConstants.{MOST_OBJECTS};
 ghost use Rattle.sp_node_state.specs.ReadyStates.{IsAnswered};
 ghost use Rattle.sp_frame.specs.Views.{as_contents};
 ghost use Rattle.sp_rules.specs.Arrivals.{greeted, has_risen, heeded};
-ghost use Rattle.sp_rules.specs.Arrivals.{arrival_at, link_after, no_frame, not_fresh, not_read, or_fresh, pieces_in, pieces_where, reply_at, sections_in};
+ghost use Rattle.sp_rules.specs.Arrivals.{arrival_at, document_at, document_where, heard_after, is_tagged, link_after, no_frame, not_fresh, not_open};
+ghost use Rattle.sp_rules.specs.Arrivals.{or_fresh, pieces_in, pieces_where, reply_at, sections_in};
+ghost use Rattle.sp_rules.specs.Documents.{after_publish, document_answer, publish_effects};
 ghost use Rattle.sp_rules.specs.Handle.{handle_all};
 
-use sp_base::{Listed, Memory, NodeId};
-use sp_frame::{Frame, FrameRefused, Sections};
+use sp_base::{FORMAT_1, Listed, Memory, NodeId};
+use sp_frame::{Frame, FrameRefused, HEAD_BYTES, Head, Sections};
 use sp_link::Link;
 use sp_msg::Effects;
 use sp_node_arrivals::{Arrival, Arrived, arrive, greet};
 use sp_node_parts::Fixed;
 use sp_node_state::State;
-use sp_rules::{LinkAnswer, LinkReply, NodeRefused, Step, Taken};
+use sp_rules::{Item, LinkAnswer, LinkReply, NodeRefused, Step, Taken};
 use sp_sign::Checker;
 use std::alloc::Global;
 
-/// What became of a datagram at its link: the reply, the link after it, whether another life of the neighbour began, and the sections that are to be
-/// handled, if any.
+/// The first byte of the control part of a frame with a document.
+const DOCUMENT: u8 = 128;
+
+/// What became of a datagram at its link: the reply, the link after it, whether another life of the neighbour began, the version that is kept of it then,
+/// where it told one, and the sections that are to be handled, or the document, if any.
 #[derive(Debug, Drop)]
 struct Passage<'a> {
     reply: LinkReply,
     link: Link,
     risen: bool,
+    heard: Option<u32>,
     sections: Option<Sections<'a>>,
+    document: Option<&'a [u8]>,
 }
 
-/// A datagram is tested by its link, and where it passes, its objects are taken in order.
+/// What became of a frame after its link's answer, with its sections or its document where they are to be handled.
+#[derive(Debug, Drop)]
+struct Met<'a> {
+    reply: LinkReply,
+    sections: Option<Sections<'a>>,
+    document: Option<&'a [u8]>,
+}
+
+/// A datagram is tested by its link, and where it passes, its objects are taken in order, or its document is handed to the node.
 pub fn datagram(
     state: &mut State,
     checker: &mut Checker,
@@ -61,6 +81,37 @@ pub fn datagram(
 {
     let place = state.place_for(from)?;
     let passage = passed(state, place, from, bytes, tags);
+    match passage.document {
+        Some(document) => { take_document(state, checker, alloc, place, from, &passage, document) }
+        None => take_pieces(state, checker, alloc, place, from, &passage),
+    }
+}
+
+/// Takes the objects of the frame that came over the link in this place, if there are any. After `Memory` the node is as before.
+fn take_pieces(
+    state: &mut State,
+    checker: &mut Checker,
+    alloc: Global,
+    place: usize,
+    from: NodeId,
+    passage: &Passage<'_>,
+) -> Result<Step<Taken>, NodeRefused>
+    requires kept { IsKept (format_of state.old.fixed) state.old }
+    requires answered { IsAnswered state.old from place }
+    requires keys { checker.old.nodes ≡ state.old.fixed.topology.nodes }
+    requires formats { IfSome passage.now.sections (AreOf state.old.fixed.topology.format) }
+    ensures reply { IfOk result (λ step. step.reply.link ≡ passage.entry.now.reply) }
+    ensures taken { IfOk result (λ step. IsAdmitted
+        (handle_all (format_of state.old.fixed) (arrival_at state.old from) (greeted state.old.fixed.epochs passage.entry.now.risen from state.old.parts)
+        (pieces_with passage.entry.now.sections)) state.new.parts step.reply.items step.effects.list) }
+    ensures others { IfOk result (λ _. state.new ≡ record (called state.old (with_link state.old from passage.entry.now.link) state.new.parts)
+        { heard = heard_with state.old.heard from passage.entry.now.heard }) }
+    ensures memory { IfErr result (λ refused. refused ≡ NodeRefused.Memory) }
+    ensures as_before { OnErr result (state.new ≡ state.old) }
+    ensures keys { checker.new.nodes ≡ checker.old.nodes }
+    ensures work { checker.new.checks ≤ checker.old.checks + frame_checks (arrival_at state.old from) state.old.parts (pieces_with passage.entry.now.sections) }
+    ensures few { checker.new.checks ≤ checker.old.checks + MOST_OBJECTS }
+{
     let arrived = admit_sections(
         state,
         checker,
@@ -70,6 +121,7 @@ pub fn datagram(
         &passage.sections,
     )?;
     answered(state, place, from, passage.link);
+    note(state, from, passage.heard);
     Ok(Step {
         reply: Taken {
             link: passage.reply,
@@ -77,6 +129,73 @@ pub fn datagram(
         },
         effects: arrived.effects,
     })
+}
+
+/// Hands the document of the frame that came over the link in this place to the node. After `Memory` the node is as before.
+fn take_document(
+    state: &mut State,
+    checker: &mut Checker,
+    alloc: Global,
+    place: usize,
+    from: NodeId,
+    passage: &Passage<'_>,
+    document: &[u8],
+) -> Result<Step<Taken>, NodeRefused>
+    requires kept { IsKept (format_of state.old.fixed) state.old }
+    requires answered { IsAnswered state.old from place }
+    ensures reply { IfOk result (λ step. step.reply.link ≡ passage.entry.now.reply) }
+    ensures items { IfOk result (λ step. step.reply.items ≡ Item.Document (document_answer (format_of state.old.fixed) state.old document.now) ∷ []) }
+    ensures told { IfOk result (λ step. step.effects.list ≡ publish_effects (format_of state.old.fixed) (met_by state.old from passage.entry.now) document.now) }
+    ensures state { IfOk result (λ _. state.new ≡ after_publish (format_of state.old.fixed) (met_by state.old from passage.entry.now) document.now) }
+    ensures memory { IfErr result (λ refused. refused ≡ NodeRefused.Memory) }
+    ensures as_before { OnErr result (state.new ≡ state.old) }
+    ensures keys { checker.new.nodes ≡ checker.old.nodes }
+    ensures work { checker.new.checks ≤ checker.old.checks + document_checks state.old document.now }
+{
+    let publication = state.judge_document(alloc, checker, document)?;
+    let items = one_item(alloc, Item::Document(publication.answer))?;
+    meet(state, from, passage.risen);
+    answered(state, place, from, passage.link);
+    note(state, from, passage.heard);
+    let Step { effects, .. } = state.adopt(publication);
+    Ok(Step {
+        reply: Taken {
+            link: passage.reply,
+            items,
+        },
+        effects,
+    })
+}
+
+/// Where another life of the neighbour began, what it reported is forgotten.
+fn meet(state: &mut State, from: NodeId, risen: bool)
+    ensures { state.new ≡ record state.old { parts = greeted state.old.fixed.epochs risen from state.old.parts } }
+{
+    let at = Arrival {
+        fixed: &state.fixed,
+        time: state.now,
+        from,
+        risen,
+    };
+    greet(&at, &mut state.core);
+}
+
+/// From now on this version is kept of the neighbour, where it told one.
+fn note(state: &mut State, from: NodeId, heard: Option<u32>)
+    ensures { state.new ≡ record state.old { heard = heard_with state.old.heard from heard } }
+{
+    if let Some(version) = heard {
+        state.hear(from, version);
+    }
+}
+
+/// One answer.
+fn one_item(alloc: Global, item: Item) -> Result<Listed<Item>, Memory>
+    ensures { IfOk result (λ items. items ≡ item ∷ []) }
+{
+    let mut items = Listed::from_vec(Vec::new(alloc));
+    items.push(item)?;
+    Ok(items)
 }
 
 /// What becomes of a datagram at the link in this place.
@@ -87,11 +206,14 @@ fn passed<'a>(
     bytes: &'a [u8],
     tags: &mut u64,
 ) -> Passage<'a>
-    requires { IsAnswered state.now from place }
+    requires kept { IsKept (format_of state.now.fixed) state.now }
+    requires answered { IsAnswered state.now from place }
     ensures reply { result.reply ≡ reply_at (format_of state.entry.now.fixed) state.entry.now from bytes.now }
     ensures link { result.link ≡ link_after (format_of state.entry.now.fixed) state.entry.now from bytes.now }
+    ensures heard { heard_with state.entry.now.heard from result.heard ≡ heard_after (format_of state.entry.now.fixed) state.entry.now from bytes.now }
     ensures pieces { pieces_with result.sections ≡ pieces_where (reply_at (format_of state.entry.now.fixed) state.entry.now from bytes.now)
         (pieces_in state.entry.now.fixed (sections_in (format_of state.entry.now.fixed) state.entry.now.fixed bytes.now)) }
+    ensures document { option_map (λ d. d.now) result.document ≡ document_at (format_of state.entry.now.fixed) state.entry.now from bytes.now }
     ensures risen { result.risen ≡ has_risen (link_in state.entry.now from) (link_after (format_of state.entry.now.fixed) state.entry.now from bytes.now) }
     ensures formats { IfSome result.sections (AreOf state.entry.now.fixed.topology.format) }
     ensures work { tags.new ≤ tags.old + datagram_tags state.entry.now from bytes.now }
@@ -105,19 +227,74 @@ fn passed<'a>(
                 reply: no_frame(refused),
                 link,
                 risen: false,
+                heard: None,
                 sections: None,
+                document: None,
             };
         }
     };
     let answer = link.accept(&frame, tags);
     let risen = has_risen(&before, &link);
-    let (reply, sections) = after_link(&state.fixed, answer, &frame);
+    let heard = version_told(state, from, &before, answer, risen, &frame.head());
+    let met = after_link(state, from, answer, &frame);
     Passage {
-        reply,
+        reply: met.reply,
         link,
         risen,
-        sections,
+        heard,
+        sections: met.sections,
+        document: met.document,
     }
+}
+
+/// The version that is kept of a neighbour after its frame, where the frame tells one: by its head, by the boot that was known of it before, and by whether
+/// that rose.
+fn version_told(
+    state: &State,
+    from: NodeId,
+    before: &Link,
+    answer: LinkAnswer,
+    risen: bool,
+    head: &Head,
+) -> Option<u32>
+    ensures { result ≡ (if changes state.entry.now.fixed && is_tagged answer
+        then There (kept_version state.entry.now.fixed.epochs risen (head.now.boot == before.now.peer_boot) (version_of state.entry.now from) head.now.topology)
+        else Nothing) }
+{
+    if !state.changes() || !is_tagged(answer) {
+        return None;
+    }
+    Some(kept_version(
+        state.fixed.epochs,
+        risen,
+        head.boot == before.peer_boot,
+        state.version_of(from),
+        head.topology,
+    ))
+}
+
+/// Whether the tag is right, and the frame names the ends of the link.
+fn is_tagged(answer: LinkAnswer) -> bool
+    ensures { result ≡ is_tagged answer }
+{
+    match answer {
+        LinkAnswer::NotForMe => false,
+        LinkAnswer::BadTag => false,
+        _ => true,
+    }
+}
+
+/// The version that is kept of a neighbour after a frame with this one.
+fn kept_version(epochs: bool, rises: bool, known: bool, kept: u32, theirs: u32) -> u32
+    ensures { result ≡ kept_version epochs rises known kept theirs }
+{
+    if !epochs {
+        return kept.max(theirs);
+    }
+    if rises {
+        return theirs;
+    }
+    if known { kept.max(theirs) } else { kept }
 }
 
 /// The datagram as a frame of the node's format, or the first test of its bytes that fails.
@@ -213,42 +390,86 @@ fn no_frame(refused: FrameRefused) -> LinkReply
     }
 }
 
-/// What becomes of a frame after its link's answer, with its sections where they are to be handled.
-fn after_link<'a>(
-    fixed: &Fixed,
-    answer: LinkAnswer,
-    frame: &Frame<'a>,
-) -> (LinkReply, Option<Sections<'a>>)
-    requires { slice_index frame.now 2 ≡ fixed.now.topology.format }
-    ensures reply { result.0 ≡ or_fresh (or_else (not_fresh answer)
-        (not_read fixed.now.topology.version (head_of frame.now).topology (sections_in (format_of fixed.now) fixed.now frame.now))) }
-    ensures pieces { pieces_with result.1 ≡ pieces_where result.0 (pieces_in fixed.now (sections_in (format_of fixed.now) fixed.now frame.now)) }
-    ensures formats { IfSome result.1 (AreOf fixed.now.topology.format) }
+/// What becomes of a frame after its link's answer.
+fn after_link<'a>(state: &State, from: NodeId, answer: LinkAnswer, frame: &Frame<'a>) -> Met<'a>
+    requires kept { IsKept (format_of state.now.fixed) state.now }
+    requires format { slice_index frame.now 2 ≡ state.now.fixed.topology.format }
+    ensures { IsMet state.entry.now from frame.now (or_else (not_fresh answer) (tests_after state.entry.now from frame.now)) result }
 {
     match answer {
-        LinkAnswer::NotForMe => (LinkReply::NotForMe, None),
-        LinkAnswer::BadTag => (LinkReply::BadTag, None),
-        LinkAnswer::Learned { boot } => (LinkReply::Learned { boot }, None),
-        LinkAnswer::Stale { boot, counter } => (LinkReply::Stale { boot, counter }, None),
-        LinkAnswer::Fresh => of_fresh(fixed, frame),
+        LinkAnswer::NotForMe => told(LinkReply::NotForMe),
+        LinkAnswer::BadTag => told(LinkReply::BadTag),
+        LinkAnswer::Learned { boot } => told(LinkReply::Learned { boot }),
+        LinkAnswer::Stale { boot, counter } => told(LinkReply::Stale { boot, counter }),
+        LinkAnswer::Fresh => of_fresh(state, from, frame),
+    }
+}
+
+/// Nothing is handled.
+fn told<'a>(reply: LinkReply) -> Met<'a>
+    ensures reply { result.reply ≡ reply }
+    ensures sections { result.sections ≡ Nothing }
+    ensures document { result.document ≡ Nothing }
+{
+    Met {
+        reply,
+        sections: None,
+        document: None,
     }
 }
 
 /// What becomes of a fresh frame.
-fn of_fresh<'a>(fixed: &Fixed, frame: &Frame<'a>) -> (LinkReply, Option<Sections<'a>>)
-    requires { slice_index frame.now 2 ≡ fixed.now.topology.format }
-    ensures reply { result.0
-        ≡ or_fresh (not_read fixed.now.topology.version (head_of frame.now).topology (sections_in (format_of fixed.now) fixed.now frame.now)) }
-    ensures pieces { pieces_with result.1 ≡ pieces_where result.0 (pieces_in fixed.now (sections_in (format_of fixed.now) fixed.now frame.now)) }
-    ensures formats { IfSome result.1 (AreOf fixed.now.topology.format) }
+fn of_fresh<'a>(state: &State, from: NodeId, frame: &Frame<'a>) -> Met<'a>
+    requires kept { IsKept (format_of state.now.fixed) state.now }
+    requires format { slice_index frame.now 2 ≡ state.now.fixed.topology.format }
+    ensures { IsMet state.entry.now from frame.now (tests_after state.entry.now from frame.now) result }
 {
     let theirs = frame.head().topology;
-    if theirs != fixed.topology.version {
-        return (LinkReply::OtherTopology { theirs }, None);
+    if theirs != state.live.version && !has_document(&state.fixed, frame) {
+        return told(LinkReply::OtherTopology { theirs });
     }
-    match frame.sections(fixed.signature_len) {
-        Ok(sections) => (LinkReply::Fresh, Some(heeded(fixed, sections))),
-        Err(refused) => (LinkReply::Section(refused), None),
+    match frame.sections(state.fixed.signature_len) {
+        Ok(sections) => of_sections(state, from, sections),
+        Err(refused) => told(LinkReply::Section(refused)),
+    }
+}
+
+/// Whether the control part of a frame begins as that of a document does.
+fn has_document(fixed: &Fixed, frame: &Frame<'_>) -> bool
+    ensures { result ≡ has_document fixed.now.topology.format (sections_part frame.now) }
+{
+    if fixed.topology.format == FORMAT_1 {
+        return false;
+    }
+    match frame.tagged_part().get(HEAD_BYTES) {
+        Some(first) => *first == DOCUMENT,
+        None => false,
+    }
+}
+
+/// What becomes of sections that were read: over an edge that is withdrawn only a document is handled.
+fn of_sections<'a>(state: &State, from: NodeId, sections: Sections<'a>) -> Met<'a>
+    requires kept { IsKept (format_of state.now.fixed) state.now }
+    requires formats { AreOf state.now.fixed.topology.format sections }
+    ensures reply { result.reply ≡ or_fresh (not_open (as_contents sections.entry).document (is_shut_to state.entry.now from)) }
+    ensures pieces { pieces_with result.sections ≡ pieces_where result.reply (pieces_in state.entry.now.fixed (Ok (as_contents sections.entry))) }
+    ensures document { option_map (λ d. d.now) result.document ≡ document_where result.reply (as_contents sections.entry).document }
+    ensures formats { IfSome result.sections (AreOf state.entry.now.fixed.topology.format) }
+{
+    if let Some(document) = sections.document {
+        return Met {
+            reply: LinkReply::Fresh,
+            sections: None,
+            document: Some(document),
+        };
+    }
+    if state.is_shut_to(from) {
+        return told(LinkReply::Withdrawn);
+    }
+    Met {
+        reply: LinkReply::Fresh,
+        sections: Some(heeded(&state.fixed, sections)),
+        document: None,
     }
 }
 

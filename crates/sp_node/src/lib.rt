@@ -5,10 +5,11 @@
 //! 1. `Node::boot`, with a boot number above that of every life before. The signer has its indexes reserved up to a bound. With epochs the start signs the
 //!    boot with the first of them, and its effects tell so.
 //! 2. Then, in any order and as often as the caller likes: `tick` with the time, `datagram` with what came from a neighbour's address, `poll` of a
-//!    neighbour and then the frame out to it, and what clients ask: `send_rel`, `send_prio`, `set_weight`, `take_rel`, `take_prio`.
+//!    neighbour and then the frame out to it, what clients ask: `send_rel`, `send_prio`, `set_weight`, `take_rel`, `take_prio`, and `replace` with what the
+//!    administrator publishes: a later version of the topology, which then goes from node to node by itself.
 //!
 //! # When to call
-//! - `poll` a neighbour whenever a frame may go to it. A frame is made at each poll, also where nothing waits: it carries the acknowledged link number,
+//! - `poll` a neighbour whenever a frame may go to it, also over an edge that is withdrawn, since documents go there too. A frame is made at each poll, also where nothing waits: it carries the acknowledged link number,
 //!   a report, and the boot that the neighbour must echo. So a neighbour that isn't polled hears nothing, and sends on what it has sent. A poll too many
 //!   costs a frame and a tag. A frame that is lost is no harm: what it carried goes again until the neighbour reports it.
 //! - `tick` as time goes on. A tick with an earlier time leaves the clock as it is. One tick signs at most one acknowledgement, so a destination of many
@@ -21,8 +22,8 @@
 //! - `extend(upto)` may only be called once the reservation up to `upto` is on the disk.
 //! - `Effect::Delivered` and `DeliveredPrio` are told once, when the message arrives; its payload waits until a client takes it. A full inbox refuses what
 //!   comes after it, until somebody takes.
-//! - `Stored`, `Gone`, `WeightHeld` and `Ended` ask for nothing: they tell what the node keeps. After `Ended` a client of this node that had messages of the
-//!   flow on their way sends them again, if it wants them to arrive: another life of the other end began.
+//! - `Stored`, `Gone`, `WeightHeld`, `Version` and `Ended` ask for nothing: they tell what the node keeps. After `Ended` a client of this node that had messages
+//!   of the flow on their way sends them again, if it wants them to arrive: another life of the other end began. Where an end is removed none goes any more.
 //! - After `Memory` the node is as before the call, and the call may be made again. After `Worn` the life is over: boot again, with the next number.
 //!
 //! # What it costs
@@ -39,4 +40,6 @@ mod tick;
 
 pub use node::Node;
 pub use sp_node_state::{NodeConfig, can_boot};
-pub use sp_rules::{Entry, Item, LinkReply, MAX_CALLS, NodeRefused, Step, Taken, TickReply};
+pub use sp_rules::{
+    DocumentAnswer, Entry, Item, LinkReply, MAX_CALLS, NodeRefused, Step, Taken, TickReply,
+};

@@ -1,10 +1,11 @@
 // One node, and all that may be asked of it.
-ghost use Rattle.std.specs.Prelude.{◌≡◌, ◌≤◌, ◌<◌, ◌+◌, ◌^◌, IfErr, IfOk, IsOk, None as Nothing, length};
+ghost use Rattle.std.specs.Prelude.{◌≡◌, ◌≤◌, ◌<◌, ◌+◌, ◌^◌, IfErr, IfOk, IsOk, None as Nothing, length, true};
 ghost use Rattle.laws_node.specs.Nodes.{IsKept};
 ghost use Rattle.sp_base.specs.declared.limits.TheConstants.{MAX_PAYLOAD_BYTES, MAX_PRIORITY, MAX_WEIGHT};
 ghost use Rattle.sp_node_format.specs.Format.{format_of};
 ghost use Rattle.sp_paths.specs.declared.limits.TheConstants.{MAX_PATHS};
 ghost use Rattle.sp_rules.specs.Node.{extended, link_in};
+ghost use Rattle.sp_rules.specs.Parts.{changes};
 ghost use Rattle.sp_rules.specs.Prio.{expiring};
 ghost use Rattle.sp_rules.specs.Rel.{position_in};
 ghost use Rattle.sp_rules.specs.Lives.{held_boot};
@@ -14,8 +15,9 @@ ghost use Rattle.sp_rules.specs.Steps.{SendPrio, SendRel, SetWeight};
 ghost use Rattle.sp_rules.specs.Ticks.{due_now, time_after};
 ghost use Rattle.sp_node_state.specs.Boots.{IsBootable, started_of, told_at_start};
 ghost use Rattle.sp_frame.specs.declared.sections.TheConstants.{MOST_OBJECTS};
-ghost use Rattle.sp_node.specs.Calls.{Datagrams, Polls, TakesPrio, TakesRel, Ticks};
+ghost use Rattle.sp_node.specs.Calls.{Datagrams, Polls, Publishes, TakesPrio, TakesRel, Ticks};
 ghost use Rattle.sp_node.specs.Life.{IsIdle, datagram_checks, datagram_tags};
+ghost use Rattle.sp_node_state.specs.Publications.{document_checks};
 ghost use Rattle.sp_node_state.specs.Sends.{Sends};
 ghost use Rattle.sp_node_state.specs.States.{is_other};
 
@@ -27,7 +29,7 @@ use sp_base::{Bytes, Flow, Memory, NodeId};
 use sp_msg::SendRefused;
 use sp_node_state::{NodeConfig, State, send_prio, send_rel, set_weight};
 use sp_routes::PathBook;
-use sp_rules::{Entry, NodeRefused, PrioSend, Step, Taken, TickReply};
+use sp_rules::{DocumentAnswer, Entry, NodeRefused, PrioSend, Step, Taken, TickReply};
 use sp_sign::{Checker, NodeSigner};
 use std::alloc::Global;
 use std::marker::Model;
@@ -96,7 +98,8 @@ impl Node {
         })
     }
 
-    /// The next frame to a neighbour: what is next in turn of each part, sealed for that link.
+    /// The next frame to a neighbour, sealed for that link: what is next in turn of each part. Where the neighbour runs under an older version of the topology,
+    /// as far as was heard, it is the document of this node's version instead, and where their edge is withdrawn it has no sections.
     ///
     /// `NotNeighbour` exactly where the other node isn't a neighbour, and else `Worn` exactly where the node has answered `MAX_CALLS` polls and
     /// datagrams.
@@ -115,8 +118,9 @@ impl Node {
     /// datagrams. All memory is taken before anything changes.
     ///
     /// Its signatures are checked once for each object that may be new when its turn comes, and for no other: so none of a datagram that isn't
-    /// fresh, nor of an object that is old, seen, expired, of a bad end or of another boot than the one that is held, and eleven at most. One tag is
-    /// checked where the datagram is a frame that names the ends of its link, and none else.
+    /// fresh, nor of an object that is old, seen, expired, of a bad end or of another boot than the one that is held, and eleven at most. That of a document
+    /// is checked only where its version is above the own one. One tag is checked where the datagram is a frame that names the ends of its link, and none
+    /// else.
     #[tactic(auto, using(crate::proofs::Steps::life_by_datagram))]
     pub fn datagram(
         &mut self,
@@ -155,7 +159,8 @@ impl Node {
 
     /// Signs a client's reliable message, and keeps it until its destination acknowledges it. Gives its number, counted from 1 in each flow.
     ///
-    /// The first of these that applies: `BadEnd` where the destination isn't another node, and where with epochs no life of it is known, `Full`,
+    /// The first of these that applies: `BadEnd` where the destination isn't another node, where it or this node is removed, and where with epochs no life of
+    /// it is known, `Full`,
     /// `Spent`, `NotReserved`.
     #[tactic(auto, using(crate::proofs::Steps::life_by_rel))]
     pub fn send_rel(
@@ -175,7 +180,8 @@ impl Node {
     /// Signs a client's priority message, which goes over so many paths that share no node, or over all edges where `paths` is 0. Gives its number,
     /// counted from 1 over all destinations. A priority is 1 to 10, and 10 goes first; the message is gone once the time is above `expiry`.
     ///
-    /// The first of these that applies: `BadEnd` where the destination isn't another node, and where with epochs no life of it is known, `Expired`,
+    /// The first of these that applies: `BadEnd` where the destination isn't another node, where it or this node is removed, and where with epochs no life of
+    /// it is known, `Expired`,
     /// `Spent`, `NotReserved`, and `NoPaths` where there are fewer paths. `Memory` may come in place of the last.
     #[tactic(auto, using(crate::proofs::Steps::life_by_prio))]
     pub fn send_prio(
@@ -196,7 +202,7 @@ impl Node {
 
     /// Signs what this node says of the weight of its link to a neighbour. Gives the number of the update.
     ///
-    /// The first of these that applies: `BadEnd` where the peer isn't a neighbour, `Low`, `Spent`, `NotReserved`.
+    /// The first of these that applies: `BadEnd` where the peer isn't a neighbour or the edge to it is withdrawn, `Low`, `Spent`, `NotReserved`.
     #[tactic(auto, using(crate::proofs::Steps::life_by_weight))]
     pub fn set_weight(
         &mut self,
@@ -211,6 +217,28 @@ impl Node {
     {
         self.state.recall();
         set_weight(&mut self.state, alloc, peer, weight)
+    }
+
+    /// The administrator hands over a document. The answer is `Bad` where the bytes are none, `Old` where its version is at most the own one, `BadSig` where
+    /// its signature isn't the administrator's, `Strange` where it doesn't follow the topology as it is now, and else `Adopted`: from then on it is the
+    /// node's topology, what waited for withdrawn edges leaves, and flows with a removed end end.
+    ///
+    /// Only want of memory refuses, and then nothing has changed. One signature is checked where the version is above the own one, and none else.
+    pub fn replace(
+        &mut self,
+        alloc: Global,
+        document: &[u8],
+    ) -> Result<Step<DocumentAnswer>, NodeRefused>
+        requires { changes self.old.state.fixed ≡ true }
+        ensures step { Publishes self.old.state document.now result self.new.state }
+        ensures work { self.new.checks ≤ self.old.checks + document_checks self.old.state document.now }
+        ensures tags { self.new.tags ≡ self.old.tags }
+    {
+        self.state.recall();
+        match self.state.publish(alloc, &mut self.checker, document) {
+            Ok(step) => Ok(step),
+            Err(memory) => Err(NodeRefused::from(memory)),
+        }
     }
 
     /// Takes the payload of the oldest reliable message that waits here from a node. None exactly where none waits.
@@ -277,6 +305,13 @@ impl Node {
         ensures { result ≡ self.entry.now.state.signer.total }
     {
         self.state.signer.total()
+    }
+
+    /// The version of the topology that the node runs under.
+    pub fn version(&self) -> u32
+        ensures { result ≡ self.entry.now.state.live.version }
+    {
+        self.state.live.version
     }
 
     /// The greatest time that a tick gave, in the unit of expiries. 0 before.

@@ -4,7 +4,9 @@ ghost use Rattle.laws_node.specs.Nodes.{IsKept};
 ghost use Rattle.sp_node_format.specs.Format.{format_of};
 ghost use Rattle.sp_base.specs.Formats.{max_rels};
 ghost use Rattle.sp_frame.specs.Frames.{frame_bytes};
+ghost use Rattle.sp_frame.specs.Sections.{with_document};
 ghost use Rattle.sp_frame.specs.Writing.{out_report};
+ghost use Rattle.sp_frame.specs.declared.writing.TheConstants.{MAX_DOCUMENT_BYTES};
 ghost use Rattle.sp_frame.specs.Ranges.{IsContentsIn};
 ghost use Rattle.sp_node.specs.Calls.{Polls};
 ghost use Rattle.sp_node_state.specs.ReadyStates.{IsAnswered};
@@ -15,17 +17,17 @@ ghost use Rattle.sp_rules.specs.Link.{advanced, next_head};
 ghost use Rattle.sp_rules.specs.Lives.{moved as gone_on};
 ghost use Rattle.sp_rules.specs.Node.{is_link};
 ghost use Rattle.sp_rules.specs.Parts.{place_in, place_of};
-ghost use Rattle.sp_rules.specs.Polls.{after_poll, contents_to, dated, frame_to};
+ghost use Rattle.sp_rules.specs.Polls.{after_poll, contents_at, contents_to, dated, frame_to, no_contents, parts_after};
 ghost use Rattle.sp_rules.specs.Prio.{carried, peer_in};
 ghost use Rattle.sp_rules.specs.Rel.{served, slot_for};
 ghost use Rattle.sp_rules.specs.Weights.{moved};
 
 use sp_base::{Bytes, FORMAT_1, Four, Memory, NodeId};
-use sp_frame::{Head, OutSections, OutSlot, write};
+use sp_frame::{Head, OutSections, OutSlot, write, write_document};
 use sp_link::Link;
 use sp_lives::Lives;
 use sp_msg::Kept;
-use sp_node_parts::{Fixed, Parts};
+use sp_node_parts::{Fixed, Live, Parts};
 use sp_node_state::State;
 use sp_rules::NodeRefused;
 use sp_topology::NodeKey;
@@ -49,8 +51,8 @@ fn frame_at(state: &State, alloc: Global, place: usize, v: NodeId) -> Result<Byt
     ensures { IfOk result (λ bytes. bytes ≡ frame_to (format_of state.entry.now.fixed) state.entry.now v) }
 {
     let link = state.link_at(place, v);
-    let head = head_for(&link, &state.fixed);
-    let mut frame = unsealed(alloc, &head, &state.fixed, &state.core, v)?;
+    let head = head_for(&link, state);
+    let mut frame = unsealed(alloc, &head, state, v)?;
     link.seal(&mut frame);
     Ok(frame)
 }
@@ -61,22 +63,79 @@ fn went(state: &mut State, place: usize, v: NodeId)
     requires answered { IsAnswered state.old v place }
     ensures { state.new ≡ after_poll state.old v }
 {
-    let at = place_of(&state.fixed, v);
-    moved(&mut state.core, at, v);
+    carry(state, v);
     advance_at(&mut state.links, place, v);
     state.calls += 1;
 }
 
-/// The head of the next frame over a link.
-fn head_for(link: &Link, fixed: &Fixed) -> Head
-    requires { link.now.sent < 2 ^ 60 }
-    ensures { result ≡ next_head link.now fixed.now.topology.version fixed.now.topology.format }
+/// What was next in turn of each part went to a neighbour. Nothing of it went with a document, and none goes over an edge that is withdrawn.
+fn carry(state: &mut State, v: NodeId)
+    requires { IsKept (format_of state.old.fixed) state.old }
+    ensures { state.new ≡ record state.old { parts = parts_after state.old v } }
 {
-    link.head(fixed.topology.version, fixed.topology.format)
+    if state.is_behind(v) || state.is_shut_to(v) {
+        return;
+    }
+    let at = place_of(&state.fixed, v);
+    moved(&mut state.core, at, v);
 }
 
-/// The bytes of the next frame to a neighbour, with zeros in the place of its tag.
-fn unsealed(
+/// The head of the next frame over a link.
+fn head_for(link: &Link, state: &State) -> Head
+    requires { link.now.sent < 2 ^ 60 }
+    ensures { result ≡ next_head link.now state.entry.now.live.version state.entry.now.fixed.topology.format }
+{
+    link.head(state.live.version, state.fixed.topology.format)
+}
+
+/// The bytes of the next frame to a neighbour, with zeros in the place of its tag: with the document where the neighbour runs under an older version, without
+/// sections where the edge is withdrawn, and else with what is in turn.
+fn unsealed(alloc: Global, head: &Head, state: &State, v: NodeId) -> Result<Bytes, Memory>
+    requires kept { IsKept (format_of state.now.fixed) state.now }
+    requires format { head.now.format ≡ state.now.fixed.topology.format }
+    ensures { IfOk result (λ bytes. bytes ≡ frame_bytes head.now (contents_at state.entry.now v) (replicate 32 0)) }
+{
+    if state.is_behind(v) {
+        return with_document(alloc, head, &state.live);
+    }
+    if state.is_shut_to(v) {
+        return without_sections(alloc, head);
+    }
+    in_turn(alloc, head, &state.fixed, &state.core, v)
+}
+
+/// A frame with the document of the version that a node runs under, and nothing else.
+fn with_document(alloc: Global, head: &Head, live: &Live) -> Result<Bytes, Memory>
+    requires { length live.now.document ≤ MAX_DOCUMENT_BYTES }
+    ensures { IfOk result (λ bytes. bytes ≡ frame_bytes head.now (with_document live.now.document) (replicate 32 0)) }
+{
+    match write_document(alloc, head, live.document.as_slice()) {
+        Ok(bytes) => Ok(bytes),
+        Err(_) => Err(Memory),
+    }
+}
+
+/// A frame in which nothing but zeros stands between head and tag.
+fn without_sections(alloc: Global, head: &Head) -> Result<Bytes, Memory>
+    ensures { IfOk result (λ bytes. bytes ≡ frame_bytes head.now no_contents (replicate 32 0)) }
+{
+    let sections = OutSections {
+        weight: None,
+        prio_ack: 0,
+        prios: Four::new(),
+        slot: None,
+        paths: None,
+        probe: None,
+        epoch: None,
+    };
+    match write(alloc, head, &sections) {
+        Ok(bytes) => Ok(bytes),
+        Err(_) => Err(Memory),
+    }
+}
+
+/// A frame with what is next in turn of each part.
+fn in_turn(
     alloc: Global,
     head: &Head,
     fixed: &Fixed,

@@ -6,10 +6,12 @@ use Rattle.sp_msg.specs.declared.effect.Effect.{Effect}
 use Rattle.sp_msg.specs.declared.kept.Kept.{Kept}
 use Rattle.sp_rules.proofs.ToldLemmas.{told_both, told_none}
 use Rattle.sp_rules.specs.Arts.{Arts}
-use Rattle.sp_rules.specs.Handle.{Arrival, Handled, handle, handle_all, quietly}
+use Rattle.sp_rules.specs.Handle.{Arrival, Handled, ack_handled, handle, handle_all, quietly}
 use Rattle.sp_rules.specs.Parts.{Parts}
 use Rattle.sp_rules.specs.Pieces.{Piece}
 use Rattle.sp_rules.specs.Told.{told}
+use Rattle.sp_rules.specs.declared.answers.AckAnswer.{AckAnswer}
+use Rattle.sp_rules.specs.declared.answers.AckAnswer.TheVariants as answers
 use Rattle.sp_rules.specs.declared.answers.Item.{Item}
 use Rattle.sp_node_arrivals.specs.Done.{IsDone}
 use Rattle.sp_node_arrivals.specs.Admitted.{IsAdmitted}
@@ -90,3 +92,12 @@ all_taken done left answers before now room all none = record {
   items = all.items;
   effects = ap (λ (c : Caused). c.list) all.effects ∙ ap (λ (c : Caused). c.list ++ done.effects) none;
 }
+
+-- an acknowledgement tells nothing
+pub ack_tells_nothing : (answer : AckAnswer) (o : Kept) (p : Parts) (c : Caused) → c ≡ told c (ack_handled answer o p).effects
+ack_tells_nothing answers.New o p c = sym (told_none c)
+ack_tells_nothing answers.BadEnd o p c = sym (told_none c)
+ack_tells_nothing answers.Epoch o p c = sym (told_none c)
+ack_tells_nothing answers.Old o p c = sym (told_none c)
+ack_tells_nothing answers.Ahead o p c = sym (told_none c)
+ack_tells_nothing answers.BadSig o p c = sym (told_none c)

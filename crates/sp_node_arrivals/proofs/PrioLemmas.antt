@@ -26,7 +26,7 @@ use Rattle.sp_rules.specs.Handle.{handle, prio_handled}
 use Rattle.sp_rules.specs.Lives.{is_dated}
 use Rattle.sp_rules.specs.Parts.{Parts, is_signed}
 use Rattle.sp_rules.specs.Pieces.{PrioPiece}
-use Rattle.sp_rules.specs.Prio.{PrioState, acked, admit_prio, heard, is_here, is_node, is_peer, judge_prio, marked, no_peer, peer_in, place_of, places}
+use Rattle.sp_rules.specs.Prio.{PrioState, acked, admit_prio, heard, is_here, is_peer, is_there, judge_prio, marked, no_peer, peer_in, place_of, places}
 use Rattle.sp_rules.specs.Prio.{unheard}
 use Rattle.sp_rules.specs.Prio.{window_at, window_in, windows_with}
 use Rattle.sp_rules.specs.PrioPeer as rows
@@ -36,6 +36,7 @@ use Rattle.sp_rules.specs.Window.{is_seen, with_mark}
 use Rattle.sp_rules.specs.declared.answers.PrioAnswer.{PrioAnswer}
 use Rattle.sp_rules.specs.declared.answers.PrioAnswer.TheVariants as answers
 use Rattle.sp_rules.specs.declared.lives.Life.{Life}
+use Rattle.sp_rules.specs.declared.prio.PrioJudged.{PrioJudged}
 use Rattle.sp_rules.specs.declared.prio.PrioJudged.TheVariants as prios
 use Rattle.sp_node_arrivals.specs.Prio.{ArePriosReady, IsPrioReady}
 use Rattle.sp_node_arrivals.specs.Prio.{HasIds, HasRoom, prio_room}
@@ -209,7 +210,7 @@ still_new false false false false true more new = absurd (let e = more refl in c
 marked_judged : (s : PrioState) (of : Body) (from : Option NodeId) (body : Body) (now : ℕ) → judge_prio (marked s of from) body now ≡ prios.New
     → judge_prio s body now ≡ prios.New
 marked_judged s of from (bodies.Prio p) now new =
-    still_new (not (is_node s.nodes p.src.0) || not (is_node s.nodes p.dst.0) || (p.src.0 == p.dst.0)) (nat_lt p.expiry now) (p.src.0 == s.me)
+    still_new (not (is_there s p.src.0) || not (is_there s p.dst.0) || (p.src.0 == p.dst.0)) (nat_lt p.expiry now) (p.src.0 == s.me)
     (is_seen (window_in (marked s of from) p.src.0) p.seq) (is_seen (window_in s p.src.0) p.seq)
     (seen_at s.windows (place_of s.nodes (said (λ p. p.src.0) of)) (place_of s.nodes p.src.0) (said (λ p. p.seq) of) p.seq) new
 marked_judged s of from (bodies.Rel m) now new = new
@@ -381,3 +382,12 @@ room_after count old new before now f ids has used = record {
 
 pub both_rooms : (n k a b d : ℕ) → a ≤ b + k → b ≤ d + n * k → a ≤ d + suc n * k
 both_rooms n k a b d one others = omega (arith, one, others)
+
+-- what is ready answers as the signature does, since it is asked only where the message may be new
+pub prio_answered : (ready right dated : Bool) (judged : PrioJudged) → (dated ≡ true → judged ≡ prios.New → ready ≡ right)
+    → prio_answer ready dated judged ≡ prio_answer right dated judged
+prio_answered ready right true prios.New same = ap (λ (b : Bool). prio_answer b true prios.New) (same refl refl)
+prio_answered ready right false prios.New same = refl
+prio_answered ready right dated prios.BadEnd same = refl
+prio_answered ready right dated prios.Expired same = refl
+prio_answered ready right dated prios.Seen same = refl

@@ -299,6 +299,14 @@ rel_answered ready right dated rels.Gap same = refl
 rel_answered ready right dated rels.Full same = refl
 rel_answered ready right dated rels.InboxFull same = refl
 
+pub ack_answered : (ready right dated : Bool) (judged : AckJudged) → (dated ≡ true → judged ≡ acks.New → ready ≡ right)
+    → ack_answer ready dated judged ≡ ack_answer right dated judged
+ack_answered ready right true acks.New same = ap (λ (b : Bool). ack_answer b true acks.New) (same refl refl)
+ack_answered ready right false acks.New same = refl
+ack_answered ready right dated acks.BadEnd same = refl
+ack_answered ready right dated acks.Old same = refl
+ack_answered ready right dated acks.Ahead same = refl
+
 -- ---- all messages of a slot
 
 -- all that come after an object are ready after it

@@ -24,12 +24,13 @@ use Rattle.sp_frame.specs.Prioritized.{numbered_bytes, prios_bytes}
 use Rattle.sp_frame.specs.Probes.{epoch_bytes, probe_bytes, probes_bytes}
 use Rattle.sp_frame.specs.Ranges.{IsContentsIn, IsHead, IsNumbered, IsReport, Later}
 use Rattle.sp_frame.specs.Reliable.{Report, ack_bytes, paths_bytes, place_bytes, rels_bytes, report_bytes, slot_bytes}
-use Rattle.sp_frame.specs.Sections.{Contents, control_bytes, plain_bytes, sections_bytes_in, sections_of_in}
+use Rattle.sp_frame.specs.Sections.{Contents, control_bytes, document_bytes, plain_bytes, sections_bytes_in, sections_of_in, sized_bytes, with_document, zeros_bytes}
 use Rattle.sp_frame.specs.Weights.{weights_bytes}
 use Rattle.sp_frame.specs.declared.head.Head.{Head}
 use Rattle.sp_frame.specs.declared.kind.Kind.{Kind}
 use Rattle.sp_frame.specs.declared.kind.Kind.TheVariants as kinds
 use Rattle.sp_frame.specs.declared.probe.Probe.{Probe}
+use Rattle.sp_frame.specs.declared.writing.TheConstants.{MAX_DOCUMENT_BYTES}
 use Rattle.sp_hmac.specs.Hmac.{block_hmac, hmac}
 use Rattle.sp_msg.proofs.GoodFields.{good_krel, good_prio, good_rel}
 use Rattle.sp_msg.proofs.LongLemmas.{ack_long, epoch_long, kack_long, krel_long, prio_long, rel_long}
@@ -37,9 +38,9 @@ use Rattle.sp_msg.specs.Bodies.{HasGoodFieldsIn, encoded_in}
 use Rattle.sp_msg.specs.declared.body.Body.{Body}
 use Rattle.sp_msg.specs.declared.body.Body.TheVariants as bodies
 use Rattle.sp_msg.specs.declared.kept.Kept.{Kept}
-use Rattle.sp_rules.specs.Link.{new_link, next_head}
-use Rattle.sp_rules.specs.Node.{NodeState, is_link, is_neighbour, link_in}
-use Rattle.sp_rules.specs.Polls.{contents_to}
+use Rattle.sp_rules.specs.Link.{new_link}
+use Rattle.sp_rules.specs.Node.{NodeState, is_behind, is_link, is_neighbour, is_shut_to, link_in}
+use Rattle.sp_rules.specs.Polls.{contents_at, contents_to, head_to, no_contents}
 use Rattle.sp_topology.specs.declared.topology.LmsHeight.TheVariants as heights
 use Rattle.laws_node.proofs.Frames.{frames_fit}
 use Rattle.laws_node.specs.Nodes.{IsKept, LinkHolds}
@@ -223,14 +224,18 @@ seven a b c d e f g =
     let fifth = length-append (a ++ b) c in
     omega (arith, first, second, third, fourth, fifth, length-append a b)
 
+-- what a datagram has room for between a head and a tag
+abbrev pub most_sections : ℕ
+most_sections = 65442
+
 -- these parts it lacks
 pub record IsPlain (s : Contents) : Type 0 where
   pub document : s.document ≡ None
   pub paths : s.paths ≡ None
   pub probe : s.probe ≡ None
 
-sections_len : (format : ℕ) (len : ℕ) → len ≤ most_signature → (s : Contents) → IsPlain s → IsContentsIn format len s
-    → length (sections_bytes_in format s) ≤ 61743
+pub sections_len : (format : ℕ) (len : ℕ) → len ≤ most_signature → (s : Contents) → IsPlain s → IsContentsIn format len s
+    → length (sections_bytes_in format s) ≤ most_sections
 unfolding sections_bytes_in plain_bytes
 sections_len format len small s plain is =
     let weights = weights_bytes format s.weights in
@@ -243,8 +248,15 @@ sections_len format len small s plain is =
     let reported = last_len format len small s.slot is.slot s.epoch is.epoch in
     let paths = subst (λ (o : Option Report). length (paths_bytes format o) ≤ 1) (sym plain.paths) (no_paths format) in
     let probe = subst (λ (o : Option Probe). length (probes_bytes format o) ≤ 1) (sym plain.probe) (no_probe format) in
-    subst (λ (d : Option (List ℕ)). length (control_bytes format s d) ≤ 61743) (sym plain.document)
+    subst (λ (d : Option (List ℕ)). length (control_bytes format s d) ≤ most_sections) (sym plain.document)
     (omega (arith, parts, one, two, more, reported, paths, probe))
+
+-- a document is as long as a datagram has room for
+pub document_len : (format : ℕ) (document : List ℕ) → length document ≤ MAX_DOCUMENT_BYTES → length (sections_bytes_in format (with_document document)) ≤ most_sections
+unfolding sections_bytes_in document_bytes sized_bytes zeros_bytes
+document_len format document few =
+    let two = two_bytes (length document) in
+    omega (arith, two, few, length-append document (zeros_bytes 0))
 
 head_len : (h : Head) → length (head_bytes h) ≡ 33
 unfolding head_bytes ends_bytes numbers_bytes
@@ -257,14 +269,13 @@ opens : (h : Head) (rest : List ℕ) → h.format < 256 → 32 ≤ length rest �
 unfolding head_bytes ends_bytes numbers_bytes
 opens h rest small least most = grind (arith, nat_tests, small, least, most)
 
-pub read_back : (len : ℕ) (h : Head) (s : Contents) (tag : List ℕ) → len ≤ most_signature → IsHead h → IsPlain s → IsContentsIn h.format len s
-    → length tag ≡ 32 → Reads h.format ((head_bytes h ++ sections_bytes_in h.format s) ++ tag) len h s
-read_back len h s tag small head plain contents long =
+pub read_back : (len : ℕ) (h : Head) (s : Contents) (tag : List ℕ) → length (sections_bytes_in h.format s) ≤ most_sections → IsHead h
+    → IsContentsIn h.format len s → length tag ≡ 32 → Reads h.format ((head_bytes h ++ sections_bytes_in h.format s) ++ tag) len h s
+read_back len h s tag size head contents long =
     let sections = sections_bytes_in h.format s in
     let inner = head_bytes h ++ sections in
     let bytes = inner ++ tag in
     let together : bytes ≡ head_bytes h ++ (sections ++ tag) = append_assoc (head_bytes h) sections tag in
-    let size = sections_len h.format len small s plain contents in
     let all : length (sections ++ tag) ≡ length sections + length tag = length-append sections tag in
     let whole : length bytes ≡ length inner + length tag = length-append inner tag in
     let signed : tagged_part bytes ≡ inner = take_at inner tag (length bytes - 32) (omega (arith, whole, long)) in
@@ -297,8 +308,7 @@ small_format : (format : ℕ) → IsFormat format → format < 256
 small_format format (inl one) = omega (arith, one)
 small_format format (inr two) = omega (arith, two)
 
-head_fits : (n : NodeState) (v : NodeId) → IsKept (format_of n.fixed) n → is_neighbour n v ≡ true
-    → IsHead (next_head (link_in n v) n.fixed.topology.version n.fixed.topology.format)
+head_fits : (n : NodeState) (v : NodeId) → IsKept (format_of n.fixed) n → is_neighbour n v ≡ true → IsHead (head_to n v)
 head_fits n v kept is =
     let h = found (LinkHolds n.calls) (is_link v) (new_link n.fixed.me v 0 []) n.links is kept.links in
     let calls = kept.calls in
@@ -310,21 +320,38 @@ head_fits n v kept is =
       boot = h.boot;
       echo = h.peer_boot;
       counter = omega (arith, sent, calls);
-      topology = kept.fixed.topology.ranges.version;
+      topology = kept.live.version;
     }
+
+-- each of the three kinds has room
+contents_len : (n : NodeState) (v : NodeId) → IsKept (format_of n.fixed) n → n.fixed.signature_len ≤ most_signature
+    → length (sections_bytes_in n.fixed.topology.format (contents_at n v)) ≤ most_sections
+contents_len n v kept small = go (is_behind n v) (is_shut_to n v) (frames_fit (format_of n.fixed) n v kept)
+  where
+    plain : (s : Contents) → IsPlain s → IsContentsIn n.fixed.topology.format n.fixed.signature_len s
+        → length (sections_bytes_in n.fixed.topology.format s) ≤ most_sections
+    plain s = sections_len n.fixed.topology.format n.fixed.signature_len small s
+
+    go : (behind shut : Bool)
+        → IsContentsIn n.fixed.topology.format n.fixed.signature_len
+        (if behind then with_document n.live.document else if shut then no_contents else contents_to n.fixed n.parts v)
+        → length (sections_bytes_in n.fixed.topology.format
+        (if behind then with_document n.live.document else if shut then no_contents else contents_to n.fixed n.parts v)) ≤ most_sections
+    go true shut fits = document_len n.fixed.topology.format n.live.document kept.live.document.1
+    go false true fits = plain no_contents (record { document = refl; paths = refl; probe = refl }) fits
+    go false false fits = plain (contents_to n.fixed n.parts v) (record { document = refl; paths = refl; probe = refl }) fits
 
 pub polled_is_read_back : PolledIsReadBack
 polled_is_read_back n v kept small is =
     let l = link_in n v in
-    let h = next_head l n.fixed.topology.version n.fixed.topology.format in
-    let s = contents_to n.fixed n.parts v in
+    let h = head_to n v in
+    let s = contents_at n v in
     let inner = head_bytes h ++ sections_bytes_in h.format s in
     let tag = hmac l.key inner in
     let long = tag_len l.key inner in
     let whole : length (inner ++ tag) ≡ length inner + length tag = length-append inner tag in
     let signed : tagged_part (inner ++ tag) ≡ inner = take_at inner tag (length (inner ++ tag) - 32) (omega (arith, whole, long)) in
     let behind : tag_part (inner ++ tag) ≡ tag = drop_at inner tag (length (inner ++ tag) - 32) (omega (arith, whole, long)) in (
-      read_back n.fixed.signature_len h s tag small (head_fits n v kept is) (record { document = refl; paths = refl; probe = refl })
-          (frames_fit (format_of n.fixed) n v kept) long,
+      read_back n.fixed.signature_len h s tag (contents_len n v kept small) (head_fits n v kept is) (frames_fit (format_of n.fixed) n v kept) long,
       ap₂ (λ (a b : List ℕ). pointwise nat_eq a (hmac l.key b)) behind signed ∙ same_bytes tag,
     )

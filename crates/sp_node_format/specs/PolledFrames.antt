@@ -6,9 +6,8 @@ use Rattle.sp_frame.specs.Frames.{head_of, opened_in, sections_part}
 use Rattle.sp_frame.specs.Sections.{Contents, sections_of_in}
 use Rattle.sp_frame.specs.declared.head.Head.{Head}
 use Rattle.sp_rules.specs.Arts.{is_right}
-use Rattle.sp_rules.specs.Link.{next_head}
 use Rattle.sp_rules.specs.Node.{NodeState, is_neighbour, link_in}
-use Rattle.sp_rules.specs.Polls.{contents_to, frame_to}
+use Rattle.sp_rules.specs.Polls.{contents_at, frame_to, head_to}
 use Rattle.sp_hss.specs.KeyTree.{signature_len}
 use Rattle.sp_sign.specs.Heights.{param_of}
 use Rattle.sp_topology.specs.declared.topology.LmsHeight.{LmsHeight}
@@ -27,10 +26,9 @@ most_signature = 5076
 abbrev pub SignaturesAreShort : Type 0
 SignaturesAreShort = (height : LmsHeight) → signature_len (param_of height) ≤ most_signature
 
--- whatever a node keeps, and whatever it says to a neighbour
+-- whatever a node keeps, and whatever it says to a neighbour: what is in turn, a document, or nothing
 abbrev pub PolledIsReadBack : Type 0
 PolledIsReadBack = (n : NodeState) (v : NodeId) → IsKept (format_of n.fixed) n → n.fixed.signature_len ≤ most_signature → is_neighbour n v ≡ true
     → let bytes = frame_to (format_of n.fixed) n v in
-    let t = n.fixed.topology in
-    Reads t.format bytes n.fixed.signature_len (next_head (link_in n v) t.version t.format) (contents_to n.fixed n.parts v)
+    Reads n.fixed.topology.format bytes n.fixed.signature_len (head_to n v) (contents_at n v)
     × (is_right (format_of n.fixed) (link_in n v).key bytes ≡ true)

@@ -1,15 +1,19 @@
 // The parts of a node in memory.
-ghost use Rattle.std.specs.Prelude.{◌≡◌, ◌≤◌, IfOk, None as Nothing, false, length, map, replicate};
-ghost use Rattle.sp_rules.specs.Parts.{as_neighbour, empty_parts};
+ghost use Rattle.std.specs.Prelude.{◌≡◌, ◌≤◌, IfOk, IfSome, None as Nothing, length, map, replicate};
+ghost use Rattle.sp_node_parts.specs.Closing.{bare_fixed, closing_room, withdrawn_of};
+ghost use Rattle.sp_rules.specs.Parts.{as_neighbour, bare_parts, closed, closed_effects, empty_parts};
 ghost use Rattle.sp_rules.specs.Prio as prio;
 ghost use Rattle.sp_rules.specs.Rel as rel;
 ghost use Rattle.sp_rules.specs.Weights as weights;
 ghost use Rattle.sp_rules.specs.declared.store.TheConstants.{IDS};
 ghost use Rattle.sp_rules.specs.Lives as lives;
+ghost use Rattle.sp_rules.specs.Told.{told};
 ghost use Rattle.sp_topology.specs.Ranges.{IsTopology};
 
+use crate::withdrawn::Withdrawn;
 use sp_base::{EdgeId, Limits, Memory, NodeId};
 use sp_lives::{Lives, Origins};
+use sp_msg::Effects;
 use sp_prio::{Neighbour, PrioTable};
 use sp_rel::RelTable;
 use sp_topology::{NodeKey, Topology};
@@ -36,17 +40,59 @@ impl Model for Parts {
 }
 
 impl Parts {
-    /// The parts of a node under a topology, with nothing in them: room for `limits.buffer` messages of each flow and `limits.store` entries of
-    /// each store. It is refused for want of memory alone.
+    /// The parts of a node under a topology that withdraws this, with nothing in them: room for `limits.buffer` messages of each flow and `limits.store`
+    /// entries of each store. It is refused for want of memory alone.
     pub fn new(
         alloc: Global,
         me: NodeId,
         topology: &Topology,
+        withdrawn: &Withdrawn,
         limits: Limits,
     ) -> Result<Parts, Memory>
+        requires topology { IsTopology topology.now }
+        requires withdrawn { withdrawn.now ≡ withdrawn_of topology.now }
+        ensures { IfOk result (λ parts. parts ≡ empty_parts (bare_fixed me topology.now) limits.buffer limits.store) }
+    {
+        let mut parts = Parts::bare(alloc, me, topology, limits)?;
+        let Ok(mut effects) = Effects::with_room(alloc, 0) else {
+            drop(parts);
+            return Err(Memory);
+        };
+        parts.close(topology, withdrawn, &mut effects);
+        Ok(parts)
+    }
+
+    /// How many effects a version of the topology has at most: one for each entry that is stored, and one for each active flow. None where no number of
+    /// the machine's is so great.
+    pub fn closing_room(&self) -> Option<usize>
+        ensures { IfSome result (λ room. room ≡ closing_room self.now) }
+    {
+        self.prio.held().checked_add(self.rel.active())
+    }
+
+    /// From now on the topology is this one, with the same edges and nodes, and withdraws this: what waited for withdrawn edges leaves, and flows with a
+    /// removed end end. Each is told. It takes no memory.
+    pub fn close(&mut self, topology: &Topology, withdrawn: &Withdrawn, out: &mut Effects)
+        requires withdrawn { withdrawn.now ≡ withdrawn_of topology.now }
+        requires edges { length topology.now.edges ≡ length self.old.weights.edges }
+        requires nodes { (length topology.now.nodes ≡ length self.old.prio.nodes) × (length topology.now.nodes ≡ length self.old.rel.nodes) }
+        requires room { closing_room self.old ≤ out.old.room }
+        ensures parts { self.new ≡ closed self.old withdrawn.now.weights withdrawn.now.removed }
+        ensures told { out.new ≡ told out.old (closed_effects self.old withdrawn.now.weights withdrawn.now.removed) }
+    {
+        self.weights.replace(topology);
+        self.prio.withdraw(
+            withdrawn.weights.as_slice(),
+            withdrawn.removed.as_slice(),
+            out,
+        );
+        self.rel.end(withdrawn.removed.as_slice(), out);
+    }
+
+    /// The parts before anything is withdrawn.
+    fn bare(alloc: Global, me: NodeId, topology: &Topology, limits: Limits) -> Result<Parts, Memory>
         requires { IsTopology topology.now }
-        ensures { IfOk result (λ parts. parts
-            ≡ empty_parts (record { me = me; boot = 0; topology = topology.now; signature_len = 0; epochs = false }) limits.buffer limits.store) }
+        ensures { IfOk result (λ parts. parts ≡ bare_parts (bare_fixed me topology.now) limits.buffer limits.store) }
     {
         let Ok(joined) = topology.neighbours(alloc, me) else {
             return Err(Memory);

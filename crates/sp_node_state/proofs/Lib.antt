@@ -5,6 +5,7 @@ pub mod Starts
 pub mod Started
 pub mod Ends
 pub mod InEffect
+pub mod Published
 pub mod Sent
 pub mod Urgent
 pub mod Spares

@@ -1,6 +1,7 @@
 -- A node that starts keeps what every step keeps.
 use Rattle.std.proofs.Common.{◌≡◌, ◌<◌, ◌^◌, ℕ, ◌==◌, Bool, true, false, List, [], ◌∷◌, map, Some, refl, sym, ap, arith, cond}
 use Rattle.std.proofs.lemmas.Bool.Decides.{nat_tests}
+use Rattle.sp_base.specs.Spelling.{AreBytes}
 use Rattle.sp_base.specs.declared.id.EdgeId.{EdgeId}
 use Rattle.sp_base.specs.declared.id.NodeId.{NodeId}
 use Rattle.sp_hss.specs.KeyTree.{signature_len}
@@ -37,29 +38,30 @@ short : (h : LmsHeight) → signature_len (param_of h) < 65536
 short Five = omega arith
 short Ten = omega arith
 
-boots : (c : NodeConfig) (own : NodeSigner) (boot : ℕ) → boot < 2 ^ 64 → IsBootable c own boot → SignerHolds (signer_in own)
+boots : (c : NodeConfig) (own : NodeSigner) (boot : ℕ) → boot < 2 ^ 64 → AreBytes c.document → IsBootable c own boot → SignerHolds (signer_in own)
     → Boots (fixed_of c boot) (signer_in own)
-boots c own boot small is holds = record {
+boots c own boot small bytes is holds = record {
   me = found_in c.topology.format c.topology.height 0 c.topology.nodes c.me _ is.topology.ranges.nodes is.is_mine;
   boot = small;
   topology = is.topology;
   short = short c.topology.height;
+  document = (bytes, is.short);
   signer = holds;
 }
 
 -- before it says anything
-pub booted_kept : (c : NodeConfig) (own : NodeSigner) (boot : ℕ) → boot < 2 ^ 64 → IsBootable c own boot → SignerHolds (signer_in own)
+pub booted_kept : (c : NodeConfig) (own : NodeSigner) (boot : ℕ) → boot < 2 ^ 64 → AreBytes c.document → IsBootable c own boot → SignerHolds (signer_in own)
     → IsKept (format_of (fixed_of c boot)) (booted_of c own boot)
-booted_kept c own boot small is holds =
+booted_kept c own boot small bytes is holds =
     boot_keeps (format_of (fixed_of c boot)) (fixed_of c boot) (signer_in own) (map (λ (k : EdgeId × List ℕ). k.1) c.keys) c.limits.buffer c.limits.store
-    (boots c own boot small is holds)
+    (boots c own boot small bytes is holds)
 
 -- and after its start
-pub started_kept : (c : NodeConfig) (own : NodeSigner) (boot : ℕ) → boot < 2 ^ 64 → IsBootable c own boot → SignerHolds (signer_in own)
+pub started_kept : (c : NodeConfig) (own : NodeSigner) (boot : ℕ) → boot < 2 ^ 64 → AreBytes c.document → IsBootable c own boot → SignerHolds (signer_in own)
     → IsKept (format_of (fixed_of c boot)) (started_of c own boot)
-started_kept c own boot small is holds =
+started_kept c own boot small bytes is holds =
     start_keeps (format_of (fixed_of c boot)) (fixed_of c boot) (signer_in own) (map (λ (k : EdgeId × List ℕ). k.1) c.keys) c.limits.buffer c.limits.store
-    (boots c own boot small is holds)
+    (boots c own boot small bytes is holds)
     (fitted (fixed_of c boot) own (record {
       node = is.node;
       height = is.height;

@@ -16,7 +16,7 @@ use Rattle.sp_rules.specs.declared.node.Step.{Step}
 use Rattle.sp_node_state.specs.Sends.{Sends}
 
 abbrev Chooses : NodeState → PrioSend → Choice → Type 0
-Chooses n m choice = IsChoice (graph_of n.fixed.topology n.parts.weights) n.fixed.me m.dst m.paths choice
+Chooses n m choice = IsChoice n.parts.weights (graph_of n.fixed.topology n.parts.weights) n.fixed.me m.dst m.paths choice
 
 abbrev done : NodeState → PrioSend → Choice → NodeState
 done n m choice = signed_once n (record n.parts { prio = admit_prio n.parts.prio (own_prio (format_of n.fixed) n m choice) None })

@@ -1,5 +1,7 @@
 pub mod Boots
 pub mod States
+-- ---- what the administrator publishes
+pub mod Publications
 -- ---- what a client sends
 pub mod Sends
 -- ---- what the calls of a node use of each other's proofs

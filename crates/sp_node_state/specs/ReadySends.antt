@@ -38,8 +38,8 @@ pub record IsReadyUpdate (n : NodeState) (ready : ReadyUpdate) : Type 0 where
 
 -- how the search for its edges ends: with those of a choice that the rules leave, with fewer paths, or for want of memory
 abbrev pub IsMaskFor : NodeState → PrioSend → Result EdgeSet SendRefused → Type 0
-IsMaskFor n m (Ok mask) = IsChoice (graph_of n.fixed.topology n.parts.weights) n.fixed.me m.dst m.paths (Mask (bits mask))
-IsMaskFor n m (Err (refusals.NoPaths found)) = IsChoice (graph_of n.fixed.topology n.parts.weights) n.fixed.me m.dst m.paths (OnlyPaths found)
+IsMaskFor n m (Ok mask) = IsChoice n.parts.weights (graph_of n.fixed.topology n.parts.weights) n.fixed.me m.dst m.paths (Mask (bits mask))
+IsMaskFor n m (Err (refusals.NoPaths found)) = IsChoice n.parts.weights (graph_of n.fixed.topology n.parts.weights) n.fixed.me m.dst m.paths (OnlyPaths found)
 IsMaskFor n m (Err refused) = refused ≡ refusals.Memory
 
 pub record IsReadyPrio (n : NodeState) (ready : ReadyPrio) : Type 0 where

@@ -4,8 +4,9 @@ use Rattle.sp_base.specs.declared.id.NodeId.{NodeId}
 use Rattle.sp_hss.specs.KeyTree.{public_key, signature_len, total}
 use Rattle.sp_rules.specs.Link.{Link}
 use Rattle.sp_rules.specs.Node.{NodeState, Signer}
-use Rattle.sp_rules.specs.Parts.{Fixed, Parts}
+use Rattle.sp_rules.specs.Parts.{Fixed, Parts, nodes_of}
 use Rattle.sp_rules.specs.Prio.{is_node}
+use Rattle.sp_rules.specs.Versions.{Heard, Live}
 use Rattle.sp_sign.specs.Heights.{param_of}
 use Rattle.sp_sign.specs.NodeSigner.{NodeSigner}
 use Rattle.sp_topology.specs.Keys.{key_of}
@@ -14,8 +15,17 @@ use Rattle.sp_topology.specs.Keys.{key_of}
 abbrev pub signer_in : NodeSigner → Signer
 signer_in own = record { seed = own.signer.seed; index = own.signer.index; bound = own.signer.bound; total = total own.signer.height }
 
-abbrev pub state_of : Fixed → (now calls : ℕ) → List Link → NodeSigner → Parts → NodeState
-state_of f now calls links own parts = record { fixed = f; now = now; calls = calls; links = links; signer = signer_in own; parts = parts }
+abbrev pub state_of : Fixed → Live → List Heard → (now calls : ℕ) → List Link → NodeSigner → Parts → NodeState
+state_of f live heard now calls links own parts = record {
+  fixed = f;
+  live = live;
+  heard = heard;
+  now = now;
+  calls = calls;
+  links = links;
+  signer = signer_in own;
+  parts = parts;
+}
 
 -- the signer is this node's, with the key that the topology has for it
 pub record IsFitted (f : Fixed) (own : NodeSigner) : Type 0 where
@@ -24,6 +34,6 @@ pub record IsFitted (f : Fixed) (own : NodeSigner) : Type 0 where
   pub signature_len : f.signature_len ≡ signature_len own.signer.height
   pub is_mine : key_of f.me.0 f.topology.nodes ≡ Some (public_key own.signer.height own.signer.seed)
 
--- another node of the overlay
+-- another node of the overlay, also one that is removed
 abbrev pub is_other : NodeState → NodeId → Bool
-is_other n v = not (v.0 == n.fixed.me.0) && is_node n.parts.prio.nodes v.0
+is_other n v = not (v.0 == n.fixed.me.0) && is_node (nodes_of n.fixed.topology) v.0

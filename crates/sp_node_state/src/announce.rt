@@ -1,6 +1,7 @@
 // A life of a node begins: with epochs it signs an Epoch object, which says its boot to all, and holds it.
 ghost use Rattle.std.specs.Prelude.{◌≡◌, [], ◌∷◌, IfErr, IfOk, OnErr, if◌then◌else◌, true};
 ghost use Rattle.laws_node.specs.Nodes.{IsKept, SignerHolds};
+ghost use Rattle.sp_base.specs.Spelling.{AreBytes};
 ghost use Rattle.sp_node_format.specs.Format.{format_of};
 ghost use Rattle.sp_node_state.specs.Boots.{Announces, IsBootable, started_of, told_at_start};
 ghost use Rattle.sp_rules.specs.Node.{announced, own_epoch, start_effects};
@@ -25,6 +26,7 @@ impl State {
         requires { IsBootable config signer boot }
         ensures state { IfOk result (λ step. step.reply ≡ started_of config signer boot) }
         ensures signer { IfOk result (λ step. SignerHolds step.reply.signer) }
+        ensures document { IfOk result (λ step. AreBytes step.reply.live.document) }
         ensures told { IfOk result (λ step. step.effects.list ≡ told_at_start config boot) }
         ensures memory { IfErr result (λ refused. refused ≡ NodeRefused.Memory) }
     {

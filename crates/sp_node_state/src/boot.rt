@@ -1,7 +1,8 @@
 // What a node is made of at the start of one of its lives.
 ghost use Rattle.std.specs.Prelude.{◌≡◌, ◌<◌, ◌^◌, ◌↔◌, IfErr, IfOk, IsTrue, Some as There, length, map, zip};
 ghost use Rattle.laws_node.specs.Nodes.{SignerHolds};
-ghost use Rattle.sp_node_state.specs.Boots.{Announces, IsBootable, booted_of};
+ghost use Rattle.sp_base.specs.Spelling.{AreBytes};
+ghost use Rattle.sp_node_state.specs.Boots.{Announces, IsBootable, Says, booted_of};
 ghost use Rattle.sp_node_state.specs.States.{signer_in};
 ghost use Rattle.sp_rules.specs.Link.{new_link};
 ghost use Rattle.sp_rules.specs.Parts.{neighbours_of};
@@ -9,26 +10,31 @@ ghost use Rattle.sp_sign.specs.Heights.{param_of};
 ghost use Rattle.sp_topology.specs.Keys.{key_of};
 ghost use Rattle.sp_topology.specs.Neighbours.{neighbours_from};
 ghost use Rattle.sp_rules.specs.Topologies.{IsRunnable};
+ghost use Rattle.sp_rules.specs.Versions.{none_heard};
 ghost use Rattle.sp_topology.specs.Ranges.{IsTopology};
 
 use crate::state::State;
-use sp_base::{EdgeId, FORMAT_2, Limits, Listed, Memory, NodeId};
+use sp_base::{Bytes, EdgeId, FORMAT_2, Limits, Listed, Memory, NodeId};
+use sp_frame::MAX_DOCUMENT_BYTES;
 use sp_link::Link;
-use sp_node_parts::{Fixed, Parts};
+use sp_node_parts::{Fixed, Heard, Live, Parts, Withdrawn};
 use sp_rules::NodeRefused;
 use sp_sign::{NodeSigner, param_of};
 use sp_topology::{Edge, LmsHeight, Topology};
 use std::alloc::Global;
 use std::fmt;
 
-/// Who the node is, the topology that it runs under, how much it keeps, the key that it shares with the neighbour at each of its edges,
-/// ascending by edge, and whether nodes run with epochs: a node may then start again, and says so to all others. A debug line says no key.
+/// Who the node is, the topology that it boots with and the document that says so with whatever signature, how much it keeps, the key that it shares with the
+/// neighbour at each of its edges, ascending by edge, the administrator's key, and whether nodes run with epochs: a node may then start again, and says so to
+/// all others. A debug line says no key.
 #[derive(Drop)]
 pub struct NodeConfig {
     pub me: NodeId,
     pub topology: Topology,
+    pub document: Bytes,
     pub limits: Limits,
     pub keys: Listed<(EdgeId, [u8; 32])>,
+    pub admin: [u8; 60],
     pub epochs: bool,
 }
 
@@ -42,14 +48,16 @@ impl fmt::Debug for NodeConfig {
     }
 }
 
-/// Whether a node may start a life with these: what `Node::boot` asks for. It takes no memory.
+/// Whether a node may start a life with these, where the document says the topology: what `Node::boot` asks for. It takes no memory.
 #[tactic(auto, using(sp_base::proofs::FormatLemmas::few_edges))]
 pub fn can_boot(config: &NodeConfig, signer: &NodeSigner, boot: u64) -> bool
-    requires { IsRunnable config.now.topology }
+    requires topology { IsRunnable config.now.topology }
+    requires document { Says config.now.document config.now.topology }
     ensures { IsTrue result ↔ IsBootable config.now signer.now boot }
 {
     let topology = &config.topology;
     boot >= 1
+        && config.document.as_slice().len() <= MAX_DOCUMENT_BYTES
         && signer.node() == config.me
         && has_height(signer, topology.height)
         && has_key(topology, config.me, &signer.public())
@@ -115,27 +123,38 @@ impl State {
         requires { IsBootable config signer boot }
         ensures state { IfOk result (λ state. state ≡ booted_of config signer boot) }
         ensures signer { IfOk result (λ state. SignerHolds state.signer) }
+        ensures document { IfOk result (λ state. AreBytes state.live.document) }
         ensures memory { IfErr result (λ refused. refused ≡ NodeRefused.Memory) }
     {
         let NodeConfig {
             me,
             topology,
+            document,
             limits,
             keys,
+            admin,
             epochs,
         } = config;
         let fixed = Fixed {
             me,
             boot,
             topology,
+            document,
             signature_len: signer.signature_len(),
+            admin,
             epochs,
         };
+        recall_bytes(fixed.document.as_slice());
+        let heard = heard_of(alloc, &fixed)?;
         let links = links_of(alloc, &fixed, keys.as_slice())?;
-        let core = Parts::new(alloc, me, &fixed.topology, limits)?;
+        let withdrawn = Withdrawn::of(alloc, &fixed.topology)?;
+        let live = live_of(alloc, &fixed, &withdrawn)?;
+        let core = Parts::new(alloc, me, &fixed.topology, &withdrawn, limits)?;
         let _reserved = (signer.index(), signer.bound());
         Ok(State {
             fixed,
+            live,
+            heard,
             now: 0,
             calls: 0,
             links,
@@ -143,6 +162,53 @@ impl State {
             core,
         })
     }
+}
+
+/// For the prover alone, it does nothing when it runs: these are bytes.
+fn recall_bytes(bytes: &[u8])
+    ensures { AreBytes bytes.now }
+{
+    let _count = bytes.len();
+}
+
+/// Of each neighbour nothing was heard.
+fn heard_of(alloc: Global, fixed: &Fixed) -> Result<Vec<Heard>, Memory>
+    requires { IsTopology fixed.now.topology }
+    ensures { IfOk result (λ heard. heard.items ≡ map (λ n. none_heard n.0) (neighbours_of fixed.now)) }
+{
+    let Ok(neighbours) = fixed.topology.neighbours(alloc, fixed.me) else {
+        return Err(Memory);
+    };
+    unheard(alloc, &neighbours)
+}
+
+/// Of each of these nothing was heard.
+fn unheard(alloc: Global, neighbours: &[(NodeId, EdgeId)]) -> Result<Vec<Heard>, Memory>
+    ensures { IfOk result (λ heard. heard.items ≡ map (λ n. none_heard n.0) neighbours.now) }
+{
+    let heard = neighbours
+        .iter()
+        .map(|neighbour| Heard {
+            peer: neighbour.0,
+            version: 0,
+        })
+        .collect(alloc)?;
+    Ok(heard)
+}
+
+/// The version that a node boots with.
+fn live_of(alloc: Global, fixed: &Fixed, withdrawn: &Withdrawn) -> Result<Live, Memory>
+    ensures { IfOk result (λ live. live ≡ record {
+      version = fixed.now.topology.version;
+      weights = withdrawn.now.weights;
+      document = fixed.now.document;
+    }) }
+{
+    Ok(Live {
+        version: fixed.topology.version,
+        weights: Listed::from_vec(Vec::from_slice(alloc, withdrawn.weights.as_slice())?),
+        document: Bytes::copy(alloc, fixed.document.as_slice())?,
+    })
 }
 
 /// A link to each neighbour, with the key of the edge to it.

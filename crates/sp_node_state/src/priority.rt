@@ -1,8 +1,9 @@
 // A client sends a priority message.
-ghost use Rattle.std.specs.Prelude.{ℕ, ◌≡◌, ◌≢◌, ◌≤◌, ◌<◌, ◌+◌, ◌*◌, ◌^◌, All, IfErr, IfOk, None as Nothing, Some as There, Ok, ◌∷◌, length, true};
+ghost use Rattle.std.specs.Prelude.{ℕ, ◌≡◌, ◌≢◌, ◌≤◌, ◌<◌, ◌+◌, ◌*◌, ◌^◌, ◌==◌, ◌&&◌, not, All, IfErr, IfOk, None as Nothing, Some as There, Ok, ◌∷◌, length, true};
 ghost use Rattle.sp_base.specs.declared.limits.TheConstants.{MAX_WEIGHT};
 ghost use Rattle.laws_node.specs.Inputs.{PrioSendFits};
 ghost use Rattle.laws_node.specs.Nodes.{IsKept};
+ghost use Rattle.laws_node.specs.Withdrawals.{Obeys};
 ghost use Rattle.sp_node_format.specs.Format.{format_of};
 ghost use Rattle.sp_routes.specs.Fewer.{SaysFewer};
 ghost use Rattle.sp_msg.specs.Masks.{bits};
@@ -14,7 +15,7 @@ ghost use Rattle.sp_prio.specs.Spare.{IsSpareFor};
 ghost use Rattle.sp_rules.specs.Masks.{IsChoice, Mask as Over, graph_of};
 ghost use Rattle.sp_rules.specs.Node.{signed_now, signed_once};
 ghost use Rattle.sp_rules.specs.Parts.{nodes_of};
-ghost use Rattle.sp_rules.specs.Prio.{admit_prio, is_node, places, prio_effects};
+ghost use Rattle.sp_rules.specs.Prio.{admit_prio, is_node, is_there, places, prio_effects};
 ghost use Rattle.sp_rules.specs.Sends.{prio_body, prio_refusal, signed_effect};
 ghost use Rattle.sp_rules.specs.Steps.{SendPrio};
 ghost use Rattle.sp_rules.specs.Told.{told};
@@ -23,7 +24,7 @@ ghost use Rattle.sp_rules.specs.Changes.{FitsAFormat};
 ghost use Rattle.sp_rules.specs.Topologies.{IsRunnable};
 
 use crate::State;
-use sp_base::{Bytes, Memory};
+use sp_base::{Bytes, Memory, NodeId};
 use sp_msg::{Body, Effect, Effects, Kept, Mask, Prio, SendRefused};
 use sp_node_parts::{Fixed, Parts};
 use sp_prio::Spare;
@@ -49,6 +50,7 @@ pub fn send_prio(
     message: &PrioSend<'_>,
 ) -> Result<Step<u64>, SendRefused>
     requires kept { IsKept (format_of state.old.fixed) state.old }
+    requires obeys { Obeys state.old }
     requires fits { PrioSendFits (as_send message.now) }
     requires few { message.now.paths ≤ MAX_PATHS }
     ensures { Sends (SendPrio (as_send message.now)) (prio_refusal state.old (as_send message.now)) state.old result state.new }
@@ -72,7 +74,7 @@ fn may_send(state: &State, message: &PrioSend<'_>) -> Result<(), SendRefused>
     ensures refused { IfErr result (λ refused. prio_refusal state.entry.now (as_send message.now) ≡ There refused) }
     ensures no_want { result ≢ Err SendRefused.Memory }
 {
-    if !state.is_other(message.dst) || state.is_unmet(message.dst) {
+    if !are_ends(state, message.dst) || state.is_unmet(message.dst) {
         return Err(SendRefused::BadEnd);
     }
     if message.expiry < state.now {
@@ -84,6 +86,14 @@ fn may_send(state: &State, message: &PrioSend<'_>) -> Result<(), SendRefused>
     }
 }
 
+/// Whether this is another node, and neither it nor this one is removed.
+fn are_ends(state: &State, dst: NodeId) -> bool
+    ensures { result ≡ (not (dst.0 == state.entry.now.fixed.me.0) && is_there state.entry.now.parts.prio dst.0 && is_there state.entry.now.parts.prio state.entry.now.fixed.me.0) }
+{
+    let prio = &state.core.prio;
+    dst.0 != state.fixed.me.0 && prio.is_there(dst) && prio.is_there(state.fixed.me)
+}
+
 /// The edges that the message takes.
 fn mask_for(
     state: &State,
@@ -92,6 +102,7 @@ fn mask_for(
     message: &PrioSend<'_>,
 ) -> Result<Mask, SendRefused>
     requires kept { IsKept (format_of state.now.fixed) state.now }
+    requires obeys { Obeys state.now }
     requires few { message.now.paths ≤ MAX_PATHS }
     requires free { prio_refusal state.now (as_send message.now) ≡ Nothing }
     ensures { IsMaskFor state.entry.now (as_send message.now) result }
@@ -194,7 +205,7 @@ fn choose(
     requires to { is_node (nodes_of fixed.now.topology) message.now.dst.0 ≡ true }
     requires other { fixed.now.me ≢ message.now.dst }
     requires few { message.now.paths ≤ MAX_PATHS }
-    ensures mask { IfOk result (λ mask. IsChoice (graph_of fixed.now.topology core.now.weights) fixed.now.me message.now.dst message.now.paths (Over (bits mask))) }
+    ensures mask { IfOk result (λ mask. IsChoice core.now.weights (graph_of fixed.now.topology core.now.weights) fixed.now.me message.now.dst message.now.paths (Over (bits mask))) }
     ensures fewer { IfErr result (SaysFewer (graph_of fixed.now.topology core.now.weights) fixed.now.me message.now.dst message.now.paths) }
 {
     mask_to(

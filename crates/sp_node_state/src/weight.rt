@@ -63,7 +63,11 @@ fn edge_for(state: &State, peer: NodeId, weight: u32) -> Result<EdgeId, SendRefu
     let Some(edge) = topology.edge_of(state.fixed.me, peer) else {
         return Err(SendRefused::BadEnd);
     };
-    let min = topology.edges.as_slice()[edge.0 as usize].weight;
+    let weights = &state.core.weights;
+    if weights.is_withdrawn(edge) {
+        return Err(SendRefused::BadEnd);
+    }
+    let min = weights.minimum(edge);
     if weight < min {
         return Err(SendRefused::Low { min });
     }

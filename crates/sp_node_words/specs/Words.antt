@@ -6,6 +6,8 @@ use Rattle.sp_msg.specs.declared.refused.SendRefused.{SendRefused}
 use Rattle.sp_msg.specs.declared.refused.SendRefused.TheVariants as refusals
 use Rattle.sp_rules.specs.declared.answers.AckAnswer.{AckAnswer}
 use Rattle.sp_rules.specs.declared.answers.AckAnswer.TheVariants as acks
+use Rattle.sp_rules.specs.declared.answers.DocumentAnswer.{DocumentAnswer}
+use Rattle.sp_rules.specs.declared.answers.DocumentAnswer.TheVariants as documents
 use Rattle.sp_rules.specs.declared.answers.EpochAnswer.{EpochAnswer}
 use Rattle.sp_rules.specs.declared.answers.EpochAnswer.TheVariants as epochs
 use Rattle.sp_rules.specs.declared.answers.Item.{Item}
@@ -52,6 +54,7 @@ link_word (links.Learned boot) = link_words.Learned boot
 link_word (links.Stale boot counter) = link_words.Stale boot counter
 link_word (links.OtherTopology theirs) = link_words.Topology theirs
 link_word (links.Section refused) = link_words.Section (section_word refused)
+link_word links.Withdrawn = link_words.Withdrawn
 link_word links.Fresh = link_words.Fresh
 
 -- the answer to an update of a weight
@@ -99,6 +102,14 @@ epoch_word epochs.Old = answers.Old
 epoch_word epochs.BadSig = answers.BadSig
 epoch_word epochs.New = answers.New
 
+-- the answer to a document
+abbrev pub document_word : DocumentAnswer → AnswerWord
+document_word documents.Bad = answers.Bad
+document_word (documents.Old held) = answers.Old
+document_word documents.BadSig = answers.BadSig
+document_word documents.Strange = answers.Strange
+document_word (documents.Adopted version) = answers.New
+
 -- the kind of an object and its answer
 abbrev pub item_word : Item → ItemWord
 item_word (items.Weight answer) = item_words.Weight (weight_word answer)
@@ -106,6 +117,7 @@ item_word (items.Prio answer) = item_words.Prio (prio_word answer)
 item_word (items.Ack answer) = item_words.Ack (ack_word answer)
 item_word (items.Rel answer) = item_words.Rel (rel_word answer)
 item_word (items.Epoch answer) = item_words.Epoch (epoch_word answer)
+item_word (items.Document answer) = item_words.Document (document_word answer)
 
 -- ---- the other calls. None for an answer that no event of a schedule gets
 

@@ -1,6 +1,6 @@
 // The words of a journal for what a node answered.
 ghost use Rattle.std.specs.Prelude.{◌≡◌, ◌≤◌, [], None as Nothing, Some as There, length, map, vec_capacity};
-ghost use Rattle.sp_node_words.specs.Words.{ack_word, epoch_word, item_word, link_word, prio_word};
+ghost use Rattle.sp_node_words.specs.Words.{ack_word, document_word, epoch_word, item_word, link_word, prio_word};
 ghost use Rattle.sp_node_words.specs.Words.{refused_word, rel_word, section_word, tick_word, weight_word};
 
 use sp_base::{Listed, push_in_room};
@@ -8,7 +8,8 @@ use sp_frame::SectionRefused;
 use sp_journal::{AnswerWord, ItemWord, LinkWord, Reply, SectionWord};
 use sp_msg::SendRefused;
 use sp_rules::{
-    AckAnswer, EpochAnswer, Item, LinkReply, PrioAnswer, RelAnswer, TickReply, WeightAnswer,
+    AckAnswer, DocumentAnswer, EpochAnswer, Item, LinkReply, PrioAnswer, RelAnswer, TickReply,
+    WeightAnswer,
 };
 
 fn section_word(refused: SectionRefused) -> SectionWord
@@ -39,6 +40,7 @@ pub fn link_word(link: LinkReply) -> LinkWord
         LinkReply::Stale { boot, counter } => LinkWord::Stale { boot, counter },
         LinkReply::OtherTopology { theirs } => LinkWord::Topology { theirs },
         LinkReply::Section(refused) => LinkWord::Section(section_word(refused)),
+        LinkReply::Withdrawn => LinkWord::Withdrawn,
         LinkReply::Fresh => LinkWord::Fresh,
     }
 }
@@ -52,6 +54,7 @@ pub fn item_word(item: Item) -> ItemWord
         Item::Ack(answer) => ItemWord::Ack(ack_word(answer)),
         Item::Rel(answer) => ItemWord::Rel(rel_word(answer)),
         Item::Epoch(answer) => ItemWord::Epoch(epoch_word(answer)),
+        Item::Document(answer) => ItemWord::Document(document_word(answer)),
     }
 }
 
@@ -117,6 +120,18 @@ fn epoch_word(answer: EpochAnswer) -> AnswerWord
         EpochAnswer::Old => AnswerWord::Old,
         EpochAnswer::BadSig => AnswerWord::BadSig,
         EpochAnswer::New => AnswerWord::New,
+    }
+}
+
+fn document_word(answer: DocumentAnswer) -> AnswerWord
+    ensures { result ≡ document_word answer }
+{
+    match answer {
+        DocumentAnswer::Bad => AnswerWord::Bad,
+        DocumentAnswer::Old { .. } => AnswerWord::Old,
+        DocumentAnswer::BadSig => AnswerWord::BadSig,
+        DocumentAnswer::Strange => AnswerWord::Strange,
+        DocumentAnswer::Adopted { .. } => AnswerWord::New,
     }
 }
 

@@ -1,7 +1,7 @@
 -- Effects that are told one after another.
-use Rattle.std.proofs.Common.{◌≡◌, ◌≤◌, ◌<◌, ℕ, suc, ◌+◌, Bool, true, false, List, [], ◌∷◌, ◌++◌, length, map, get_or, drop, Option, Some, None, refl, sym, ap, ◌∙◌, arith, drop-cons, length-append}
+use Rattle.std.proofs.Common.{◌≡◌, ◌≤◌, ◌<◌, ℕ, suc, ◌+◌, Bool, true, false, cond, List, [], ◌∷◌, ◌++◌, length, map, get_or, drop, Option, Some, None, refl, sym, ap, ◌∙◌, arith, drop-cons, length-append}
 use Rattle.std.specs.Prelude.{filter, find, not, sum_by}
-use Rattle.std.proofs.lemmas.List.Sums.{sum_by-cons}
+use Rattle.std.proofs.lemmas.List.Sums.{count_by-le-length, length-filter, sum_by-cons}
 use Rattle.std.proofs.lemmas.List.Concat.{flat_map-cons}
 use Rattle.std.specs.List.{flat_map}
 use Rattle.sp_msg.specs.Caused.{Caused}
@@ -14,10 +14,12 @@ use Rattle.sp_msg.specs.declared.effect.Why.{Why}
 use Rattle.sp_msg.specs.declared.effect.Why.TheVariants as whys
 use Rattle.sp_msg.specs.declared.kept.Kept.{Kept}
 use Rattle.sp_rules.specs.Choices.{less_first}
-use Rattle.sp_rules.specs.PrioPeer.{PrioPeer, expired_effects, given_effects, goes_to, gone, stored}
-use Rattle.sp_rules.specs.Store.{Store, evicted, expired_entries, expired_entry, is_expired, less_expired, less_expired_entry}
+use Rattle.sp_rules.specs.PrioPeer.{PrioPeer, given_effects, goes_to, gone, gone_effects, stored}
+use Rattle.sp_rules.specs.Store.{Store, evicted, leaver, leavers, less_leaver, less_leavers}
 use Rattle.sp_rules.specs.declared.store.Entry.{Entry}
 use Rattle.sp_rules.specs.Told.{told}
+use Rattle.sp_store.specs.Leaving.{leaves}
+use Rattle.sp_store.specs.declared.leaving.Leaving.TheVariants as leavings
 use Rattle.sp_rules.proofs.ToldLemmas.{told_both, told_none}
 
 -- ---- all that pass go, the first of them first
@@ -67,35 +69,61 @@ nothing_less {X} p (y ∷ ys) none = go (p y) refl (nothing_less p ys)
     go true passes rest = absurd (let e : None ≡ Some y = rw passes at none in cc)
     go false fails rest = rw fails (ap (λ (zs : List X). y ∷ zs) (rest (rw fails at none)))
 
--- ---- a store that expires
+-- ---- a store that entries leave
 
 -- one entry went
-pub one_expired : (s new : Store) (now : ℕ) (e : Entry) → Some e ≡ expired_entry s now → new ≡ less_expired_entry s now → expired_entries s now
-    ≡ e ∷ expired_entries new now
-one_expired s new now e is after = pass_first (is_expired now) s.entries e is ∙ ap (λ (t : Store). e ∷ expired_entries t now) (sym after)
+pub one_left : (p : Entry → Bool) (s new : Store) (e : Entry) → Some e ≡ leaver p s → new ≡ less_leaver p s → leavers p s ≡ e ∷ leavers p new
+one_left p s new e is after = pass_first p s.entries e is ∙ ap (λ (t : Store). e ∷ leavers p t) (sym after)
 
-pub others_stay : (s new : Store) (now : ℕ) → new ≡ less_expired_entry s now → less_expired new now ≡ less_expired s now
-others_stay s new now after =
-    ap (λ (t : Store). less_expired t now) after
-    ∙ ap (λ (es : List Entry). let t : Store = record { capacity = s.capacity; last = s.last; entries = es } in t)
-    (fail_stay (is_expired now) s.entries)
+pub others_stay : (p : Entry → Bool) (s new : Store) → new ≡ less_leaver p s → less_leavers p new ≡ less_leavers p s
+others_stay p s new after =
+    ap (λ (t : Store). less_leavers p t) after
+    ∙ ap (λ (es : List Entry). let t : Store = record { capacity = s.capacity; last = s.last; entries = es } in t) (fail_stay p s.entries)
 
-pub told_expired : (c out : Caused) (s new : Store) (place now : ℕ) (e : Entry) → Some e ≡ expired_entry s now → new ≡ less_expired_entry s now →
-    out ≡ told c (effects.Gone place e.id whys.Expired ∷ []) →
-    told out (expired_effects place new now) ≡ told c (expired_effects place s now)
-told_expired c out s new place now e is after tells =
-    ap (λ (d : Caused). told d (expired_effects place new now)) tells ∙ told_both c (effects.Gone place e.id whys.Expired ∷ []) (expired_effects place new now)
-    ∙ ap (λ (es : List Entry). told c (map (λ x. effects.Gone place x.id whys.Expired) es)) (sym (one_expired s new now e is after))
+pub told_left : (p : Entry → Bool) (why : Why) (c out : Caused) (s new : Store) (place : ℕ) (e : Entry) → Some e ≡ leaver p s → new ≡ less_leaver p s
+    → out ≡ told c (effects.Gone place e.id why ∷ [])
+    → told out (gone_effects place why (leavers p new)) ≡ told c (gone_effects place why (leavers p s))
+told_left p why c out s new place e is after tells =
+    ap (λ (d : Caused). told d (gone_effects place why (leavers p new))) tells
+    ∙ told_both c (effects.Gone place e.id why ∷ []) (gone_effects place why (leavers p new))
+    ∙ ap (λ (es : List Entry). told c (gone_effects place why es)) (sym (one_left p s new e is after))
 
 -- none is left
-pub all_expired : (s new : Store) (now : ℕ) → None ≡ expired_entry s now → new ≡ less_expired_entry s now → new ≡ less_expired s now
-all_expired s new now none after =
+pub all_left : (p : Entry → Bool) (s new : Store) → None ≡ leaver p s → new ≡ less_leaver p s → new ≡ less_leavers p s
+all_left p s new none after =
     after ∙ ap (λ (es : List Entry). let t : Store = record { capacity = s.capacity; last = s.last; entries = es } in t)
-    (nothing_less (is_expired now) s.entries none ∙ all_stay (is_expired now) s.entries none)
+    (nothing_less p s.entries none ∙ all_stay p s.entries none)
 
-pub told_all : (c : Caused) (s : Store) (place now : ℕ) → None ≡ expired_entry s now → told c (expired_effects place s now) ≡ c
-told_all c s place now none = ap (λ (es : List Entry). told c (map (λ x. effects.Gone place x.id whys.Expired) es))
-    (none_left (is_expired now) s.entries none) ∙ told_none c
+pub told_all : (p : Entry → Bool) (why : Why) (c : Caused) (s : Store) (place : ℕ) → None ≡ leaver p s → told c (gone_effects place why (leavers p s)) ≡ c
+told_all p why c s place none = ap (λ (es : List Entry). told c (gone_effects place why es)) (none_left p s.entries none) ∙ told_none c
+
+-- ---- who leaves, by two tests that say the same
+
+same_pass : (p q : Entry → Bool) → ((e : Entry) → p e ≡ q e) → (es : List Entry) → filter p es ≡ filter q es
+same_pass p q same [] = refl
+same_pass p q same (e ∷ es) = rw (same e) (ap (λ (rest : List Entry). cond (q e) (e ∷ rest) rest) (same_pass p q same es))
+
+same_fail : (p q : Entry → Bool) → ((e : Entry) → p e ≡ q e) → (es : List Entry) → filter (λ e. not (p e)) es ≡ filter (λ e. not (q e)) es
+same_fail p q same es = same_pass (λ e. not (p e)) (λ e. not (q e)) (λ e. ap not (same e)) es
+
+pub same_leavers : (p q : Entry → Bool) → ((e : Entry) → p e ≡ q e) → (s : Store) → leavers p s ≡ leavers q s
+same_leavers p q same s = same_pass p q same s.entries
+
+pub same_left : (p q : Entry → Bool) → ((e : Entry) → p e ≡ q e) → (s : Store) → less_leavers p s ≡ less_leavers q s
+same_left p q same s =
+    ap (λ (es : List Entry). let t : Store = record { capacity = s.capacity; last = s.last; entries = es } in t) (same_fail p q same s.entries)
+
+-- no more leave than there are
+pub few_leave : (p : Entry → Bool) (s : Store) → length (leavers p s) ≤ length s.entries
+few_leave p s = let counted = length-filter p s.entries in let few = count_by-le-length p s.entries in omega (arith, counted, few)
+
+-- all are counted where all leave
+all_leave : (p : Entry → Bool) → ((e : Entry) → p e ≡ true) → (es : List Entry) → filter p es ≡ es
+all_leave p all [] = refl
+all_leave p all (e ∷ es) = rw (all e) (ap (λ (rest : List Entry). e ∷ rest) (all_leave p all es))
+
+pub all_counted : (es : List Entry) → length (filter (leaves leavings.All) es) ≡ length es
+all_counted es = ap (λ (xs : List Entry). length xs) (all_leave (leaves leavings.All) (λ e. refl) es)
 
 -- ---- what each row tells
 

@@ -9,7 +9,7 @@ use Rattle.sp_rules.specs.Told.{told}
 
 -- a message with this mask goes to the neighbour
 abbrev pub goes_along : ℕ → Option NodeId → PrioPeer → Bool
-goes_along mask came q = not (is_from came q.peer) && names_edge mask q.edge
+goes_along mask came q = not (is_from came q.peer) && names_edge mask q.edge && not q.shut
 
 pub record IsGiven (kept : Kept) (came : Option NodeId) (old new : PrioPeer) (copies : List Kept) (was now : Caused) : Type 0 where
   pub peer : new ≡ given kept came old

@@ -6,6 +6,7 @@ mod flight;
 mod parcel;
 mod peer;
 mod place;
+mod removed;
 mod rows;
 mod spare;
 mod table;

@@ -4,8 +4,11 @@ ghost use Rattle.sp_base.specs.declared.limits.TheConstants.{MAX_MESSAGES};
 ghost use Rattle.sp_msg.specs.Masks.{bits};
 ghost use Rattle.sp_rules.specs.Polls.{as_message};
 ghost use Rattle.sp_rules.specs.Prio.{is_peer};
-ghost use Rattle.sp_rules.specs.PrioPeer.{acked, acked_effects, carried, expired, expired_effects, filled, goes_to, heard, new_peer, next_prios, put_effects};
-ghost use Rattle.sp_rules.specs.PrioPeer.{unheard};
+ghost use Rattle.sp_rules.specs.PrioPeer.{acked, acked_effects, carried, closed, closed_effects, expired, expired_effects, filled, goes_to, heard, new_peer};
+ghost use Rattle.sp_rules.specs.PrioPeer.{leaves as leaves_place, next_prios, put_effects, unheard};
+ghost use Rattle.sp_rules.specs.Topologies.{is_shut};
+ghost use Rattle.sp_rules.specs.declared.store.Entry.{Entry};
+ghost use Rattle.sp_store.specs.Leaving.{leaves};
 ghost use Rattle.sp_prio.specs.Flight.{with_flight};
 ghost use Rattle.sp_prio.specs.Given.{goes_along};
 ghost use Rattle.sp_rules.specs.Store as stores;
@@ -15,17 +18,18 @@ use crate::field::mask_of;
 use crate::flight::{Flight, land_from, messages_from};
 use crate::place;
 use sp_base::{EdgeId, Four, MAX_MESSAGES, Memory, NodeId};
-use sp_msg::{Body, Effects, Kept, Mask, mask_has};
+use sp_msg::{Body, Effects, Kept, Mask, Why, mask_has};
 use sp_rules::Neighbour;
-use sp_store::Store;
+use sp_store::{Leaving, Store};
 use std::alloc::Global;
 use std::marker::Model;
 
-/// A neighbour, the edge to it, its store, the greatest link number that was heard from it, and what is in flight to it.
+/// A neighbour, the edge to it and whether that is withdrawn, its store, the greatest link number that was heard from it, and what is in flight to it.
 #[derive(Debug, Drop)]
 pub struct Peer {
     id: NodeId,
     edge: EdgeId,
+    shut: bool,
     store: Store,
     heard: u64,
     flight: Flight,
@@ -40,6 +44,7 @@ impl Model for Peer {
     ghost view = { λ p. record {
       peer = p.id.0;
       edge = p.edge.0;
+      shut = p.shut;
       store = p.store;
       heard = p.heard;
       number = p.flight.number;
@@ -58,6 +63,7 @@ impl Peer {
         Ok(Peer {
             id: neighbour.id,
             edge: neighbour.edge,
+            shut: false,
             store: Store::new(alloc, capacity)?,
             heard: 0,
             flight: Flight::start(),
@@ -71,7 +77,7 @@ impl Peer {
         self.id.0 == id.0
     }
 
-    /// Whether a message goes to it: its mask has the edge, and it didn't come from there.
+    /// Whether a message goes to it: its mask has the edge, which isn't withdrawn, and it didn't come from there.
     pub fn goes_to(&self, body: &Body, came: Option<NodeId>) -> bool
         ensures { result ≡ goes_to body.now came self.now }
     {
@@ -86,7 +92,7 @@ impl Peer {
             Some(from) => from.0 == self.id.0,
             None => false,
         };
-        !back && mask_has(mask, self.edge)
+        !back && mask_has(mask, self.edge) && !self.shut
     }
 
     /// Puts a message into its store, and tells so.
@@ -171,12 +177,12 @@ impl Peer {
         self.flight.pairs = Four::new();
     }
 
-    /// How many entries have an expiry before this time.
-    pub fn expiring(&self, now: u64) -> usize
-        ensures count { result ≡ length (stores.expired_entries self.now.store now) }
+    /// How many entries leave.
+    pub fn leaving(&self, leaving: &Leaving<'_>) -> usize
+        ensures count { result ≡ length (stores.leavers (leaves leaving.now) self.now.store) }
         ensures few { result < 2 ^ 16 }
     {
-        self.store.expiring(now)
+        self.store.leaving(leaving)
     }
 
     /// Takes out all entries whose expiry is before this time, and tells of each.
@@ -186,5 +192,45 @@ impl Peer {
         ensures told { out.new ≡ told out.old (expired_effects self.old.peer self.old.store now) }
     {
         place::expire(&mut self.store, self.id.0, now, out);
+    }
+
+    /// How many entries wait.
+    pub fn count(&self) -> usize
+        ensures count { result ≡ length self.now.store.entries }
+        ensures few { result < 2 ^ 16 }
+    {
+        place::count(&self.store)
+    }
+
+    /// Another version of the topology: the edge is withdrawn where its weight is 0. Then all that waits leaves; else what has a removed node as an end does.
+    pub fn close(&mut self, weights: &[u32], removed: &[NodeId], out: &mut Effects)
+        requires { length self.old.store.entries ≤ out.old.room }
+        ensures row { self.new ≡ closed weights.now removed.now self.old }
+        ensures told { out.new ≡ told out.old (closed_effects weights.now removed.now self.old) }
+    {
+        self.shut = is_shut(weights, self.edge);
+        let leaving = leaving_where(self.shut, removed);
+        place::leave_all(&mut self.store, self.id.0, &leaving, Why::Withdrawn, out);
+    }
+}
+
+/// Whether the edge in this place is withdrawn. So is one that isn't there.
+fn is_shut(weights: &[u32], edge: EdgeId) -> bool
+    ensures { result ≡ is_shut weights.now edge.0 }
+{
+    match weights.get(edge.0 as usize) {
+        Some(weight) => *weight == 0,
+        None => true,
+    }
+}
+
+/// What leaves the store of a neighbour over an edge that is withdrawn or isn't, where these nodes are removed.
+fn leaving_where<'a>(shut: bool, removed: &'a [NodeId]) -> Leaving<'a>
+    ensures { (e : Entry) → leaves result e ≡ leaves_place shut removed.now e }
+{
+    if shut {
+        Leaving::All
+    } else {
+        Leaving::Removed { nodes: removed }
     }
 }

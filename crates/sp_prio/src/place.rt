@@ -1,14 +1,15 @@
 // What goes into the store of a place and what leaves it, each with the effect that tells it.
 ghost use Rattle.std.specs.Prelude.{◌≡◌, ◌<◌, ◌≤◌, ◌+◌, ◌^◌, ◌++◌, Some, length, replicate};
 ghost use Rattle.sp_rules.specs.Prio.{delivered};
-ghost use Rattle.sp_rules.specs.PrioPeer.{expired_effects, gone, put_effects, stored};
-ghost use Rattle.sp_rules.specs.Store.{entry_in, expired_entries, less_expired, put, removed};
+ghost use Rattle.sp_rules.specs.PrioPeer.{expired_effects, gone, gone_effects, put_effects, stored};
+ghost use Rattle.sp_rules.specs.Store.{entry_in, expired_entries, leavers, less_expired, less_leavers, put, removed};
+ghost use Rattle.sp_store.specs.Leaving.{leaves};
 ghost use Rattle.sp_prio.specs.Answers.{evicted_in};
 ghost use Rattle.sp_rules.specs.Told.{told};
 
 use sp_msg::{Body, Effect, Effects, Kept, Why};
 use sp_rules::{Entry, Put};
-use sp_store::Store;
+use sp_store::{Leaving, Store};
 
 /// Puts a message into the store of a place, and tells so, and which entry goes for it.
 pub fn put(store: &mut Store, place: u8, kept: Kept, out: &mut Effects)
@@ -100,17 +101,35 @@ pub fn leave(store: &mut Store, place: u8, id: u64, out: &mut Effects)
     }
 }
 
+/// Takes out all entries that leave, the oldest first, and tells of each.
+pub fn leave_all(store: &mut Store, place: u8, leaving: &Leaving<'_>, why: Why, out: &mut Effects)
+    requires { length (leavers (leaves leaving.now) store.old) ≤ out.old.room }
+    ensures store { store.new ≡ less_leavers (leaves leaving.now) store.old }
+    ensures told { out.new ≡ told out.old (gone_effects place why (leavers (leaves leaving.now) store.old)) }
+{
+    'entries: while let Some(entry) = store.leave(leaving) {
+        out.push(Effect::Gone {
+            place,
+            id: entry.id,
+            why,
+        });
+    }
+}
+
 /// Takes out all entries whose expiry is before this time, the oldest first, and tells of each.
 pub fn expire(store: &mut Store, place: u8, now: u64, out: &mut Effects)
     requires { length (expired_entries store.old now) ≤ out.old.room }
     ensures store { store.new ≡ less_expired store.old now }
     ensures told { out.new ≡ told out.old (expired_effects place store.old now) }
 {
-    'entries: while let Some(entry) = store.expire(now) {
-        out.push(Effect::Gone {
-            place,
-            id: entry.id,
-            why: Why::Expired,
-        });
-    }
+    leave_all(store, place, &Leaving::Expired { now }, Why::Expired, out);
+}
+
+/// How many entries there are.
+#[tactic(auto, using(crate::proofs::TellLemmas::all_counted))]
+pub fn count(store: &Store) -> usize
+    ensures count { result ≡ length store.now.entries }
+    ensures few { result < 2 ^ 16 }
+{
+    store.leaving(&Leaving::All)
 }

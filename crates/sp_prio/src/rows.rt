@@ -3,7 +3,8 @@ ghost use Rattle.std.specs.Prelude.{◌≡◌, ◌<◌, ◌≤◌, ◌+◌, ◌*
 ghost use Rattle.std.specs.Prelude.{count_by, if◌then◌else◌, length, map, position, replicate, sum_by, vec_capacity};
 ghost use Rattle.std.specs.List.{flat_map};
 ghost use Rattle.sp_rules.specs.Prio.{is_peer};
-ghost use Rattle.sp_rules.specs.PrioPeer.{expired, expired_effects, given, given_effects, goes_to, new_peer};
+ghost use Rattle.sp_rules.specs.PrioPeer.{closed, closed_effects, expired, expired_effects, given, given_effects, goes_to, new_peer};
+ghost use Rattle.sp_store.specs.Leaving.{leaves};
 ghost use Rattle.sp_msg.specs.Masks.{bits};
 ghost use Rattle.sp_msg.specs.declared.kept.Kept.{Kept};
 ghost use Rattle.sp_prio.specs.Given.{IsGiven, goes_along};
@@ -18,6 +19,7 @@ use crate::peer::Peer;
 use sp_base::{Memory, NodeId, push_in_room};
 use sp_msg::{Body, Effects, Kept, Mask};
 use sp_rules::Neighbour;
+use sp_store::Leaving;
 use std::alloc::Global;
 
 /// A row for each neighbour, with an empty store.
@@ -91,15 +93,28 @@ fn give(
     }
 }
 
-/// How many entries of all rows have an expiry before this time.
-pub fn expiring_in(peers: &[Peer], now: u64) -> usize
+/// How many entries of all rows leave.
+pub fn leaving_in(peers: &[Peer], leaving: &Leaving<'_>) -> usize
     requires { length peers.now ≤ IDS }
-    ensures count { result ≡ sum_by (λ q. length (stores.expired_entries q.store now)) peers.now }
+    ensures count { result ≡ sum_by (λ q. length (stores.leavers (leaves leaving.now) q.store)) peers.now }
     ensures few { result < 2 ^ 32 }
 {
     let mut count = 0;
     'peers: for peer in peers {
-        count += peer.expiring(now);
+        count += peer.leaving(leaving);
+    }
+    count
+}
+
+/// How many entries all rows have.
+pub fn entries_in(peers: &[Peer]) -> usize
+    requires { length peers.now ≤ IDS }
+    ensures count { result ≡ sum_by (λ q. length q.store.entries) peers.now }
+    ensures few { result < 2 ^ 32 }
+{
+    let mut count = 0;
+    'peers: for peer in peers {
+        count += peer.count();
     }
     count
 }
@@ -112,5 +127,16 @@ pub fn expire_peers(peers: &mut Vec<Peer>, now: u64, out: &mut Effects)
 {
     'peers: for place in 0..peers.len() {
         peers[place].expire(now, out);
+    }
+}
+
+/// Another version of the topology, for each row.
+pub fn close_peers(peers: &mut Vec<Peer>, weights: &[u32], removed: &[NodeId], out: &mut Effects)
+    requires { sum_by (λ q. length q.store.entries) peers.old.items ≤ out.old.room }
+    ensures peers { peers.new.items ≡ map (closed weights.now removed.now) peers.old.items }
+    ensures told { out.new ≡ told out.old (flat_map (closed_effects weights.now removed.now) peers.old.items) }
+{
+    'peers: for place in 0..peers.len() {
+        peers[place].close(weights, removed, out);
     }
 }

@@ -4,7 +4,8 @@ ghost use Rattle.sp_base.specs.declared.limits.TheConstants.{MAX_MESSAGES};
 ghost use Rattle.sp_rules.specs.Changes.{FitsAFormat};
 ghost use Rattle.sp_msg.specs.Views.{as_body};
 ghost use Rattle.sp_rules.specs.Polls.{as_message};
-ghost use Rattle.sp_rules.specs.Prio.{acked, acked_effects, admit_prio, carried, expired, expired_effects, expiring, heard, is_node};
+ghost use Rattle.sp_rules.specs.Prio.{acked, acked_effects, admit_prio, carried, closed, closed_effects, entry_count, expired, expired_effects, expiring};
+ghost use Rattle.sp_rules.specs.Prio.{heard, is_there};
 ghost use Rattle.sp_rules.specs.Prio.{judge_fields, judge_prio, marked, next_prios, peer_in, places, prio_effects, renewed, spread, start};
 ghost use Rattle.sp_rules.specs.Prio.{taken, unheard};
 ghost use Rattle.sp_rules.specs.Store.{oldest};
@@ -15,14 +16,17 @@ ghost use Rattle.sp_rules.specs.declared.store.TheConstants.{IDS};
 
 use crate::field::{dst_of, next_after_own, seq_of, src_of};
 use crate::peer::Peer;
-use crate::rows::{count_to, expire_peers, expiring_in, peers_of, place_of, spread};
+use crate::removed::refill;
+use crate::rows::{
+    close_peers, count_to, entries_in, expire_peers, leaving_in, peers_of, place_of, spread,
+};
 use crate::windows::{clear, is_node, mark, seen_in, windows_of};
 use crate::{Parcel, Spare, place};
 use sp_base::{Four, Memory, NodeId};
 use sp_dedup::Window;
 use sp_msg::{Body, BodyRef, Effects, Kept};
 use sp_rules::{Entry, Neighbour, PrioJudged};
-use sp_store::Store;
+use sp_store::{Leaving, Store};
 use std::alloc::Global;
 use std::marker::Model;
 
@@ -31,6 +35,8 @@ use std::marker::Model;
 pub struct PrioTable {
     me: NodeId,
     nodes: Vec<NodeId>,
+    /// Those of them that are removed. It has room for all.
+    removed: Vec<NodeId>,
     inbox: Store,
     peers: Vec<Peer>,
     windows: Vec<Window>,
@@ -38,14 +44,15 @@ pub struct PrioTable {
 }
 
 impl Model for PrioTable {
+    ghost use Rattle.std.specs.Prelude.{vec_capacity};
     ghost use Rattle.sp_rules.specs.Prio.{PrioState};
     ghost use Rattle.sp_prio.specs.Sound.{IsSound};
 
     ghost Value = { PrioState };
 
-    ghost view = { λ t. record { me = t.me.0; nodes = t.nodes.items; inbox = t.inbox; peers = t.peers.items; windows = t.windows.items; next = t.next } };
+    ghost view = { λ t. record { me = t.me.0; nodes = t.nodes.items; removed = t.removed.items; inbox = t.inbox; peers = t.peers.items; windows = t.windows.items; next = t.next } };
 
-    ghost invariant = { λ t. IsSound t.nodes.items t.peers.items t.windows.items };
+    ghost invariant = { λ t. IsSound t.nodes.items (vec_capacity t.removed) t.peers.items t.windows.items };
 }
 
 impl PrioTable {
@@ -63,10 +70,12 @@ impl PrioTable {
         let nodes = Vec::from_slice(alloc, nodes)?;
         let windows = windows_of(alloc, nodes.len())?;
         let peers = peers_of(alloc, neighbours, store)?;
+        let removed = Vec::with_capacity(alloc, nodes.len())?;
         let inbox = Store::new(alloc, store)?;
         Ok(PrioTable {
             me,
             nodes,
+            removed,
             inbox,
             peers,
             windows,
@@ -108,11 +117,11 @@ impl PrioTable {
         Spare::new(alloc, kept, self.places(&kept.body, came))
     }
 
-    /// Whether this is a node.
-    pub fn is_node(&self, node: NodeId) -> bool
-        ensures { result ≡ is_node self.now.nodes node.0 }
+    /// Whether this is a node that isn't removed.
+    pub fn is_there(&self, node: NodeId) -> bool
+        ensures { result ≡ is_there self.now node.0 }
     {
-        is_node(&self.nodes, node.0)
+        is_node(&self.nodes, node.0) && !is_node(&self.removed, node.0)
     }
 
     /// How many neighbours there are.
@@ -216,7 +225,8 @@ impl PrioTable {
     pub fn expiring(&self, now: u64) -> usize
         ensures { result ≡ expiring self.now now }
     {
-        self.inbox.expiring(now) + expiring_in(&self.peers, now)
+        let leaving = Leaving::Expired { now };
+        self.inbox.leaving(&leaving) + leaving_in(&self.peers, &leaving)
     }
 
     /// Takes out all entries whose expiry is before this time, and tells of each.
@@ -227,6 +237,25 @@ impl PrioTable {
     {
         place::expire(&mut self.inbox, 0, now, out);
         expire_peers(&mut self.peers, now, out);
+    }
+
+    /// How many entries all places have.
+    pub fn held(&self) -> usize
+        ensures { result ≡ entry_count self.now }
+    {
+        place::count(&self.inbox) + entries_in(&self.peers)
+    }
+
+    /// Another version of the topology, by the weights of its edges, 0 for one that is withdrawn, and by its nodes that are removed. What waits for a withdrawn
+    /// edge leaves, and what has a removed end leaves the stores of neighbours; each is told. The inbox stays. It takes no memory.
+    pub fn withdraw(&mut self, weights: &[u32], removed: &[NodeId], out: &mut Effects)
+        requires few { length removed.now ≤ length self.old.nodes }
+        requires room { entry_count self.old ≤ out.old.room }
+        ensures table { self.new ≡ closed self.old weights.now removed.now }
+        ensures told { out.new ≡ told out.old (closed_effects self.old weights.now removed.now) }
+    {
+        refill(&mut self.removed, removed);
+        close_peers(&mut self.peers, weights, removed, out);
     }
 
     /// The number of this node's next own message.
@@ -247,7 +276,7 @@ impl PrioTable {
     fn judge_fields(&self, src: NodeId, dst: NodeId, seq: u64, expiry: u64, now: u64) -> PrioJudged
         ensures { result ≡ judge_fields self.now src.0 dst.0 seq expiry now }
     {
-        if !is_node(&self.nodes, src.0) || !is_node(&self.nodes, dst.0) || src.0 == dst.0 {
+        if !self.is_there(src) || !self.is_there(dst) || src.0 == dst.0 {
             return PrioJudged::BadEnd;
         }
         if expiry < now {

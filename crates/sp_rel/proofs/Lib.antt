@@ -1,5 +1,5 @@
 pub mod FlowLemmas
-pub mod RestartLemmas
+pub mod FateLemmas
 pub mod SeatLemmas
 pub mod SoundLemmas
 pub mod Standing

@@ -5,6 +5,6 @@ pub mod Changes
 pub mod Rows
 pub mod Seats
 -- ---- what the parts of this crate use among themselves
-pub mod Restarts
+pub mod Fates
 pub mod Sound
 pub mod Tables

@@ -1,5 +1,5 @@
 -- How a row and a seat in memory are seen, and what always holds of them.
-use Rattle.std.specs.Prelude.{ℕ, ◌≡◌, ◌==◌, Bool, true, false, List, [], Option}
+use Rattle.std.specs.Prelude.{ℕ, ◌≡◌, ◌==◌, ◌&&◌, not, Bool, true, false, List, [], Option}
 use Rattle.sp_base.specs.Position.{Position, start, empty_buffer}
 use Rattle.sp_base.specs.declared.id.Flow.{Flow}
 use Rattle.sp_base.specs.declared.id.NodeId.{NodeId}
@@ -25,11 +25,12 @@ inbox_of helds.Idle = []
 inbox_of (helds.Relay buffer) = []
 inbox_of (helds.End inbox) = inbox.items
 
-abbrev pub row_of : NodeId → ℕ → Flow → Held → Option Kept → RowState
-row_of me bound flow held ack = record {
+-- it ended here, or it is as its memory says
+abbrev pub row_of : NodeId → ℕ → Flow → Held → Bool → Option Kept → RowState
+row_of me bound flow held ended ack = record {
   me = me;
   bound = bound;
-  state = record { src = flow.src; dst = flow.dst; active = is_active held; at = at_of held; ack = ack; inbox = inbox_of held };
+  state = record { src = flow.src; dst = flow.dst; active = is_active held && not ended; at = at_of held; ack = ack; inbox = inbox_of held };
 }
 
 abbrev pub seat_of : NodeId → ℕ → Flow → Held → SeatState
@@ -40,6 +41,12 @@ abbrev pub Fits : NodeId → ℕ → Flow → Held → Type 0
 Fits me bound flow helds.Idle = Unit {0}
 Fits me bound flow (helds.Relay buffer) = (buffer.bound ≡ bound) × ((flow.dst.0 == me.0) ≡ false)
 Fits me bound flow (helds.End inbox) = (inbox.bound ≡ bound) × ((flow.dst.0 == me.0) ≡ true)
+
+-- where the flow ended there is an inbox, with numbers as at the start
+abbrev pub HasEnded : Held → Bool → Type 0
+HasEnded helds.Idle ended = ended ≡ false
+HasEnded (helds.Relay buffer) ended = ended ≡ false
+HasEnded (helds.End inbox) ended = ended ≡ true → (inbox.base ≡ 0) × (inbox.have ≡ 0)
 
 -- the same, before the first message
 abbrev pub FitsNew : NodeId → ℕ → Flow → Held → Type 0

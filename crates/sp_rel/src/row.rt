@@ -1,16 +1,17 @@
 // One flow at one node: each call is one of the rules' equations.
 ghost use Rattle.std.specs.Prelude.{◌≡◌, ◌==◌, ◌+◌, ◌&&◌, ◌<◌, ◌≤◌, true, false, length, map, option_copied, slice_get};
 ghost use Rattle.sp_base.specs.declared.limits.TheConstants.{MAX_SEQ};
-ghost use Rattle.sp_rules.specs.Flow.{acknowledged_by, after_take, concluded, ends, is_flow, is_full, no_flow, number_said, pushed, received};
-ghost use Rattle.sp_rules.specs.Rel.{ended_by, flow_less, is_due, is_end, messages_after};
+ghost use Rattle.sp_rules.specs.Flow.{acknowledged_by, after_take, concluded, ended, ends, is_flow, is_full, no_flow, number_said, pushed, received};
+ghost use Rattle.sp_rules.specs.Rel.{is_due, messages_after};
 ghost use Rattle.sp_rules.specs.Told.{told};
 ghost use Rattle.sp_rel.specs.Changes.{CanChange, changed};
+ghost use Rattle.sp_rel.specs.Fates.{ended_row, is_ended, row_after};
 ghost use Rattle.sp_rel.specs.Rows.{IsSeated, with_state};
 
 use crate::change::Change;
+use crate::fate::Fate;
 use crate::held::Held;
 use crate::seat::Seat;
-use crate::view::is_end;
 use sp_base::{Bytes, Flow, Four, NodeId};
 use sp_msg::{Body, Effect, Effects, Kept};
 use std::marker::Model;
@@ -23,6 +24,8 @@ pub struct FlowRow {
     bound: u16,
     flow: Flow,
     held: Held,
+    /// It ended here, at its destination: it isn't active, and messages may still wait for its clients.
+    ended: bool,
     /// The acknowledgement that raised base last.
     ack: Option<Kept>,
 }
@@ -44,13 +47,13 @@ pub struct Numbers {
 
 impl Model for FlowRow {
     ghost use Rattle.sp_rel.specs.Rows.{RowState};
-    ghost use Rattle.sp_rel.specs.Sound.{Fits, row_of};
+    ghost use Rattle.sp_rel.specs.Sound.{Fits, HasEnded, row_of};
 
     ghost Value = { RowState };
 
-    ghost view = { λ r. row_of r.me r.bound r.flow r.held r.ack };
+    ghost view = { λ r. row_of r.me r.bound r.flow r.held r.ended r.ack };
 
-    ghost invariant = { λ r. Fits r.me r.bound r.flow r.held };
+    ghost invariant = { λ r. Fits r.me r.bound r.flow r.held × HasEnded r.held r.ended };
 }
 
 impl FlowRow {
@@ -63,6 +66,7 @@ impl FlowRow {
             bound,
             flow,
             held: Held::Idle,
+            ended: false,
             ack: None,
         }
     }
@@ -87,7 +91,7 @@ impl FlowRow {
     {
         match &self.held {
             Held::Idle => false,
-            _ => true,
+            _ => !self.ended,
         }
     }
 
@@ -112,7 +116,7 @@ impl FlowRow {
                 waiting: 0,
             },
             Held::End(inbox) => Numbers {
-                active: true,
+                active: !self.ended,
                 base: inbox.base(),
                 have: inbox.have(),
                 waiting: inbox.len(),
@@ -160,7 +164,7 @@ impl FlowRow {
         }
     }
 
-    /// The flow becomes active. Where it is, the seat is dropped.
+    /// The flow becomes active. Where it is, the seat is dropped; and so where it ended here, since its inbox is still there.
     fn open(&mut self, seat: Seat)
         requires { IsSeated self.old.me self.old.bound self.old.state seat }
         ensures { self.new ≡ with_state self.old (record self.old.state { active = true }) }
@@ -169,6 +173,7 @@ impl FlowRow {
             let Seat { held, .. } = seat;
             self.held = held;
         }
+        self.ended = false;
     }
 
     /// Message have + 1 goes to the end of the list.
@@ -240,31 +245,61 @@ impl FlowRow {
         }
     }
 
-    /// Whether the flow is active and has this node as an end.
-    pub fn is_ended(&self, node: NodeId) -> bool
-        ensures { result ≡ (is_end node (ends self.now.state) && self.now.state.active) }
+    /// Whether the flow is active and ends where this comes over it.
+    pub fn is_ended(&self, fate: &Fate<'_>) -> bool
+        ensures { result ≡ is_ended fate.now self.now }
     {
-        is_end(node, self.flow) && self.is_active()
+        fate.touches(self.flow) && self.is_active()
     }
 
-    /// Tells that the flow ends, where it is active and has this node as an end.
-    pub fn tell_end(&self, node: NodeId, effects: &mut Effects)
-        requires { length (ended_by node self.now.state) ≤ effects.old.room }
-        ensures { effects.new ≡ told effects.old (ended_by node self.now.state) }
+    /// Tells that the flow ends, where it does.
+    pub fn tell_end(&self, fate: &Fate<'_>, effects: &mut Effects)
+        requires { length (ended_row fate.now self.now) ≤ effects.old.room }
+        ensures { effects.new ≡ told effects.old (ended_row fate.now self.now) }
     {
-        if self.is_ended(node) {
+        if self.is_ended(fate) {
             effects.push(Effect::Ended(self.flow));
         }
     }
 
-    /// The flow is as before its first message, where it has this node as an end.
-    pub fn restart(&mut self, node: NodeId)
-        ensures { self.new ≡ with_state self.old (flow_less node self.old.state) }
+    /// What becomes of the flow.
+    pub fn meet(&mut self, fate: &Fate<'_>)
+        ensures { self.new ≡ row_after fate.now self.old }
     {
-        if is_end(node, self.flow) {
-            self.held = Held::Idle;
-            self.ack = None;
+        if !fate.touches(self.flow) {
+            return;
         }
+        match fate {
+            Fate::Restarted(_) => self.restart(),
+            Fate::Removed(_) => {
+                if self.is_active() {
+                    self.end();
+                }
+            }
+        }
+    }
+
+    /// It is as before its first message.
+    fn restart(&mut self)
+        ensures { self.new ≡ with_state self.old (no_flow (ends self.old.state)) }
+    {
+        self.held = Held::Idle;
+        self.ended = false;
+        self.ack = None;
+    }
+
+    /// It ends: all of it is let go but what waits for a client.
+    fn end(&mut self)
+        ensures { self.new ≡ with_state self.old (ended self.old.state) }
+    {
+        match &mut self.held {
+            Held::End(inbox) => {
+                inbox.end();
+                self.ended = true;
+            }
+            _ => self.held = Held::Idle,
+        }
+        self.ack = None;
     }
 }
 

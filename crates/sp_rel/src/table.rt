@@ -3,6 +3,7 @@ ghost use Rattle.std.specs.Prelude.{◌≡◌, IfErr, IfOk};
 ghost use Rattle.sp_rel.specs.Places.{place_in};
 ghost use Rattle.sp_rules.specs.Rel.{AreStanding, are_ends, is_node, position_in, room, start};
 
+use crate::fate::is_one_of;
 use crate::flows::Flows;
 use crate::pairs::pairs_of;
 use crate::peers::Peers;
@@ -16,6 +17,8 @@ use std::marker::Model;
 #[derive(Debug, Drop)]
 pub struct RelTable {
     nodes: Vec<NodeId>,
+    /// Those of them that are removed. It has room for all.
+    pub(crate) removed: Vec<NodeId>,
     pub(crate) flows: Flows,
     pub(crate) peers: Peers,
     /// The place of the flow to this node whose acknowledgement was signed last.
@@ -23,6 +26,7 @@ pub struct RelTable {
 }
 
 impl Model for RelTable {
+    ghost use Rattle.std.specs.Prelude.{◌≤◌, length, vec_capacity};
     ghost use Rattle.sp_rules.specs.Rel.{RelState};
 
     ghost Value = { RelState };
@@ -30,11 +34,14 @@ impl Model for RelTable {
     ghost view = { λ t. record {
       me = t.flows.me;
       nodes = t.nodes.items;
+      removed = t.removed.items;
       bound = t.flows.bound;
       flows = t.flows.flows;
       peers = t.peers;
       signed = t.signed;
     } };
+
+    ghost invariant = { λ t. length t.nodes.items ≤ vec_capacity t.removed };
 }
 
 impl RelTable {
@@ -53,6 +60,7 @@ impl RelTable {
         let pairs = pairs_of(alloc, nodes)?;
         Ok(RelTable {
             nodes: Vec::from_slice(alloc, nodes).map_err(Memory::from)?,
+            removed: Vec::with_capacity(alloc, nodes.len()).map_err(Memory::from)?,
             flows: Flows::new(alloc, me, buffer, pairs.as_slice())?,
             peers: Peers::new(alloc, pairs.as_slice(), neighbours)?,
             signed: Cursor::start(),
@@ -117,9 +125,10 @@ impl RelTable {
             && self.is_node(dst)
     }
 
+    /// Whether this is a node that isn't removed.
     fn is_node(&self, u: NodeId) -> bool
         ensures { result ≡ is_node self.now u }
     {
-        self.nodes.iter().any(|node| node.0 == u.0)
+        is_one_of(&self.nodes, u) && !is_one_of(&self.removed, u)
     }
 }

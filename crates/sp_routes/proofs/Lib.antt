@@ -1,4 +1,4 @@
-pub mod AllEdges
+pub mod OpenEdges
 pub mod ChoiceLemmas
 pub mod FewSets
 pub mod JoinedLemmas

@@ -1,19 +1,23 @@
--- A topology is a graph in its ranges, where the weights that are in effect are.
-use Rattle.std.proofs.Common.{◌≡◌, ◌<◌, ◌≤◌, ℕ, zero, suc, ◌+◌, max, inl, inr, Bool, true, false, List, [], ◌∷◌, length, map, refl, sym, ap, subst, ◌∙◌, arith}
-use Rattle.std.specs.Prelude.{◌==◌, ◌||◌, slice_get, slice_index_or}
+-- A topology without its withdrawn edges is a graph in its ranges, where the weights that are in effect are.
+use Rattle.std.proofs.Common.{◌≡◌, ◌<◌, ◌≤◌, ℕ, zero, suc, ◌+◌, max, inl, inr, Bool, true, false, cond, List, [], ◌∷◌, ◌++◌, append_assoc, drop, drop-cons, length, map, refl, sym, ap, ◌∙◌, arith}
+use Rattle.std.specs.Prelude.{◌==◌, ◌||◌, slice_index_or}
 use Rattle.std.specs.List.{All, AllPairs}
 use Rattle.std.proofs.lemmas.Bool.{eqb-true}
-use Rattle.std.proofs.lemmas.Option.{slice_get-get_or}
+use Rattle.std.proofs.lemmas.Bool.Decides.{nat_tests}
+use Rattle.std.proofs.lemmas.List.Elements.{All-cons}
+use Rattle.std.proofs.lemmas.List.Kept.{AllPairs-cons}
 use Rattle.sp_base.specs.declared.id.NodeId.{NodeId}
 use Rattle.sp_base.proofs.FormatLemmas.{few_edges, few_nodes}
 use Rattle.sp_base.specs.Formats.{max_nodes}
 use Rattle.sp_base.specs.declared.limits.TheConstants.{MAX_WEIGHT}
 use Rattle.sp_graph.specs.Edges.{IsEdge, IsGraph, IsLower}
 use Rattle.sp_paths.specs.Cheapest.{IsNode}
+use Rattle.sp_routes.specs.Joined.{HasFlag}
+use Rattle.sp_routes.specs.declared.joined.TheConstants.{IDS}
 use Rattle.sp_rules.specs.Masks.{graph_of, greatest_id, weighed}
 use Rattle.sp_rules.specs.Parts.{nodes_of}
 use Rattle.sp_rules.specs.Prio.{is_node}
-use Rattle.sp_rules.specs.Weights.{WeightState, effective, minimum, minimum_of}
+use Rattle.sp_rules.specs.Weights.{WeightState, effective, is_withdrawn, minimum}
 use Rattle.sp_topology.specs.declared.topology.Edge.{Edge}
 use Rattle.sp_topology.specs.declared.topology.LmsHeight.{LmsHeight}
 use Rattle.sp_topology.specs.declared.topology.NodeKey.{NodeKey}
@@ -54,84 +58,117 @@ node_there t w v good is = id_in t.format t.height 0 t.nodes v.0 good.ranges.nod
 
 -- ---- edges
 
-pub length_weighed : (w : WeightState) (place : ℕ) (edges : List Edge) → length (weighed w place edges) ≡ length edges
-length_weighed w place [] = refl
-length_weighed w place (e ∷ edges) = ap suc (length_weighed w (place + 1) edges)
-
-abbrev at_weight : Edge → ℕ → Edge
-at_weight e weight = record { low = e.low; high = e.high; weight = weight }
-
--- the edge at a place, with the weight that is in effect
-weighed_at : (w : WeightState) (place : ℕ) (edges : List Edge) (k : ℕ) (d : Edge) → k < length edges
-    → slice_index_or (weighed w place edges) k d ≡ at_weight (slice_index_or edges k d) (effective w (place + k))
-weighed_at w place [] k d inside = absurd (omega (arith, inside))
-weighed_at w place (e ∷ edges) zero d inside =
-    let same : place ≡ place + 0 = omega arith in
-    ap (λ (n : ℕ). at_weight e (effective w n)) same
-weighed_at w place (e ∷ edges) (suc k) d inside =
-    let same : place + 1 + k ≡ place + suc k = omega arith in
-    weighed_at w (place + 1) edges k d (omega (arith, inside)) ∙ ap (λ (n : ℕ). at_weight (slice_index_or edges k d) (effective w n)) same
-
-abbrev IsGood : List ℕ → Edge → Type 0
-IsGood ids e = (e.low.0 < e.high.0) × (has_id e.low.0 ids ≡ true) × (has_id e.high.0 ids ≡ true)
-
-good_at : (format : ℕ) (ids : List ℕ) (before : ℕ × ℕ) (edges : List Edge) (k : ℕ) (d : Edge) → AreEdges format ids before edges → k < length edges
-    → IsGood ids (slice_index_or edges k d)
-good_at format ids before [] k d are inside = absurd (omega (arith, inside))
-good_at format ids before (e ∷ edges) zero d are inside = (are.0.ascend, are.0.low, are.0.high)
-good_at format ids before (e ∷ edges) (suc k) d are inside = good_at format ids (ends_of e) edges k d are.2 (omega (arith, inside))
-
 below_again : (p q r : ℕ × ℕ) → IsBelow p q → IsBelow q r → IsBelow p r
 below_again p q r (inl a) (inl b) = inl (omega (arith, a, b))
 below_again p q r (inl a) (inr b) = inl (omega (arith, a, b.0))
 below_again p q r (inr a) (inl b) = inl (omega (arith, a.0, b))
 below_again p q r (inr a) (inr b) = inr (a.0 ∙ b.0, omega (arith, a.1, b.1))
 
-after_at : (format : ℕ) (ids : List ℕ) (before : ℕ × ℕ) (edges : List Edge) (k : ℕ) (d : Edge) → AreEdges format ids before edges → k < length edges
-    → IsBelow before (ends_of (slice_index_or edges k d))
-after_at format ids before [] k d are inside = absurd (omega (arith, inside))
-after_at format ids before (e ∷ edges) zero d are inside = are.0.after
-after_at format ids before (e ∷ edges) (suc k) d are inside =
-    below_again before (ends_of e) (ends_of (slice_index_or edges k d)) are.0.after (after_at format ids (ends_of e) edges k d are.2 (omega (arith, inside)))
+-- what is left of edges without the withdrawn ones: edges of a graph, each before those after it, all of them behind these ends
+record AreLeft (nodes : ℕ) (before : ℕ × ℕ) (left : List Edge) : Type 0 where
+  edges : All (IsEdge nodes) left
+  behind : All (λ e. IsBelow before (ends_of e)) left
+  ascend : AllPairs IsLower left
 
-ascend_at : (format : ℕ) (ids : List ℕ) (before : ℕ × ℕ) (edges : List Edge) (i j : ℕ) (d : Edge) → AreEdges format ids before edges → i < j → j < length edges
-    → IsLower (slice_index_or edges i d) (slice_index_or edges j d)
-ascend_at format ids before [] i j d are less inside = absurd (omega (arith, inside))
-ascend_at format ids before (e ∷ edges) i zero d are less inside = absurd (omega (arith, less))
-ascend_at format ids before (e ∷ edges) zero (suc j) d are less inside = after_at format ids (ends_of e) edges j d are.2 (omega (arith, inside))
-ascend_at format ids before (e ∷ edges) (suc i) (suc j) d are less inside = ascend_at format ids (ends_of e) edges i j d are.2 (omega (arith, less)) (omega (arith, inside))
+-- no weight in effect is below the administrator's minimum, which is at least 1 where the edge isn't withdrawn
+some_weight : (w : WeightState) (place : ℕ) → is_withdrawn w place ≡ false → 1 ≤ effective w place
+some_weight w place open_ = let least : 1 ≤ minimum w place = grind (arith, nat_tests, open_) in omega (arith, least)
 
--- no weight in effect is below the administrator's minimum
-some_weight : (w : WeightState) (edges : List Edge) (k : ℕ) (d : Edge) → w.edges ≡ edges → k < length edges → (slice_index_or edges k d).weight ≤ effective w k
-some_weight w edges k d same inside =
-    let least : minimum w k ≡ (slice_index_or edges k d).weight =
-    ap (λ (es : List Edge). minimum_of (slice_get es k)) same ∙ ap minimum_of (slice_get-get_or edges k d inside) in
-    omega (arith, least)
+edges_left : (format nodes : ℕ) (ids : List ℕ) (w : WeightState) (place : ℕ) (before : ℕ × ℕ) (edges : List Edge)
+    → ((id : ℕ) → has_id id ids ≡ true → (0 < id) × (id ≤ nodes)) → ((edge : ℕ) → effective w edge ≤ MAX_WEIGHT) → AreEdges format ids before edges
+    → AreLeft nodes before (weighed w place edges)
+edges_left format nodes ids w place before [] known small are = record {
+  edges = λ k d inside. absurd (omega (arith, inside));
+  behind = λ k d inside. absurd (omega (arith, inside));
+  ascend = λ i j d less inside. absurd (omega (arith, inside));
+}
+edges_left format nodes ids w place before (e ∷ edges) known small are =
+    go (is_withdrawn w place) refl (edges_left format nodes ids w (place + 1) (ends_of e) edges known small are.2)
+  where
+    left : List Edge
+    left = weighed w (place + 1) edges
 
-edges_in : (t : Topology) (w : WeightState) → IsRunnable t → w.edges ≡ t.edges → ((edge : ℕ) → effective w edge ≤ MAX_WEIGHT)
-    → All (IsEdge (greatest_id t.nodes)) (weighed w 0 t.edges)
-edges_in t w good same small k d inside =
-    let here : k < length t.edges = omega (arith, inside, length_weighed w 0 t.edges) in
-    let e = slice_index_or t.edges k d in
-    let is = good_at t.format (ids_of t.nodes) (0, 0) t.edges k d good.ranges.graph.are_edges here in
-    let low = id_in t.format t.height 0 t.nodes e.low.0 good.ranges.nodes is.1 in
-    let high = id_in t.format t.height 0 t.nodes e.high.0 good.ranges.nodes is.2 in
-    let from_zero : 0 + k ≡ k = omega arith in
-    let some : 1 ≤ effective w (0 + k) = rw from_zero (omega (arith, some_weight w t.edges k d same here, good.whole k d here)) in
-    let weighs : IsEdge (greatest_id t.nodes) (at_weight e (effective w (0 + k))) = (low.0, is.0, high.1, (some, small (0 + k))) in
-    subst (IsEdge (greatest_id t.nodes)) (sym (weighed_at w 0 t.edges k d here)) weighs
+    here : Edge
+    here = record { low = e.low; high = e.high; weight = effective w place }
 
-edges_ascend : (t : Topology) (w : WeightState) → IsRunnable t → AllPairs IsLower (weighed w 0 t.edges)
-edges_ascend t w good i j d less inside =
-    let here : j < length t.edges = omega (arith, inside, length_weighed w 0 t.edges) in
-    rw (weighed_at w 0 t.edges i d (omega (arith, less, here)), weighed_at w 0 t.edges j d here) (ascend_at t.format (ids_of t.nodes) (0, 0) t.edges i j d good.ranges.graph.are_edges less here)
+    farther : All (λ f. IsBelow (ends_of e) (ends_of f)) left → All (λ f. IsBelow before (ends_of f)) left
+    farther behind k d inside = below_again before (ends_of e) (ends_of (slice_index_or left k d)) are.0.after (behind k d inside)
+
+    go : (t : Bool) → is_withdrawn w place ≡ t → AreLeft nodes (ends_of e) left → AreLeft nodes before (cond t left (here ∷ left))
+    go true is rest = record { edges = rest.edges; behind = farther rest.behind; ascend = rest.ascend }
+    go false is rest =
+        let low = known e.low.0 are.0.low in
+        let high = known e.high.0 are.0.high in
+        record {
+          edges = All-cons (IsEdge nodes) here left (low.0, are.0.ascend, high.1, (some_weight w place is, small place)) rest.edges;
+          behind = All-cons (λ (f : Edge). IsBelow before (ends_of f)) here left are.0.after (farther rest.behind);
+          ascend = AllPairs-cons IsLower here left rest.behind rest.ascend;
+        }
+
+few_left : (w : WeightState) (place : ℕ) (edges : List Edge) → length (weighed w place edges) ≤ length edges
+few_left w place [] = omega arith
+few_left w place (e ∷ edges) = go (is_withdrawn w place) (few_left w (place + 1) edges)
+  where
+    go : (t : Bool) → length (weighed w (place + 1) edges) ≤ length edges
+        → length (cond t (weighed w (place + 1) edges) (record { low = e.low; high = e.high; weight = effective w place } ∷ weighed w (place + 1) edges))
+        ≤ length (e ∷ edges)
+    go true rest = omega (arith, rest)
+    go false rest = omega (arith, rest)
 
 -- the topology under these weights is a graph in its ranges
-pub graph_good : (t : Topology) (w : WeightState) → IsRunnable t → w.edges ≡ t.edges → ((edge : ℕ) → effective w edge ≤ MAX_WEIGHT)
-    → IsGraph (graph_of t w)
-graph_good t w good same small = record {
-  nodes = (omega (arith, room_for t.format t.height 0 t.nodes good.ranges.nodes, good.ranges.graph.node_count), omega (arith, greatest_small t.format t.height 0 t.nodes good.ranges.nodes, few_nodes t.format));
-  few = omega (arith, length_weighed w 0 t.edges, good.ranges.graph.edge_count, few_edges t.format);
-  edges = edges_in t w good same small;
-  ascend = edges_ascend t w good;
-}
+pub graph_good : (t : Topology) (w : WeightState) → IsRunnable t → ((edge : ℕ) → effective w edge ≤ MAX_WEIGHT) → IsGraph (graph_of t w)
+graph_good t w good small =
+    let known : (id : ℕ) → has_id id (ids_of t.nodes) ≡ true → (0 < id) × (id ≤ greatest_id t.nodes) = λ id is. id_in t.format t.height 0 t.nodes id good.ranges.nodes is in
+    let left = edges_left t.format (greatest_id t.nodes) (ids_of t.nodes) w 0 (0, 0) t.edges known small good.ranges.graph.are_edges in
+    record {
+      nodes = (omega (arith, room_for t.format t.height 0 t.nodes good.ranges.nodes, good.ranges.graph.node_count), omega (arith, greatest_small t.format t.height 0 t.nodes good.ranges.nodes, few_nodes t.format));
+      few = omega (arith, few_left w 0 t.edges, good.ranges.graph.edge_count, few_edges t.format);
+      edges = left.edges;
+      ascend = left.ascend;
+    }
+
+-- both ends of each edge of a topology have flags
+ends_flagged : (format : ℕ) (ids : List ℕ) (before : ℕ × ℕ) (edges : List Edge) → ((id : ℕ) → has_id id ids ≡ true → id < IDS) → AreEdges format ids before edges
+    → All HasFlag edges
+ends_flagged format ids before [] known are = λ k d inside. absurd (omega (arith, inside))
+ends_flagged format ids before (e ∷ edges) known are =
+    All-cons HasFlag e edges (known e.low.0 are.0.low, known e.high.0 are.0.high) (ends_flagged format ids (ends_of e) edges known are.2)
+
+pub edges_flagged : (t : Topology) → IsRunnable t → All HasFlag t.edges
+edges_flagged t good =
+    let most = greatest_small t.format t.height 0 t.nodes good.ranges.nodes in
+    let few = few_nodes t.format in
+    ends_flagged t.format (ids_of t.nodes) (0, 0) t.edges
+    (λ id is. let there = id_in t.format t.height 0 t.nodes id good.ranges.nodes is in omega (arith, there, most, few)) good.ranges.graph.are_edges
+
+-- ---- edge by edge
+
+-- an edge with the weight that is in effect at its place
+abbrev pub at_weight : WeightState → ℕ → Edge → Edge
+at_weight w place e = record { low = e.low; high = e.high; weight = effective w place }
+
+-- the next edge is left out, or comes next
+weighed_next : (w : WeightState) (place : ℕ) (edges : List Edge) (k : ℕ) (d : Edge) → k < length edges
+    → weighed w place (drop k edges)
+    ≡ cond (is_withdrawn w place) (weighed w (place + 1) (drop (k + 1) edges))
+    (at_weight w place (slice_index_or edges k d) ∷ weighed w (place + 1) (drop (k + 1) edges))
+weighed_next w place edges k d inside =
+    let next : suc k ≡ k + 1 = omega arith in
+    ap (weighed w place) (drop-cons edges k d inside ∙ ap (λ (n : ℕ). slice_index_or edges k d ∷ drop n edges) next)
+
+pub left_out : (w : WeightState) (place : ℕ) (edges made whole : List Edge) (k : ℕ) (d : Edge) → k < length edges → is_withdrawn w place ≡ true
+    → made ++ weighed w place (drop k edges) ≡ whole → made ++ weighed w (place + 1) (drop (k + 1) edges) ≡ whole
+left_out w place edges made whole k d inside shut so_far =
+    let rest = weighed w (place + 1) (drop (k + 1) edges) in
+    let next : weighed w place (drop k edges) ≡ rest =
+    weighed_next w place edges k d inside ∙ ap (λ (t : Bool). cond t rest (at_weight w place (slice_index_or edges k d) ∷ rest)) shut in
+    ap (λ (more : List Edge). made ++ more) (sym next) ∙ so_far
+
+pub put_in : (w : WeightState) (place : ℕ) (edges made whole : List Edge) (k : ℕ) (d : Edge) → k < length edges → is_withdrawn w place ≡ false
+    → made ++ weighed w place (drop k edges) ≡ whole
+    → (made ++ at_weight w place (slice_index_or edges k d) ∷ []) ++ weighed w (place + 1) (drop (k + 1) edges) ≡ whole
+put_in w place edges made whole k d inside open_ so_far =
+    let here = at_weight w place (slice_index_or edges k d) in
+    let rest = weighed w (place + 1) (drop (k + 1) edges) in
+    let next : weighed w place (drop k edges) ≡ here ∷ rest = weighed_next w place edges k d inside ∙ ap (λ (t : Bool). cond t rest (here ∷ rest)) open_ in
+    append_assoc made (here ∷ []) rest ∙ ap (λ (more : List Edge). made ++ more) (sym next) ∙ so_far

@@ -21,7 +21,7 @@ fn greatest_id(nodes: &[NodeKey]) -> u8
     greatest
 }
 
-/// The edges with the weights that are in effect.
+/// The edges that aren't withdrawn with the weights that are in effect.
 fn weighed(alloc: Global, weights: &Weights, edges: &[Edge]) -> Result<Vec<Edge>, Memory>
     requires edges { weights.now.edges ≡ edges.now }
     requires few { length edges.now ≤ MAX_EDGES_2 }
@@ -30,17 +30,20 @@ fn weighed(alloc: Global, weights: &Weights, edges: &[Edge]) -> Result<Vec<Edge>
     let mut made = Vec::with_capacity(alloc, edges.len())?;
     let mut place = 0u16;
     'edges: for edge in edges {
-        made.push(Edge {
-            low: edge.low,
-            high: edge.high,
-            weight: weights.effective(EdgeId(place)),
-        })?;
+        let id = EdgeId(place);
+        if !weights.is_withdrawn(id) {
+            made.push(Edge {
+                low: edge.low,
+                high: edge.high,
+                weight: weights.effective(id),
+            })?;
+        }
         place += 1;
     }
     Ok(made)
 }
 
-/// The graph in which paths are sought: the topology under the weights that are in effect.
+/// The graph in which paths are sought: the edges of the topology that aren't withdrawn, under the weights that are in effect.
 pub fn graph_of(alloc: Global, topology: &Topology, weights: &Weights) -> Result<Graph, Memory>
     requires topology { IsRunnable topology.now }
     requires edges { weights.now.edges ≡ topology.now.edges }

@@ -1,5 +1,6 @@
 -- What always holds of a flow at a node: at the start, and after each event.
-use Rattle.std.proofs.Common.{All, cond, Bool, ◌≡◌, ◌<◌, ◌≤◌, ℕ, zero, suc, ◌+◌, ◌-◌, ◌==◌, true, false, List, [], ◌∷◌, ◌++◌, length, drop, max, refl, sym, ap, subst, arith, length-append, length-drop}
+use Rattle.std.proofs.Common.{All, cond, Bool, ◌≡◌, ◌<◌, ◌≤◌, ℕ, zero, suc, ◌+◌, ◌-◌, ◌==◌, true, false, List, [], ◌∷◌, ◌++◌, length, drop, max, refl, sym, ap}
+use Rattle.std.proofs.Common.{subst, arith, length-append, length-drop}
 use Rattle.std.proofs.lemmas.Bool.Decides.{nat_tests}
 use Rattle.sp_base.specs.declared.id.Flow.{Flow}
 use Rattle.sp_base.specs.declared.id.NodeId.{NodeId}
@@ -7,7 +8,8 @@ use Rattle.sp_base.specs.declared.limits.TheConstants.{MAX_SEQ}
 use Rattle.sp_msg.specs.declared.kept.Kept.{Kept}
 use Rattle.std.proofs.lemmas.List.Elements.{All-head, All-tail}
 use Rattle.sp_rules.specs.Rel.{flow_in}
-use Rattle.sp_rules.specs.Flow.{FlowState, is_flow, no_flow, ends, is_full, number_said, pushed, received, acknowledged_by, concluded, after_take, IsMessage, AreMessages, IsStanding}
+use Rattle.sp_rules.specs.Flow.{FlowState, is_flow, no_flow, ends, is_full, number_said, pushed, received, acknowledged_by, concluded, after_take, ended}
+use Rattle.sp_rules.specs.Flow.{IsMessage, AreMessages, IsStanding}
 
 -- one more message follows the others
 messages_more : (flow : Flow) (after : ℕ) (ms : List Kept) (m : Kept) → AreMessages flow after ms → IsMessage flow (after + length ms + 1) m.body
@@ -114,6 +116,19 @@ standing_taken me bound f s = record {
   no_list = s.no_list;
   inbox = omega (arith, s.inbox, length-drop 1 f.inbox);
   idle = λ off. ap after_take (s.idle off);
+}
+
+-- what ended keeps nothing but what waits for clients
+pub standing_ended : (me : NodeId) (bound : ℕ) (f : FlowState) → IsStanding me bound f → IsStanding me bound (ended f)
+standing_ended me bound f s = record {
+  sound = omega arith;
+  bounded = omega arith;
+  numbers = omega arith;
+  position = λ _. refl;
+  messages = tt;
+  no_list = λ _. refl;
+  inbox = s.inbox;
+  idle = λ _. refl;
 }
 
 -- the row of a flow, or what stands for it, is standing

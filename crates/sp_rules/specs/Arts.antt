@@ -1,6 +1,6 @@
 -- The arts that a node's rules stand on: what bytes say, and who may have made them. Rules speak of them by these functions alone, so no law
 -- of a node looks into the grammar of frames, into tags or into signatures.
-use Rattle.std.specs.Prelude.{ℕ, Bool, List, Result, nat_eq}
+use Rattle.std.specs.Prelude.{ℕ, Bool, List, Option, Result, nat_eq}
 use Rattle.std.specs.Cmp.Lexicographic.{pointwise}
 use Rattle.sp_frame.specs.Frames.{tagged_part, tag_part}
 use Rattle.sp_frame.specs.Sections.{Contents}
@@ -10,6 +10,13 @@ use Rattle.sp_frame.specs.declared.refused.SectionRefused.{SectionRefused}
 use Rattle.sp_msg.specs.declared.body.Body.{Body}
 use Rattle.sp_msg.specs.declared.refused.MsgRefused.{MsgRefused}
 use Rattle.sp_topology.specs.declared.topology.LmsHeight.{LmsHeight}
+use Rattle.sp_topology.specs.declared.topology.Topology.{Topology}
+
+-- what bytes say as a document: a topology, and the signature of the bytes before it
+pub record Document : Type 0 where
+  pub topology : Topology
+  pub message : List ℕ
+  pub signature : List ℕ
 
 pub record Arts : Type 0 where
   -- a datagram as a frame, or the first test of its bytes that fails
@@ -20,6 +27,10 @@ pub record Arts : Type 0 where
   pub sections : ℕ → List ℕ → Result Contents SectionRefused
   -- the bytes of a frame before its tag
   pub frame : Head → Contents → List ℕ
+  -- whether the control part of a frame begins as that of a document does
+  pub is_document : List ℕ → Bool
+  -- what bytes say as a document. None where they are none
+  pub read_document : List ℕ → Option Document
   -- the tag of bytes under a key
   pub tag : List ℕ → List ℕ → List ℕ
   -- whether a message is one that this format has: each of its fields is in the range that the format gives it

@@ -11,8 +11,9 @@ use Rattle.sp_msg.specs.declared.body.Body.{Body}
 use Rattle.sp_msg.specs.declared.body.Body.TheVariants as bodies
 use Rattle.sp_msg.specs.declared.kept.Kept.{Kept}
 
--- A flow is active from the first message or acknowledgement on that the node took, until another life of one of its ends begins. The kept acknowledgement is the last
--- one that raised base. At the destination the position has no list, and the inbox holds what was delivered and not yet taken by a client.
+-- A flow is active from the first message or acknowledgement on that the node took, until another life of one of its ends begins, or one is removed. The kept
+-- acknowledgement is the last one that raised base. At the destination the position has no list, and the inbox holds what was delivered and not yet taken by a
+-- client.
 pub record FlowState : Type 0 where
   pub src : NodeId
   pub dst : NodeId
@@ -83,6 +84,10 @@ concluded f ack = record f { at = acknowledged f.at f.at.have; ack = Some ack }
 abbrev pub after_take : FlowState → FlowState
 after_take f = record f { inbox = drop 1 f.inbox }
 
+-- an end of the flow is removed: all of it is let go but what waits for a client
+abbrev pub ended : FlowState → FlowState
+ended f = record f { active = false; at = start; ack = None }
+
 -- ---- what always holds of a flow at a node
 
 -- the message of this number in the flow
@@ -106,5 +111,5 @@ pub record IsStanding (me : NodeId) (bound : ℕ) (f : FlowState) : Type 0 where
   pub messages : AreMessages (ends f) f.at.base f.at.list
   pub no_list : (f.dst.0 == me.0) ≡ true → f.at.list ≡ []
   pub inbox : length f.inbox ≤ bound
-  -- nothing came yet
-  pub idle : f.active ≡ false → f ≡ no_flow (ends f)
+  -- nothing came yet, or it ended, and then something may wait for a client
+  pub idle : f.active ≡ false → f ≡ record (no_flow (ends f)) { inbox = f.inbox }

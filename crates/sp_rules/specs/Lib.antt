@@ -9,12 +9,15 @@ pub mod PrioPeer
 pub mod Rel
 pub mod Store
 pub mod Told
+pub mod Topologies
+pub mod Versions
 pub mod Weights
 pub mod Window
 -- ---- a whole node
 pub mod Answers
 pub mod Arrivals
 pub mod Arts
+pub mod Documents
 pub mod Handle
 pub mod Masks
 pub mod Messages
@@ -25,4 +28,3 @@ pub mod Polls
 pub mod Sends
 pub mod Steps
 pub mod Ticks
-pub mod Topologies

@@ -1,5 +1,5 @@
 -- One node: what it keeps from call to call. Nothing else of the world is in its rules.
-use Rattle.std.specs.Prelude.{ℕ, ◌==◌, ◌+◌, Bool, not, List, [], ◌∷◌, map, zip, Option, None, Some, if◌then◌else◌}
+use Rattle.std.specs.Prelude.{ℕ, ◌==◌, ◌+◌, nat_lt, Bool, true, not, ◌&&◌, List, [], ◌∷◌, map, zip, Option, None, Some, if◌then◌else◌}
 use Rattle.std.specs.List.{list_any}
 use Rattle.sp_base.specs.Rows.{first_where, replace_where}
 use Rattle.sp_base.specs.declared.id.EdgeId.{EdgeId}
@@ -9,10 +9,13 @@ use Rattle.sp_msg.specs.declared.body.Body.TheVariants as bodies
 use Rattle.sp_msg.specs.declared.effect.Effect.{Effect}
 use Rattle.sp_msg.specs.declared.effect.Effect.TheVariants.{Signed}
 use Rattle.sp_msg.specs.declared.kept.Kept.{Kept}
+use Rattle.sp_topology.specs.declared.topology.Topology.{Topology}
 use Rattle.sp_rules.specs.Arts.{Arts}
 use Rattle.sp_rules.specs.Link.{Link, new_link}
 use Rattle.sp_rules.specs.Lives.{held}
-use Rattle.sp_rules.specs.Parts.{Fixed, Parts, empty_parts, neighbours_of}
+use Rattle.sp_rules.specs.Parts.{Fixed, Parts, changes, edge_to, empty_parts, neighbours_of}
+use Rattle.sp_rules.specs.Topologies.{is_shut, under, weights_in}
+use Rattle.sp_rules.specs.Versions.{Heard, Live, none_heard, version_in}
 use Rattle.sp_rules.specs.declared.node.NodeRefused.{NodeRefused}
 use Rattle.sp_rules.specs.declared.node.NodeRefused.TheVariants as refusals
 use Rattle.sp_rules.specs.declared.node.TheConstants.{MAX_CALLS}
@@ -24,9 +27,12 @@ pub record Signer : Type 0 where
   pub bound : ℕ
   pub total : ℕ
 
--- the time is the greatest that a tick gave. Calls are the polls and datagrams that were answered. Links ascend by their neighbours
+-- the time is the greatest that a tick gave. Calls are the polls and datagrams that were answered. Links ascend by their neighbours, and so do the versions
+-- that are kept of these
 pub record NodeState : Type 0 where
   pub fixed : Fixed
+  pub live : Live
+  pub heard : List Heard
   pub now : ℕ
   pub calls : ℕ
   pub links : List Link
@@ -43,6 +49,8 @@ link_of f n = new_link f.me n.0.0 f.boot n.1
 abbrev pub booted : Fixed → Signer → List (List ℕ) → (buffer store : ℕ) → NodeState
 booted f signer keys buffer store = record {
   fixed = f;
+  live = record { version = f.topology.version; weights = weights_in f.topology.edges; document = f.document };
+  heard = map (λ n. none_heard n.0) (neighbours_of f);
   now = 0;
   calls = 0;
   links = map (link_of f) (zip (neighbours_of f) keys);
@@ -53,6 +61,27 @@ booted f signer keys buffer store = record {
 -- more indexes are reserved
 abbrev pub extended : NodeState → ℕ → NodeState
 extended n upto = record n { signer = record n.signer { bound = upto } }
+
+-- ---- the topology as it is now
+
+abbrev pub topology_now : NodeState → Topology
+topology_now n = record n.fixed.topology { version = n.live.version; edges = under n.fixed.topology.edges n.live.weights }
+
+-- the edge to a neighbour is withdrawn. So is one that isn't there
+abbrev pub is_shut_at : NodeState → Option ℕ → Bool
+is_shut_at n None = true
+is_shut_at n (Some edge) = is_shut n.live.weights edge
+
+abbrev pub is_shut_to : NodeState → NodeId → Bool
+is_shut_to n v = is_shut_at n (edge_to n.fixed v)
+
+-- the version that is kept of a neighbour
+abbrev pub version_of : NodeState → NodeId → ℕ
+version_of n v = version_in n.heard v
+
+-- the neighbour runs under an older version, as far as was heard
+abbrev pub is_behind : NodeState → NodeId → Bool
+is_behind n v = changes n.fixed && nat_lt 0 (version_of n v) && nat_lt (version_of n v) n.live.version
 
 -- ---- links
 

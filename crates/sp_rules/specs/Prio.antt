@@ -1,7 +1,7 @@
 -- The priority part of a node: a store for each neighbour and an inbox, and for each source a window of the numbers that were seen.
 --
 -- Place 0 is the inbox, and the place of a neighbour is its id.
-use Rattle.std.specs.Prelude.{ℕ, ◌==◌, ◌+◌, nat_lt, Bool, not, ◌||◌, List, [], ◌∷◌, ◌++◌, length, map, replicate, count_by, sum_by}
+use Rattle.std.specs.Prelude.{ℕ, ◌==◌, ◌+◌, nat_lt, Bool, false, not, ◌&&◌, ◌||◌, List, [], ◌∷◌, ◌++◌, length, map, replicate, count_by, sum_by}
 use Rattle.std.specs.Prelude.{position, slice_index_or, slice_set, Option, Some, None, if◌then◌else◌}
 use Rattle.std.specs.List.{flat_map, list_any}
 use Rattle.sp_base.specs.Rows.{first_where, replace_where}
@@ -21,11 +21,12 @@ use Rattle.sp_rules.specs.declared.prio.PrioJudged.{PrioJudged}
 use Rattle.sp_rules.specs.declared.prio.PrioJudged.TheVariants as judged
 use Rattle.sp_rules.specs.declared.store.Entry.{Entry}
 
--- this node and all nodes, the inbox, a row for each neighbour, ascending, a window for each node in the order of nodes, and the number
--- of the next own message
+-- this node, all nodes and those of them that are removed, the inbox, a row for each neighbour, ascending, a window for each node in the order of nodes, and
+-- the number of the next own message
 pub record PrioState : Type 0 where
   pub me : ℕ
   pub nodes : List NodeId
+  pub removed : List NodeId
   pub inbox : Store
   pub peers : List PrioPeer
   pub windows : List (List ℕ)
@@ -36,6 +37,7 @@ abbrev pub start : ℕ → List NodeId → List Neighbour → ℕ → PrioState
 start me nodes neighbours capacity = record {
   me = me;
   nodes = nodes;
+  removed = [];
   inbox = empty_store capacity;
   peers = map (rows.new_peer capacity) neighbours;
   windows = replicate (length nodes) [];
@@ -49,7 +51,7 @@ is_peer v q = q.peer == v
 
 -- what stands for a neighbour that isn't there
 abbrev pub no_peer : PrioPeer
-no_peer = record { peer = 0; edge = 0; store = empty_store 0; number = 0; heard = 0; last = None; flight = [] }
+no_peer = record { peer = 0; edge = 0; shut = false; store = empty_store 0; number = 0; heard = 0; last = None; flight = [] }
 
 abbrev pub peer_in : PrioState → ℕ → PrioPeer
 peer_in s v = first_where (is_peer v) no_peer s.peers
@@ -62,6 +64,10 @@ with_peer s v q = record s { peers = replace_where (is_peer v) q s.peers }
 
 abbrev pub is_node : List NodeId → ℕ → Bool
 is_node nodes id = list_any (λ n. n.0 == id) nodes
+
+-- it is a node, and isn't removed
+abbrev pub is_there : PrioState → ℕ → Bool
+is_there s id = is_node s.nodes id && not (is_node s.removed id)
 
 abbrev pub place_of : List NodeId → ℕ → Option ℕ
 place_of nodes id = position (λ n. n.0 == id) nodes
@@ -83,7 +89,7 @@ windows_with windows (Some place) number = slice_set windows place (with_mark (s
 -- the answer to these fields, without the signature: the first that applies
 abbrev pub judge_fields : PrioState → ℕ → ℕ → ℕ → ℕ → ℕ → PrioJudged
 judge_fields s src dst seq expiry now =
-    if not (is_node s.nodes src) || not (is_node s.nodes dst) || (src == dst) then judged.BadEnd
+    if not (is_there s src) || not (is_there s dst) || (src == dst) then judged.BadEnd
     else if nat_lt expiry now then judged.Expired
     else if (src == s.me) || is_seen (window_in s src) seq then judged.Seen
     else judged.New
@@ -178,3 +184,16 @@ expired_effects s now = rows.expired_effects 0 s.inbox now ++ flat_map (λ q. ro
 -- a client takes the oldest message of the inbox
 abbrev pub taken : PrioState → PrioState
 taken s = record s { inbox = less_oldest s.inbox }
+
+-- ---- another version of the topology
+
+-- what waited for edges that are withdrawn now, and what has a removed end, leaves the stores of neighbours. The inbox stays
+abbrev pub closed : PrioState → List ℕ → List NodeId → PrioState
+closed s weights removed = record s { removed = removed; peers = map (rows.closed weights removed) s.peers }
+
+abbrev pub closed_effects : PrioState → List ℕ → List NodeId → List Effect
+closed_effects s weights removed = flat_map (rows.closed_effects weights removed) s.peers
+
+-- how many entries all places have
+abbrev pub entry_count : PrioState → ℕ
+entry_count s = length s.inbox.entries + sum_by (λ q. length q.store.entries) s.peers

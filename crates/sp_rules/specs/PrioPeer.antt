@@ -5,7 +5,7 @@
 --
 --     in flight     7: entry 31 | 8: entry 35 | 9: entry 33         the neighbour acknowledges 8: entries 31 and 35 leave the store
 --     then                                      9: entry 33 | 10: entry 36 | 11: entry 34 | 12: entry 40        the next poll fills up
-use Rattle.std.specs.Prelude.{ℕ, zero, suc, ◌==◌, ◌+◌, ◌-◌, nat_le, max, Bool, false, not, ◌&&◌, List, [], ◌∷◌, ◌++◌, length, map, filter}
+use Rattle.std.specs.Prelude.{ℕ, zero, suc, ◌==◌, ◌+◌, ◌-◌, nat_le, max, Bool, false, not, ◌&&◌, ◌||◌, List, [], ◌∷◌, ◌++◌, length, map, filter}
 use Rattle.std.specs.Prelude.{Option, Some, None, option_map, if◌then◌else◌}
 use Rattle.std.specs.List.{flat_map, list_any}
 use Rattle.sp_base.specs.declared.id.NodeId.{NodeId}
@@ -20,15 +20,19 @@ use Rattle.sp_msg.specs.declared.effect.Effect.TheVariants as effects
 use Rattle.sp_msg.specs.declared.effect.Why.{Why}
 use Rattle.sp_msg.specs.declared.effect.Why.TheVariants as whys
 use Rattle.sp_msg.specs.declared.kept.Kept.{Kept}
-use Rattle.sp_rules.specs.Store.{Store, empty_store, entry_in, evicted, expired_entries, has_id, less_expired, next_besides, put, removed, said, source}
+use Rattle.sp_rules.specs.Store.{Store, empty_store, entry_in, evicted, expired_entries, has_id, leavers, less_expired, less_leavers, next_besides, put}
+use Rattle.sp_rules.specs.Store.{removed, said, source, target}
+use Rattle.sp_rules.specs.Topologies.{is_shut}
 use Rattle.sp_rules.specs.declared.prio.Neighbour.{Neighbour}
 use Rattle.sp_rules.specs.declared.store.Entry.{Entry}
 
 -- the neighbour and the edge to it, what waits for it, the last link number that was given, the greatest that was heard from it,
--- the source that was served last, and what is in flight: pairs of a link number and the id of an entry, in the order of link numbers
+-- the source that was served last, and what is in flight: pairs of a link number and the id of an entry, in the order of link numbers. It is shut where the
+-- edge is withdrawn
 pub record PrioPeer : Type 0 where
   pub peer : ℕ
   pub edge : ℕ
+  pub shut : Bool
   pub store : Store
   pub number : ℕ
   pub heard : ℕ
@@ -37,7 +41,7 @@ pub record PrioPeer : Type 0 where
 
 -- nothing waits for it yet, and nothing was heard
 abbrev pub new_peer : ℕ → Neighbour → PrioPeer
-new_peer capacity n = record { peer = n.id.0; edge = n.edge.0; store = empty_store capacity; number = 0; heard = 0; last = None; flight = [] }
+new_peer capacity n = record { peer = n.id.0; edge = n.edge.0; shut = false; store = empty_store capacity; number = 0; heard = 0; last = None; flight = [] }
 
 -- ---- what a place tells
 
@@ -55,9 +59,13 @@ gone place why (Some e) = effects.Gone place e.id why ∷ []
 abbrev pub put_effects : ℕ → Store → Kept → List Effect
 put_effects place s kept = stored place (s.last + 1) kept.body ++ gone place whys.Evicted (evicted s kept)
 
+-- these entries left a place, one after the other
+abbrev pub gone_effects : ℕ → Why → List Entry → List Effect
+gone_effects place why es = map (λ e. effects.Gone place e.id why) es
+
 -- all whose expiry passed leave a store
 abbrev pub expired_effects : ℕ → Store → ℕ → List Effect
-expired_effects place s now = map (λ e. effects.Gone place e.id whys.Expired) (expired_entries s now)
+expired_effects place s now = gone_effects place whys.Expired (expired_entries s now)
 
 -- ---- a message comes
 
@@ -66,9 +74,9 @@ abbrev pub is_from : Option NodeId → ℕ → Bool
 is_from None v = false
 is_from (Some u) v = u.0 == v
 
--- a message goes to the neighbour where its mask has the edge, and it didn't come from there
+-- a message goes to the neighbour where its mask has the edge, the edge isn't withdrawn, and it didn't come from there
 abbrev pub goes_to : Body → Option NodeId → PrioPeer → Bool
-goes_to body came q = not (is_from came q.peer) && names_edge (said (λ p. bits p.mask) body) q.edge
+goes_to body came q = not (is_from came q.peer) && names_edge (said (λ p. bits p.mask) body) q.edge && not q.shut
 
 abbrev pub given : Kept → Option NodeId → PrioPeer → PrioPeer
 given kept came q = if goes_to kept.body came q then record q { store = put q.store kept } else q
@@ -157,3 +165,21 @@ unheard q = record q { heard = 0; flight = [] }
 
 abbrev pub expired : PrioPeer → ℕ → PrioPeer
 expired q now = record q { store = less_expired q.store now }
+
+-- ---- another version of the topology
+
+-- an end of the entry is one of these nodes
+abbrev pub has_end_in : List NodeId → Entry → Bool
+has_end_in nodes e = list_any (λ n. n.0 == source e) nodes || list_any (λ n. n.0 == target e) nodes
+
+-- the entry leaves where the edge is withdrawn, and where an end of it is removed
+abbrev pub leaves : Bool → List NodeId → Entry → Bool
+leaves shut removed e = shut || has_end_in removed e
+
+abbrev pub closed : List ℕ → List NodeId → PrioPeer → PrioPeer
+closed weights removed q =
+    let shut = is_shut weights q.edge in
+    record q { shut = shut; store = less_leavers (leaves shut removed) q.store }
+
+abbrev pub closed_effects : List ℕ → List NodeId → PrioPeer → List Effect
+closed_effects weights removed q = gone_effects q.peer whys.Withdrawn (leavers (leaves (is_shut weights q.edge) removed) q.store)

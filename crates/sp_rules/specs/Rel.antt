@@ -25,7 +25,7 @@ use Rattle.sp_msg.specs.declared.effect.Effect.{Effect}
 use Rattle.sp_msg.specs.declared.effect.Effect.TheVariants.{Delivered, Ended}
 use Rattle.sp_msg.specs.declared.kept.Kept.{Kept}
 use Rattle.sp_rules.specs.Flow.{FlowState, IsStanding, no_flow, ends, is_flow, is_full, flow_said, number_said, pushed, received}
-use Rattle.sp_rules.specs.Flow.{acknowledged_by, concluded, after_take}
+use Rattle.sp_rules.specs.Flow.{acknowledged_by, concluded, after_take, ended}
 use Rattle.sp_rules.specs.declared.rel.AckJudged.{AckJudged}
 use Rattle.sp_rules.specs.declared.rel.AckJudged.TheVariants as acks
 use Rattle.sp_rules.specs.declared.rel.RelJudged.{RelJudged}
@@ -48,6 +48,7 @@ pub record RelPeer : Type 0 where
 pub record RelState : Type 0 where
   pub me : NodeId
   pub nodes : List NodeId
+  pub removed : List NodeId
   pub bound : ℕ
   pub flows : List FlowState
   pub peers : List RelPeer
@@ -75,6 +76,7 @@ abbrev pub start : NodeId → List NodeId → List NodeId → ℕ → RelState
 start me nodes neighbours bound = record {
   me = me;
   nodes = nodes;
+  removed = [];
   bound = bound;
   flows = map no_flow (pairs_of nodes);
   peers = map (new_peer (pairs_of nodes)) neighbours;
@@ -123,8 +125,16 @@ position_in flows flow = let f = flow_in flows flow in if f.active then Some (f.
 
 -- ---- who is who
 
+abbrev pub is_one_of : List NodeId → NodeId → Bool
+is_one_of nodes u = list_any (λ x. x.0 == u.0) nodes
+
+-- it is a node, and isn't removed
 abbrev pub is_node : RelState → NodeId → Bool
-is_node r u = list_any (λ x. x.0 == u.0) r.nodes
+is_node r u = is_one_of r.nodes u && not (is_one_of r.removed u)
+
+-- an end of the flow is removed: it has ended here
+abbrev pub is_over : List NodeId → Flow → Bool
+is_over removed flow = is_one_of removed flow.src || is_one_of removed flow.dst
 
 -- this node is the source, or the destination
 abbrev pub is_from : RelState → Flow → Bool
@@ -355,6 +365,22 @@ no_views p = record p { views = map (λ w. no_view (viewed w)) p.views }
 
 abbrev pub unheard : RelState → NodeId → RelState
 unheard r v = with_peer r v (no_views (peer_in r.peers v))
+
+-- ---- another version of the topology
+
+-- it ends where it was active and an end of it is removed now
+abbrev pub ended_where : List NodeId → FlowState → FlowState
+ended_where removed f = if f.active && is_over removed (ends f) then ended f else f
+
+abbrev pub closed : RelState → List NodeId → RelState
+closed r removed = record r { removed = removed; flows = map (ended_where removed) r.flows }
+
+abbrev pub ended_effect : List NodeId → FlowState → List Effect
+ended_effect removed f = if f.active && is_over removed (ends f) then Ended (ends f) ∷ [] else []
+
+-- in the order of flows
+abbrev pub closed_effects : RelState → List NodeId → List Effect
+closed_effects r removed = flat_map (ended_effect removed) r.flows
 
 -- ---- what always holds
 

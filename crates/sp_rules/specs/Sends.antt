@@ -20,11 +20,11 @@ use Rattle.sp_rules.specs.Lives.{held_boot}
 use Rattle.sp_rules.specs.Masks.{Choice, Mask, OnlyPaths}
 use Rattle.sp_rules.specs.Node.{NodeState, Signer, kept_or, signed_now, signed_once}
 use Rattle.sp_rules.specs.Parts.{edge_to}
-use Rattle.sp_rules.specs.Prio.{admit_prio, is_node, prio_effects, taken}
+use Rattle.sp_rules.specs.Prio.{admit_prio, is_there, prio_effects, taken}
 use Rattle.sp_rules.specs.PrioPeer.{gone}
 use Rattle.sp_rules.specs.Rel.{flow_in, own_flow, pushed_in, room, took}
 use Rattle.sp_rules.specs.Store.{oldest}
-use Rattle.sp_rules.specs.Weights.{held, minimum, next_seq}
+use Rattle.sp_rules.specs.Weights.{held, is_withdrawn, minimum, next_seq}
 use Rattle.sp_rules.specs.declared.rel.RelRefused.{RelRefused}
 use Rattle.sp_rules.specs.declared.rel.RelRefused.TheVariants as rels
 
@@ -83,7 +83,8 @@ pub record PrioSend : Type 0 where
 
 abbrev pub prio_refusal : NodeState → PrioSend → Option SendRefused
 prio_refusal n m =
-    if (m.dst.0 == n.fixed.me.0) || not (is_node n.parts.prio.nodes m.dst.0) || is_unmet n m.dst then Some refusals.BadEnd
+    let s = n.parts.prio in
+    if (m.dst.0 == n.fixed.me.0) || not (is_there s m.dst.0) || not (is_there s n.fixed.me.0) || is_unmet n m.dst then Some refusals.BadEnd
     else if nat_lt m.expiry n.now then Some (refusals.Expired n.now)
     else signer_refusal n.signer
 
@@ -127,7 +128,8 @@ after_send_prio arts n m choice =
 abbrev pub weight_refusal_at : NodeState → Option ℕ → ℕ → Option SendRefused
 weight_refusal_at n None weight = Some refusals.BadEnd
 weight_refusal_at n (Some edge) weight =
-    if nat_lt weight (minimum n.parts.weights edge) then Some (refusals.Low (minimum n.parts.weights edge)) else signer_refusal n.signer
+    if is_withdrawn n.parts.weights edge then Some refusals.BadEnd
+    else if nat_lt weight (minimum n.parts.weights edge) then Some (refusals.Low (minimum n.parts.weights edge)) else signer_refusal n.signer
 
 abbrev pub weight_refusal : NodeState → NodeId → ℕ → Option SendRefused
 weight_refusal n v weight = weight_refusal_at n (edge_to n.fixed v) weight

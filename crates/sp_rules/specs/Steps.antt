@@ -1,11 +1,12 @@
--- One step of a node: what it answers to a call, what that causes, and what is left. There are eight cases.
-use Rattle.std.specs.Prelude.{ℕ, ◌≡◌, List, [], map, Option, None, Some}
+-- One step of a node: what it answers to a call, what that causes, and what is left. There are nine cases.
+use Rattle.std.specs.Prelude.{ℕ, ◌≡◌, List, [], ◌∷◌, ◌++◌, map, Option, None, Some}
 use Rattle.sp_base.specs.declared.id.NodeId.{NodeId}
 use Rattle.sp_msg.specs.declared.effect.Effect.{Effect}
 use Rattle.sp_msg.specs.declared.kept.Kept.{Kept}
 use Rattle.sp_msg.specs.declared.refused.SendRefused.{SendRefused}
-use Rattle.sp_rules.specs.Arrivals.{after_datagram, handled, reply_at}
+use Rattle.sp_rules.specs.Arrivals.{after_datagram, before_document, document_at, handled, reply_at}
 use Rattle.sp_rules.specs.Arts.{Arts}
+use Rattle.sp_rules.specs.Documents.{adopted_where, after_publish, document_answer, publish_effects}
 use Rattle.sp_rules.specs.Masks.{Choice, IsChoice, graph_of}
 use Rattle.sp_rules.specs.Node.{NodeState, call_refusal}
 use Rattle.sp_rules.specs.Polls.{after_poll, frame_to}
@@ -15,7 +16,9 @@ use Rattle.sp_rules.specs.Sends.{prio_sent, rel_number, rel_refusal, rel_sent, s
 use Rattle.sp_rules.specs.Sends.{weight_refusal, weight_sent}
 use Rattle.sp_rules.specs.Store.{oldest}
 use Rattle.sp_rules.specs.Ticks.{after_tick, tick_effects, tick_reply}
+use Rattle.sp_rules.specs.declared.answers.DocumentAnswer.{DocumentAnswer}
 use Rattle.sp_rules.specs.declared.answers.Item.{Item}
+use Rattle.sp_rules.specs.declared.answers.Item.TheVariants as items
 use Rattle.sp_rules.specs.declared.node.LinkReply.{LinkReply}
 use Rattle.sp_rules.specs.declared.node.NodeRefused.{NodeRefused}
 use Rattle.sp_rules.specs.declared.node.TickReply.{TickReply}
@@ -30,6 +33,8 @@ pub data Input : Type 0 where
   SetWeight : (peer : NodeId) (weight : ℕ) → Input
   TakeRel : (src : NodeId) → Input
   TakePrio : Input
+  -- the administrator hands a document to the node
+  Publish : (document : List ℕ) → Input
 
 pub data Reply : Type 0 where
   Frame : (bytes : List ℕ) → Reply
@@ -42,19 +47,21 @@ pub data Reply : Type 0 where
   NotCalled : (refused : NodeRefused) → Reply
   Payload : (payload : Option (List ℕ)) → Reply
   Message : (entry : Option Entry) → Reply
+  Replaced : (answer : DocumentAnswer) → Reply
 
--- the reply, what was caused, in order, and each object that a datagram brought with its answer
+-- the reply, what was caused, in order, each object that a datagram brought with its answer, and the document that the node adopted from it
 pub record Output : Type 0 where
   pub reply : Reply
   pub effects : List Effect
   pub answered : List (Kept × Item)
+  pub adopted : Option (List ℕ)
 
 -- a reply alone
 abbrev pub replied : Reply → Output
-replied reply = record { reply = reply; effects = []; answered = [] }
+replied reply = record { reply = reply; effects = []; answered = []; adopted = None }
 
 abbrev pub accepted : ℕ → List Effect → Output
-accepted number effects = record { reply = Accepted number; effects = effects; answered = [] }
+accepted number effects = record { reply = Accepted number; effects = effects; answered = []; adopted = None }
 
 -- ---- the outputs
 
@@ -69,16 +76,37 @@ refused_send None output = output
 abbrev pub poll_output : Arts → NodeState → NodeId → Output
 poll_output arts n v = refused_call (call_refusal n v) (replied (Frame (frame_to arts n v)))
 
+-- the answer to a document that is handled
+abbrev pub document_items : Arts → NodeState → Option (List ℕ) → List Item
+document_items arts n None = []
+document_items arts n (Some document) = items.Document (document_answer arts n document) ∷ []
+
+abbrev pub document_effects : Arts → NodeState → Option (List ℕ) → List Effect
+document_effects arts n None = []
+document_effects arts n (Some document) = publish_effects arts n document
+
+abbrev pub document_adopted : Arts → NodeState → Option (List ℕ) → Option (List ℕ)
+document_adopted arts n None = None
+document_adopted arts n (Some document) = adopted_where (document_answer arts n document) document
+
+-- a document meets the node as its link and its pieces leave it
 abbrev pub arrived : Arts → NodeState → NodeId → List ℕ → Output
 arrived arts n v bytes =
     let done = handled arts n v bytes in
-    record { reply = Arrived (reply_at arts n v bytes) (map (λ a. a.1) done.answered); effects = done.effects; answered = done.answered }
+    let document = document_at arts n v bytes in
+    let then = before_document arts n v bytes in
+    record {
+      reply = Arrived (reply_at arts n v bytes) (map (λ a. a.1) done.answered ++ document_items arts then document);
+      effects = done.effects ++ document_effects arts then document;
+      answered = done.answered;
+      adopted = document_adopted arts then document;
+    }
 
 abbrev pub datagram_output : Arts → NodeState → NodeId → List ℕ → Output
 datagram_output arts n v bytes = refused_call (call_refusal n v) (arrived arts n v bytes)
 
 abbrev pub tick_output : Arts → NodeState → ℕ → Output
-tick_output arts n now = record { reply = Ticked (tick_reply n); effects = tick_effects arts n now; answered = [] }
+tick_output arts n now = record { reply = Ticked (tick_reply n); effects = tick_effects arts n now; answered = []; adopted = None }
 
 abbrev pub send_rel_output : Arts → NodeState → NodeId → List ℕ → Output
 send_rel_output arts n dst payload = refused_send (rel_refusal n dst) (accepted (rel_number n dst) (rel_sent arts n dst payload))
@@ -90,14 +118,22 @@ abbrev pub set_weight_output : Arts → NodeState → NodeId → ℕ → Output
 set_weight_output arts n v weight = refused_send (weight_refusal n v weight) (accepted (weight_number n v) (weight_sent arts n v weight))
 
 abbrev pub take_prio_output : NodeState → Output
-take_prio_output n = record { reply = Message (oldest n.parts.prio.inbox); effects = take_prio_effects n; answered = [] }
+take_prio_output n = record { reply = Message (oldest n.parts.prio.inbox); effects = take_prio_effects n; answered = []; adopted = None }
+
+abbrev pub publish_output : Arts → NodeState → List ℕ → Output
+publish_output arts n document = record {
+  reply = Replaced (document_answer arts n document);
+  effects = publish_effects arts n document;
+  answered = [];
+  adopted = None;
+}
 
 -- ---- the steps
 
 -- the one case with a choice: which of the cheapest paths a message takes. They are sought only where nothing else refuses
 pub record SendsPrio (arts : Arts) (old : NodeState) (m : PrioSend) (output : Output) (new : NodeState) : Type 0 where
   pub choice : Choice
-  pub is_choice : prio_refusal old m ≡ None → IsChoice (graph_of old.fixed.topology old.parts.weights) old.fixed.me m.dst m.paths choice
+  pub is_choice : prio_refusal old m ≡ None → IsChoice old.parts.weights (graph_of old.fixed.topology old.parts.weights) old.fixed.me m.dst m.paths choice
   pub output_is : output ≡ send_prio_output arts old m choice
   pub new_is : new ≡ after_send_prio arts old m choice
 
@@ -111,3 +147,4 @@ NodeStep arts old (SendPrio message) output new = SendsPrio arts old message out
 NodeStep arts old (SetWeight peer weight) output new = (output ≡ set_weight_output arts old peer weight) × (new ≡ after_set_weight arts old peer weight)
 NodeStep arts old (TakeRel src) output new = (output ≡ replied (Payload (rel.oldest old.parts.rel src))) × (new ≡ after_take_rel old src)
 NodeStep arts old TakePrio output new = (output ≡ take_prio_output old) × (new ≡ after_take_prio old)
+NodeStep arts old (Publish document) output new = (output ≡ publish_output arts old document) × (new ≡ after_publish arts old document)

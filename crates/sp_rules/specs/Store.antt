@@ -40,6 +40,9 @@ said field _ = 0
 abbrev pub source : Entry → ℕ
 source e = said (λ p. p.src.0) e.kept.body
 
+abbrev pub target : Entry → ℕ
+target e = said (λ p. p.dst.0) e.kept.body
+
 abbrev pub priority : Entry → ℕ
 priority e = said (λ p. p.prio) e.kept.body
 
@@ -152,16 +155,25 @@ oldest s = slice_get s.entries 0
 abbrev pub less_oldest : Store → Store
 less_oldest s = record { capacity = s.capacity; last = s.last; entries = drop 1 s.entries }
 
--- the oldest entry whose expiry has passed
-abbrev pub expired_entry : Store → ℕ → Option Entry
-expired_entry s now = find (is_expired now) s.entries
+-- ---- entries that leave at once: those of which p says so
 
-abbrev pub less_expired_entry : Store → ℕ → Store
-less_expired_entry s now = record { capacity = s.capacity; last = s.last; entries = less_first (is_expired now) s.entries }
+-- the oldest of them
+abbrev pub leaver : (Entry → Bool) → Store → Option Entry
+leaver p s = find p s.entries
 
--- all entries whose expiry has passed, and the store without them
+abbrev pub less_leaver : (Entry → Bool) → Store → Store
+less_leaver p s = record { capacity = s.capacity; last = s.last; entries = less_first p s.entries }
+
+-- all of them, and the store without them
+abbrev pub leavers : (Entry → Bool) → Store → List Entry
+leavers p s = filter p s.entries
+
+abbrev pub less_leavers : (Entry → Bool) → Store → Store
+less_leavers p s = record { capacity = s.capacity; last = s.last; entries = filter (λ e. not (p e)) s.entries }
+
+-- those whose expiry has passed
 abbrev pub expired_entries : Store → ℕ → List Entry
-expired_entries s now = filter (is_expired now) s.entries
+expired_entries s now = leavers (is_expired now) s
 
 abbrev pub less_expired : Store → ℕ → Store
-less_expired s now = record { capacity = s.capacity; last = s.last; entries = filter (λ e. not (is_expired now e)) s.entries }
+less_expired s now = less_leavers (is_expired now) s

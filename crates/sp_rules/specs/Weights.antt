@@ -2,8 +2,8 @@
 --
 --     row 2e       the lower end of edge e
 --     row 2e + 1   its higher end
-use Rattle.std.specs.Prelude.{ℕ, ◌==◌, ◌+◌, ◌*◌, nat_lt, nat_le, max, List, map, length, replicate, Option, Some, None, is_none, is_some}
-use Rattle.std.specs.Prelude.{slice_get, slice_set, if◌then◌else◌}
+use Rattle.std.specs.Prelude.{ℕ, ◌==◌, ◌+◌, ◌*◌, ◌||◌, nat_lt, nat_le, max, Bool, List, map, length, replicate, Option, Some, None, is_none, is_some}
+use Rattle.std.specs.Prelude.{slice_get, slice_index_or, slice_set, if◌then◌else◌}
 use Rattle.std.specs.Option.{option_and_then}
 use Rattle.sp_base.specs.Cursor.{next_after}
 use Rattle.sp_msg.specs.declared.body.Body.{Body}
@@ -12,18 +12,21 @@ use Rattle.sp_msg.specs.declared.body.WeightBody.{WeightBody}
 use Rattle.sp_msg.specs.declared.kept.Kept.{Kept}
 use Rattle.sp_topology.specs.declared.topology.Edge.{Edge}
 use Rattle.sp_topology.specs.declared.topology.Topology.{Topology}
+use Rattle.sp_rules.specs.Topologies.{is_shut, weights_in}
 use Rattle.sp_rules.specs.declared.weights.Offer.{Offer}
 use Rattle.sp_rules.specs.declared.weights.Offer.TheVariants as offers
 
--- A row for each end of each edge, and for each place of a node the row that went to it last
+-- The edges, of which only the ends count here; the administrator's minimum of each, 0 where it is withdrawn; a row for each end of each edge, and for each
+-- place of a node the row that went to it last
 pub record WeightState : Type 0 where
   pub edges : List Edge
+  pub least : List ℕ
   pub rows : List (Option Kept)
   pub cycles : List (Option ℕ)
 
 -- no update is held, and none went
 abbrev pub start : Topology → WeightState
-start t = record { edges = t.edges; rows = replicate (2 * length t.edges) None; cycles = replicate (length t.nodes) None }
+start t = record { edges = t.edges; least = weights_in t.edges; rows = replicate (2 * length t.edges) None; cycles = replicate (length t.nodes) None }
 
 -- ---- rows
 
@@ -66,20 +69,23 @@ last_seq s edge end = seq_of (option_and_then (held_in s.rows) (row_in s.edges e
 abbrev pub next_seq : WeightState → ℕ → ℕ → ℕ
 next_seq s edge end = last_seq s edge end + 1
 
-abbrev pub minimum_of : Option Edge → ℕ
-minimum_of None = 0
-minimum_of (Some e) = e.weight
-
--- the administrator's minimum of an edge
+-- the administrator's minimum of an edge. 0 where it is withdrawn
 abbrev pub minimum : WeightState → ℕ → ℕ
-minimum s edge = minimum_of (slice_get s.edges edge)
+minimum s edge = slice_index_or s.least edge 0
+
+abbrev pub is_withdrawn : WeightState → ℕ → Bool
+is_withdrawn s edge = is_shut s.least edge
+
+-- the minima of another version of the topology. What is held stays
+abbrev pub replaced : WeightState → List ℕ → WeightState
+replaced s least = record s { least = least }
 
 -- ---- updates
 
 -- the answer to an update: the first that applies
 abbrev pub offer : WeightState → WeightBody → Offer
 offer s u =
-    if is_none (row_in s.edges u.edge.0 u.origin.0) then offers.Foreign
+    if is_none (row_in s.edges u.edge.0 u.origin.0) || is_withdrawn s u.edge.0 then offers.Foreign
     else if nat_lt u.weight (minimum s u.edge.0) then offers.Low (minimum s u.edge.0)
     else if nat_le u.seq (last_seq s u.edge.0 u.origin.0) then offers.Old (last_seq s u.edge.0 u.origin.0)
     else offers.New

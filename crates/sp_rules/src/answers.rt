@@ -1,9 +1,9 @@
-// What a node answers to the objects of a frame, each after its signature was looked at.
+// What a node answers to the objects of a frame, each after its signature was looked at, and to a document.
 
 /// The answer to an update of a link's weight.
 #[derive(Clone, Copy, Debug, PartialEq, Eq)]
 pub enum WeightAnswer {
-    /// The edge isn't in the topology, or its origin is no end of it, or it is this node's own under a number that it never gave.
+    /// The edge isn't in the topology or is withdrawn, or its origin is no end of it, or it is this node's own under a number that it never gave.
     Foreign,
     /// The weight is below the administrator's minimum of the edge.
     Low { min: u32 },
@@ -17,7 +17,7 @@ pub enum WeightAnswer {
 /// The answer to a priority message.
 #[derive(Clone, Copy, Debug, PartialEq, Eq)]
 pub enum PrioAnswer {
-    /// Its source or its destination isn't a node, or both are the same.
+    /// Its source or its destination isn't a node or is removed, or both are the same.
     BadEnd,
     /// It names another boot of its source than the one that is held. Normal after a restart. An answer of format 2 alone.
     Epoch,
@@ -33,7 +33,7 @@ pub enum PrioAnswer {
 /// The answer to an acknowledgement in a slot.
 #[derive(Clone, Copy, Debug, PartialEq, Eq)]
 pub enum AckAnswer {
-    /// Its ends aren't the flow of the slot, or aren't two different nodes.
+    /// Its ends aren't the flow of the slot, or aren't two different nodes, or one is removed.
     BadEnd,
     /// It names another boot of an end than the one that is held. Normal after a restart. An answer of format 2 alone.
     Epoch,
@@ -49,7 +49,7 @@ pub enum AckAnswer {
 /// The answer to a message in a slot.
 #[derive(Clone, Copy, Debug, PartialEq, Eq)]
 pub enum RelAnswer {
-    /// Its ends aren't the flow of the slot, or aren't two different nodes.
+    /// Its ends aren't the flow of the slot, or aren't two different nodes, or one is removed.
     BadEnd,
     /// It names another boot of an end than the one that is held. Normal after a restart. An answer of format 2 alone.
     Epoch,
@@ -80,7 +80,23 @@ pub enum EpochAnswer {
     New,
 }
 
-/// The answer to one object of a frame, by its kind.
+/// The answer to a document of the administrator.
+#[derive(Clone, Copy, Debug, PartialEq, Eq)]
+pub enum DocumentAnswer {
+    /// It isn't a document. A fault or an attack.
+    Bad,
+    /// The node runs under this version, and the document's is at most that. Normal where documents come over several ways.
+    Old { held: u32 },
+    /// The signature isn't the administrator's. An attack.
+    BadSig,
+    /// It doesn't follow the topology of this node: another format or height, other nodes, keys or edges, or a removed node
+    /// returns.
+    Strange,
+    /// From now on the node runs under this version.
+    Adopted { version: u32 },
+}
+
+/// The answer to one object of a frame or to its document, by its kind.
 #[derive(Clone, Copy, Debug, PartialEq, Eq)]
 pub enum Item {
     Weight(WeightAnswer),
@@ -88,4 +104,5 @@ pub enum Item {
     Ack(AckAnswer),
     Rel(RelAnswer),
     Epoch(EpochAnswer),
+    Document(DocumentAnswer),
 }

@@ -13,7 +13,9 @@ mod store;
 mod weights;
 mod window;
 
-pub use answers::{AckAnswer, EpochAnswer, Item, PrioAnswer, RelAnswer, WeightAnswer};
+pub use answers::{
+    AckAnswer, DocumentAnswer, EpochAnswer, Item, PrioAnswer, RelAnswer, WeightAnswer,
+};
 pub use link::LinkAnswer;
 pub use lives::{EpochJudged, Life};
 pub use node::{LinkReply, MAX_CALLS, NodeRefused, Step, Taken, TickReply};

@@ -27,15 +27,17 @@ pub enum LinkReply {
     Learned { boot: u64 },
     /// It doesn't come after this boot and counter. Normal where the network repeats or reorders.
     Stale { boot: u64, counter: u64 },
-    /// It is fresh, and its sender runs under another version of the topology. Nothing of it is handled.
+    /// It is fresh, has no document, and its sender runs under another version of the topology. Nothing of it is handled.
     OtherTopology { theirs: u32 },
     /// It is fresh, and its sections leave their grammar. Nothing of it is handled. A fault of the neighbour, or an attack.
     Section(SectionRefused),
-    /// It is fresh, and each of its objects has an answer.
+    /// It is fresh, has no document, and its edge is withdrawn. Nothing of it is handled.
+    Withdrawn,
+    /// It is fresh, and each of its objects has an answer, or its document has.
     Fresh,
 }
 
-/// The answer to a datagram: what became of it at its link, and the answers to its objects in the order of handling.
+/// The answer to a datagram: what became of it at its link, and the answers to its objects in the order of handling, or to its document.
 #[derive(Debug, Drop)]
 pub struct Taken {
     pub link: LinkReply,

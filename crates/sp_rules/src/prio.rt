@@ -11,7 +11,7 @@ pub struct Neighbour {
 /// What a node says of a priority message before it looks at the signature: the first that applies.
 #[derive(Clone, Copy, Debug, PartialEq, Eq)]
 pub enum PrioJudged {
-    /// Its source or its destination isn't a node, or both are the same. A fault or an attack.
+    /// Its source or its destination isn't a node or is removed, or both are the same. A fault or an attack.
     BadEnd,
     /// Its expiry is before the node's time. Normal for a message that took long.
     Expired,

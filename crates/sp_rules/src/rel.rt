@@ -5,7 +5,7 @@ use thiserror::Error;
 /// What a node says of an acknowledgement in a slot, but for its signature: the first that fits.
 #[derive(Clone, Copy, Debug, PartialEq, Eq)]
 pub enum AckJudged {
-    /// Its ends aren't the flow of the slot, or aren't two different nodes.
+    /// Its ends aren't the flow of the slot, or aren't two different nodes, or one is removed.
     BadEnd,
     /// What it acknowledges is acknowledged. Normal where slots overtake one another.
     Old,
@@ -17,7 +17,7 @@ pub enum AckJudged {
 /// What a node says of a message in a slot, but for its signature: the first that fits.
 #[derive(Clone, Copy, Debug, PartialEq, Eq)]
 pub enum RelJudged {
-    /// Its ends aren't the flow of the slot, or aren't two different nodes.
+    /// Its ends aren't the flow of the slot, or aren't two different nodes, or one is removed.
     BadEnd,
     /// The message is here, or acknowledged. Normal where slots are repeated.
     Old,
@@ -35,7 +35,7 @@ pub enum RelJudged {
 /// Why a message isn't taken, or a table isn't made.
 #[derive(Clone, Copy, Debug, PartialEq, Eq, Error)]
 pub enum RelRefused {
-    /// The destination isn't another node.
+    /// The destination isn't another node, or this node or the destination is removed.
     #[error("the destination isn't another node")]
     BadEnd,
     /// The buffer of the flow holds the messages after `base`, up to `have`, which are as many as it may.

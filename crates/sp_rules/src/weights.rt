@@ -6,7 +6,7 @@ pub const MAX_OWN_HEARD: u64 = 1 << 62;
 /// Whether an update of a weight is held, or why it isn't: the first that applies.
 #[derive(Clone, Copy, Debug, PartialEq, Eq)]
 pub enum Offer {
-    /// The edge isn't in the topology, or the node that says so is no end of it.
+    /// The edge isn't in the topology or is withdrawn, or the node that says so is no end of it.
     Foreign,
     /// The weight is below the administrator's minimum of the edge.
     Low { min: u32 },

@@ -1,14 +1,17 @@
 -- Which events are forged. It is decided at each event, from the events before, their journal and the state.
-use Rattle.std.specs.Prelude.{ℕ, ◌&&◌, Bool, true, false, not, nat_eq, List, [], ◌∷◌, Option, None, Some, option_map, if◌then◌else◌}
+use Rattle.std.specs.Prelude.{ℕ, ◌-◌, ◌&&◌, Bool, true, false, not, nat_eq, nat_le, slice_get, List, [], ◌∷◌, Option, None, Some, option_map, if◌then◌else◌}
 use Rattle.std.specs.Cmp.Lexicographic.{pointwise}
 use Rattle.std.specs.List.{list_any}
+use Rattle.sp_base.specs.Cursor.{or_else}
 use Rattle.sp_msg.specs.Views.{signer_of}
 use Rattle.sp_msg.specs.declared.kept.Kept.{Kept}
 use Rattle.sp_rules.specs.Answers.{is_new}
 use Rattle.sp_rules.specs.Arrivals.{reply_at}
-use Rattle.sp_rules.specs.Arts.{Arts}
+use Rattle.sp_rules.specs.Arts.{Arts, Document}
 use Rattle.sp_rules.specs.Node.{NodeState}
 use Rattle.sp_rules.specs.Steps.{Input, Datagram, Output}
+use Rattle.sp_rules.specs.Topologies.{weights_in}
+use Rattle.sp_schedule_events.specs.Documents.{list_in}
 use Rattle.sp_rules.specs.declared.answers.Item.{Item}
 use Rattle.sp_rules.specs.declared.node.LinkReply.{LinkReply}
 use Rattle.sp_rules.specs.declared.node.LinkReply.TheVariants as links
@@ -41,6 +44,7 @@ is_tagged (links.Learned boot) = true
 is_tagged (links.Stale boot counter) = true
 is_tagged (links.OtherTopology theirs) = true
 is_tagged (links.Section refused) = true
+is_tagged links.Withdrawn = true
 is_tagged links.Fresh = true
 is_tagged _ = false
 
@@ -64,8 +68,33 @@ forged_object arts x es js [] = None
 forged_object arts x es js (answered ∷ others) = if is_forged arts x es js answered then Some
     (arts.spell answered.0.body) else forged_object arts x es js others
 
--- ---- what of a step is forged, after these events: the tag, or else the first object
+-- ---- by a document
+
+abbrev pub with_published : Option (List ℕ) → List (List ℕ) → List (List ℕ)
+with_published None lists = lists
+with_published (Some weights) lists = weights ∷ lists
+
+-- the lists that were published, that of version 2 first
+abbrev pub lists_in : List Event → List (List ℕ)
+lists_in [] = []
+lists_in (e ∷ es) = with_published (list_in e) (lists_in es)
+
+-- the administrator handed out this version with these weights
+abbrev pub is_published : List Event → (version : ℕ) → (weights : List ℕ) → Bool
+is_published es version weights = nat_le 2 version && is_frame weights (slice_get (lists_in es) (version - 2))
+
+abbrev pub says_published : List Event → Option Document → Bool
+says_published es None = false
+says_published es (Some d) = is_published es d.topology.version (weights_in d.topology.edges)
+
+-- the node adopted it from a frame, and no event published its version with its weights
+abbrev pub forged_document : Arts → List Event → Option (List ℕ) → Option (List ℕ)
+forged_document arts es None = None
+forged_document arts es (Some bytes) = if says_published es (arts.read_document bytes) then None else Some bytes
+
+-- ---- what of a step is forged, after these events: the tag, or else the first object, or a document
 
 abbrev pub forged : Arts → Setting → List Event → List Entry → World → NodeState → Input → Output → Option What
 forged arts x es js w n input output =
-    if has_forged_tag arts x w n input then Some whats.Tag else option_map whats.Object (forged_object arts x es js output.answered)
+    if has_forged_tag arts x w n input then Some whats.Tag
+    else option_map whats.Object (or_else (forged_object arts x es js output.answered) (forged_document arts es output.adopted))

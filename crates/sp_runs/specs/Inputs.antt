@@ -1,10 +1,10 @@
 -- What reaches the node that acts: what its clients and its clock say, and the bytes that the network and the adversary bring.
-use Rattle.std.specs.Prelude.{ℕ, ◌+◌, ◌-◌, ◌^◌, ◌==◌, nat_lt, Bool, false, List, [], ◌∷◌}
+use Rattle.std.specs.Prelude.{ℕ, ◌+◌, ◌-◌, ◌^◌, ◌==◌, ◌||◌, nat_lt, unwrap_or, Bool, false, List, [], ◌∷◌}
 use Rattle.std.specs.Prelude.{◌++◌, length, count_by, bit_xor, slice_index_or, slice_set, Option, None, Some, option_map, if◌then◌else◌}
 use Rattle.sp_base.specs.declared.id.Flow.{Flow}
 use Rattle.sp_base.specs.declared.id.NodeId.{NodeId}
 use Rattle.sp_frame.specs.Reliable.{Report}
-use Rattle.sp_frame.specs.Sections.{Contents}
+use Rattle.sp_frame.specs.Sections.{Contents, with_document}
 use Rattle.sp_frame.specs.declared.head.Head.{Head}
 use Rattle.sp_msg.specs.declared.body.Body.{Body}
 use Rattle.sp_msg.specs.declared.body.Body.TheVariants as bodies
@@ -12,13 +12,16 @@ use Rattle.sp_msg.specs.declared.kept.Kept.{Kept}
 use Rattle.sp_rules.specs.Arts.{Arts}
 use Rattle.sp_rules.specs.Flow.{flow_said}
 use Rattle.sp_rules.specs.Node.{NodeState, link_in}
-use Rattle.sp_rules.specs.Steps.{Input, Poll, Datagram, Tick, SendRel, SendPrio, SetWeight, TakeRel, TakePrio}
+use Rattle.sp_rules.specs.Steps.{Input, Poll, Datagram, Publish, Tick, SendRel, SendPrio, SetWeight, TakeRel, TakePrio}
+use Rattle.sp_rules.specs.Topologies.{weights_in}
 use Rattle.sp_runs.specs.Settings.{Setting}
 use Rattle.sp_rules.specs.Lives.{held_boot}
 use Rattle.sp_rules.specs.declared.lives.Life.{Life}
 use Rattle.sp_runs.specs.Worlds.{Crafted, World, crafts, frame_in}
 use Rattle.sp_schedule_crafts.specs.Objects.{body_of}
 pub use Rattle.sp_schedule_events.specs.Acting.{acting}
+use Rattle.sp_schedule_events.specs.Documents.{with_list}
+use Rattle.sp_schedule_events.specs.declared.published.Published.{Published}
 use Rattle.sp_schedule_events.specs.declared.event.Event.{Event}
 use Rattle.sp_schedule_events.specs.declared.event.Event.TheVariants as events
 
@@ -42,7 +45,7 @@ crafted_head n c = record {
   boot = 1;
   echo = n.fixed.boot;
   counter = counter_after (link_in n c).seen.1;
-  topology = n.fixed.topology.version;
+  topology = n.live.version;
   format = n.fixed.topology.format;
 }
 
@@ -103,6 +106,26 @@ crafted_contents arts x crafted n key body =
     let said = dated n.parts.lives body in
     object_alone n.parts.lives said (crafted_object arts x crafted key said)
 
+-- ---- documents of the administrator
+
+-- the weights of the last version that was published: those of the setting before one was
+abbrev pub last_weights : Setting → Published → List ℕ
+last_weights x last = unwrap_or last.weights (weights_in x.topology.edges)
+
+-- the document that the administrator hands out where this is the last version
+abbrev pub handed_out : Setting → Published → List ℕ
+handed_out x last = x.document last.version (last_weights x last)
+
+-- the crafting signer of this key has an index left. That of the administrator signs each version with an index of its own
+abbrev pub may_sign : Setting → List Crafted → (key : ℕ) → Bool
+may_sign x crafted key = (key == 0) || nat_lt (crafts crafted (record { 0 = key })) x.total
+
+-- a document of this version with these weights: the administrator's where the key is 0, and else under the key of a node
+abbrev pub crafted_document : Arts → Setting → List Crafted → (key version : ℕ) → (weights : List ℕ) → List ℕ
+crafted_document arts x crafted key version weights =
+    if key == 0 then x.document version weights
+    else x.unsigned version weights ++ arts.sign x.topology.height (x.seed key) (crafts crafted (record { 0 = key })) (x.unsigned version weights)
+
 -- ---- what reaches it. None where there is no such frame, or the crafting signer is spent; and a start and a stop bring nothing
 
 abbrev pub input_of : Arts → Setting → World → NodeState → Event → Option Input
@@ -123,5 +146,11 @@ input_of arts x w n (events.Craft c v key object) =
     else None
 input_of arts x w n (events.CraftStatus c v s d base have) =
     Some (Datagram c (crafted_frame arts n c (slot_alone n.parts.lives (record { src = s; dst = d }) base have None [])))
+input_of arts x w n (events.Publish u weights) = Some (Publish (handed_out x (with_list w.published weights)))
+input_of arts x w n (events.CraftDocument c v key version weights) =
+    if may_sign x w.crafted key
+    then Some (Datagram c (crafted_frame arts n c
+    (with_document (crafted_document arts x w.crafted key version (unwrap_or weights (last_weights x w.published))))))
+    else None
 input_of arts x w n (events.Start u) = None
 input_of arts x w n (events.Stop u) = None

@@ -6,6 +6,8 @@ use Rattle.sp_journal.specs.declared.entry.Reply.{Reply}
 use Rattle.sp_msg.specs.declared.body.Body.TheVariants as bodies
 use Rattle.sp_msg.specs.declared.body.Body.{Body}
 use Rattle.sp_node_words.specs.Words.{item_word, link_word, refused_word, tick_word}
+use Rattle.sp_rules.specs.declared.answers.DocumentAnswer.{DocumentAnswer}
+use Rattle.sp_rules.specs.declared.answers.DocumentAnswer.TheVariants as documents
 use Rattle.sp_rules.specs.Steps as steps
 use Rattle.sp_rules.specs.Steps.{Output}
 use Rattle.sp_rules.specs.declared.store.Entry.{Entry as Stored}
@@ -26,6 +28,12 @@ abbrev pub message_word : Option Stored → Option Reply
 message_word None = Some replies.Empty
 message_word (Some e) = body_word e.kept.body
 
+-- what a node answers to a document that it is handed. Each is signed, and succeeds all before it
+abbrev pub replaced_word : DocumentAnswer → Option Reply
+replaced_word (documents.Adopted version) = Some (replies.Adopted version)
+replaced_word (documents.Old held) = Some replies.DocumentOld
+replaced_word _ = None
+
 -- the words of a reply; a frame is told under this number, by its length and its digest
 abbrev pub reply_word : Setting → ℕ → steps.Reply → Option Reply
 reply_word x number (steps.Frame bytes) = Some (replies.Frame number (length bytes) (x.digest bytes))
@@ -36,6 +44,7 @@ reply_word x number (steps.Refused refused) = refused_word refused
 reply_word x number (steps.NotCalled refused) = None
 reply_word x number (steps.Payload payload) = Some (payload_word payload)
 reply_word x number (steps.Message entry) = message_word entry
+reply_word x number (steps.Replaced answer) = replaced_word answer
 
 -- the entry is that of a step with this output
 pub record Says (x : Setting) (number : ℕ) (output : Output) (entry : Entry) : Type 0 where

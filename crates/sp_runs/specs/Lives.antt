@@ -11,6 +11,7 @@ use Rattle.sp_runs.specs.Settings.{Setting, fixed_at, node_at_start}
 use Rattle.sp_runs.specs.Worlds.{Direction, World, frame_in, is_running, node_in, with_frame, with_node, without_node}
 use Rattle.sp_journal.specs.declared.entry.Entry.{Entry}
 use Rattle.sp_journal.specs.declared.entry.Reply.TheVariants as replies
+use Rattle.sp_schedule_events.specs.Documents.{list_in, with_list}
 use Rattle.sp_schedule_events.specs.declared.event.Event.{Event}
 use Rattle.sp_schedule_events.specs.declared.event.Event.TheVariants as events
 
@@ -85,7 +86,7 @@ is_missing w _ = false
 abbrev pub comes_to_nobody : World → Event → Bool
 comes_to_nobody w e = not (is_running w.nodes (acting e)) || is_missing w e
 
--- a poll still counts in the numbers of its direction
+-- a poll still counts in the numbers of its direction, and what is published takes its version
 abbrev pub directions_missed : List Direction → Event → List Direction
 directions_missed directions (events.Poll u v) = with_frame directions u v None
 directions_missed directions _ = directions
@@ -94,7 +95,7 @@ pub record IsDown (old : World) (event : Event) (entry : Entry) (new : World) : 
   pub nobody : comes_to_nobody old event ≡ true
   pub reply : entry.reply ≡ replies.Down
   pub effects : entry.effects ≡ []
-  pub world : new ≡ record old { directions = directions_missed old.directions event }
+  pub world : new ≡ record old { directions = directions_missed old.directions event; published = with_list old.published (list_in event) }
 
 -- ---- one event in which no node moves
 

@@ -1,6 +1,6 @@
 -- A whole run: each event is a step of its acting node alone, and the adversary only brings bytes.
-use Rattle.std.specs.Prelude.{ℕ, ◌≡◌, ◌+◌, ◌<◌, ◌≤◌, ◌^◌, ◌==◌, ◌&&◌, Bool, true, false, not, IsTrue, List, [], ◌∷◌, ◌++◌, length, count_by, Option, None, Some}
-use Rattle.std.specs.List.{list_any}
+use Rattle.std.specs.Prelude.{ℕ, ◌≡◌, ◌+◌, ◌<◌, ◌≤◌, ◌^◌, ◌==◌, ◌&&◌, ◌||◌, Bool, true, false, not, is_some, IsTrue, List, [], ◌∷◌, ◌++◌, length, count_by, Option, None, Some, if◌then◌else◌}
+use Rattle.std.specs.List.{All, list_any}
 use Rattle.sp_base.specs.Spelling.{AreBytes}
 use Rattle.sp_base.specs.declared.id.NodeId.{NodeId}
 use Rattle.sp_base.specs.declared.limits.TheConstants.{MAX_EVENTS, MAX_PAYLOAD_BYTES, MAX_PRIORITY, MAX_WEIGHT}
@@ -15,12 +15,14 @@ use Rattle.sp_runs.specs.Forgery.{forged}
 use Rattle.sp_runs.specs.Inputs.{acting, input_of}
 use Rattle.sp_runs.specs.Journals.{Says}
 use Rattle.sp_runs.specs.Lives.{Life, ready}
-use Rattle.sp_runs.specs.Settings.{Setting, is_correct, is_node}
+use Rattle.sp_runs.specs.Settings.{Setting, is_correct, is_node, may_change}
 use Rattle.sp_runs.specs.Worlds.{Crafted, Direction, World, at_start, crafts, frames_in, is_running, node_in, with_craft, with_frame, with_node}
 use Rattle.sp_journal.specs.declared.entry.Entry.{Entry}
 use Rattle.sp_journal.specs.declared.entry.Reply.TheVariants as replies
 use Rattle.sp_schedule_crafts.specs.Objects.{body_of}
+use Rattle.sp_schedule_events.specs.Documents.{list_in, none_comes_back, published, with_list}
 use Rattle.sp_schedule_events.specs.Lives.{may_act}
+use Rattle.sp_schedule_events.specs.declared.published.Published.{Published}
 use Rattle.sp_schedule_events.specs.declared.event.Event.{Event}
 use Rattle.sp_schedule_events.specs.declared.event.Event.TheVariants as events
 use Rattle.sp_runs.specs.declared.what.What.{What}
@@ -32,9 +34,10 @@ abbrev pub directions_after : List Direction → Event → steps.Reply → List 
 directions_after directions (events.Poll u v) (steps.Frame bytes) = with_frame directions u v (Some bytes)
 directions_after directions _ _ = directions
 
--- an object that was crafted is counted
+-- an object that was crafted is counted, and a document under the key of a node
 abbrev pub crafted_after : List Crafted → Event → List Crafted
 crafted_after crafted (events.Craft c v key object) = with_craft crafted key
+crafted_after crafted (events.CraftDocument c v key version weights) = if key == 0 then crafted else with_craft crafted (record { 0 = key })
 crafted_after crafted _ = crafted
 
 -- the number of the next frame of a poll's direction
@@ -57,11 +60,13 @@ pub record Move (arts : Arts) (x : Setting) (old : World) (event : Event) (entry
     nodes = with_node old.nodes (acting event) after;
     directions = directions_after old.directions event output.reply;
     crafted = crafted_after old.crafted event;
+    published = with_list old.published (list_in event);
   }
 
 -- the event crafts an object of this key
 abbrev pub IsCraftOf : NodeId → Event → Type 0
 IsCraftOf key (events.Craft c v k object) = k ≡ key
+IsCraftOf key (events.CraftDocument c v k version weights) = (k ≡ key.0) × (1 ≤ k)
 IsCraftOf key _ = ⊥
 
 -- The signer for crafted objects of a key is spent, so nothing arrives at the node, which runs. No node moves.
@@ -97,6 +102,21 @@ polls es u v = count_by (is_poll u v) es
 abbrev pub IsMade : List Event → NodeId → NodeId → ℕ → Type 0
 IsMade es u v number = (1 ≤ number) × (number ≤ polls es u v)
 
+-- a weight in its range for each edge, or 0 for one that is withdrawn
+abbrev pub AreWeights : Setting → List ℕ → Type 0
+AreWeights x weights = (length weights ≡ length x.topology.edges) × All (λ weight. weight ≤ MAX_WEIGHT) weights
+
+-- The administrator may publish this: the next version, by which no removed node comes back and for which an index is left; or the last one again
+abbrev pub MayPublish : Setting → Published → Option (List ℕ) → Type 0
+MayPublish x last None = IsTrue (is_some last.weights)
+MayPublish x last (Some weights) =
+    AreWeights x weights × (last.version < x.admin_total) × IsTrue (none_comes_back x.topology.edges last.weights weights)
+
+-- A compromised node may craft a document with these weights, or with the last that were published. Removed nodes may come back by it
+abbrev pub MayCraft : Setting → Published → Option (List ℕ) → Type 0
+MayCraft x last None = IsTrue (is_some last.weights)
+MayCraft x last (Some weights) = AreWeights x weights
+
 -- What the fields of an event may be, after these events. Payloads are bytes, so whatever reaches a node is; and a key file counts the changes of as many
 -- events as a schedule has
 abbrev pub AreFields : Setting → List Event → Event → Type 0
@@ -118,6 +138,10 @@ AreFields x es (events.Craft c v key object) =
     × HasGoodFieldsIn x.topology.format (body_of object) × AreBytes (payload_of (body_of object))
 AreFields x es (events.CraftStatus c v s d base have) =
     IsTrue (is_correct x v) × IsTrue (is_hop x c v) × IsTrue (is_node x s) × IsTrue (is_other x s d) × (base < 2 ^ 64) × (have < 2 ^ 64)
+AreFields x es (events.Publish u weights) = IsTrue (is_correct x u) × IsTrue (may_change x) × MayPublish x (published es) weights
+AreFields x es (events.CraftDocument c v key version weights) =
+    IsTrue (is_correct x v) × IsTrue (is_hop x c v) × IsTrue ((key == 0) || is_node x (record { 0 = key })) × IsTrue (may_change x) × (1 ≤ version)
+    × (version < 2 ^ 32) × (key ≡ 0 → version ≤ x.admin_total) × MayCraft x (published es) weights
 AreFields x es (events.Start u) = IsTrue (is_correct x u) × (length es < MAX_EVENTS)
 AreFields x es (events.Stop u) = IsTrue (is_correct x u)
 

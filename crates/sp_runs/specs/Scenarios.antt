@@ -1,15 +1,17 @@
 -- The setting that a schedule's header makes: nodes 1 to N under version 1 of the topology, with the header's edges, and keys of its seed.
-use Rattle.std.specs.Prelude.{ℕ, ◌≡◌, ◌++◌, true, List, codes, map}
+use Rattle.std.specs.Prelude.{ℕ, ◌≡◌, ◌==◌, ◌-◌, ◌++◌, true, List, codes, map, if◌then◌else◌}
 use Rattle.std.specs.List.{range_with_len}
 use Rattle.sha2.specs.Sha256.{sha256}
 use Rattle.sp_base.specs.Formats.{IsFormat}
-use Rattle.sp_base.specs.declared.format.TheConstants.{FORMAT_2}
+use Rattle.sp_base.specs.declared.format.TheConstants.{FORMAT_1, FORMAT_2}
 use Rattle.sp_base.specs.declared.id.NodeId.{NodeId}
 use Rattle.sp_graph.specs.Edges.{IsGraphIn}
 use Rattle.sp_hmac.specs.Hmac.{hmac}
-use Rattle.sp_hss.specs.KeyTree.{public_key, signature_len, total}
+use Rattle.sp_hss.specs.KeyTree.{public_key, signature, signature_len, total}
 use Rattle.sp_ots.specs.Strings.{u16str, u8str}
+use Rattle.sp_rules.specs.Topologies.{under}
 use Rattle.sp_sign.specs.Heights.{param_of}
+use Rattle.sp_topology.specs.Documents.{document}
 use Rattle.sp_topology.specs.declared.topology.LmsHeight.{LmsHeight}
 use Rattle.sp_topology.specs.declared.topology.NodeKey.{NodeKey}
 use Rattle.sp_topology.specs.declared.topology.Topology.{Topology}
@@ -43,6 +45,20 @@ abbrev pub topology_of : Scenario → Topology
 topology_of s =
     record { format = s.format; version = 1; height = s.height; nodes = map (node_key s.height s.seed) (range_with_len 1 s.graph.nodes); edges = s.graph.edges }
 
+-- the seed of the administrator's key
+abbrev pub admin_seed : List ℕ → List ℕ
+admin_seed seed = hmac seed (codes "admin")
+
+-- the bytes of a version with these weights
+abbrev pub unsigned_of : Scenario → (version : ℕ) → (weights : List ℕ) → List ℕ
+unsigned_of s version weights = document (record (topology_of s) { version = version; edges = under s.graph.edges weights })
+
+-- the document of a version with these weights. In format 2 the administrator signs it, with the index before the version
+abbrev pub document_of : Scenario → (version : ℕ) → (weights : List ℕ) → List ℕ
+document_of s version weights =
+    let bytes = unsigned_of s version weights in
+    if s.format == FORMAT_1 then bytes else bytes ++ signature (param_of s.height) (admin_seed s.seed) (version - 1) bytes
+
 -- the setting of a header
 abbrev pub setting_of : Scenario → Setting
 setting_of s = record {
@@ -56,4 +72,8 @@ setting_of s = record {
   link_key = λ e. edge_key s.seed e;
   digest = λ bytes. sha256 bytes;
   epochs = s.epochs;
+  admin = public_key (param_of s.height) (admin_seed s.seed);
+  admin_total = total (param_of s.height);
+  document = document_of s;
+  unsigned = unsigned_of s;
 }

@@ -1,15 +1,18 @@
 -- What the header of a schedule makes: who is there, with which keys and bounds, and which of them are compromised.
-use Rattle.std.specs.Prelude.{ℕ, ◌≡◌, ◌<◌, ◌≤◌, ◌==◌, ◌&&◌, Bool, true, false, not, IsTrue, List, map, filter}
-use Rattle.std.specs.List.{list_any}
-use Rattle.sp_base.specs.declared.format.TheConstants.{FORMAT_2}
+use Rattle.std.specs.Prelude.{ℕ, ◌≡◌, ◌<◌, ◌≤◌, ◌^◌, ◌==◌, ◌&&◌, Bool, true, false, not, IsTrue, List, length, map, filter, Some}
+use Rattle.std.specs.List.{All, list_any}
+use Rattle.sp_base.specs.Spelling.{AreBytes}
+use Rattle.sp_base.specs.declared.format.TheConstants.{FORMAT_1, FORMAT_2}
 use Rattle.sp_base.specs.declared.id.NodeId.{NodeId}
+use Rattle.sp_base.specs.declared.limits.TheConstants.{MAX_WEIGHT}
 use Rattle.sp_topology.specs.declared.topology.Topology.{Topology}
-use Rattle.sp_rules.specs.Arts.{Arts}
+use Rattle.sp_rules.specs.Arts.{Arts, Document}
 use Rattle.sp_epoch.specs.declared.started.Started.{Started}
 use Rattle.sp_rules.specs.Node.{NodeState, Signer, booted, started}
 use Rattle.sp_rules.specs.Parts.{Fixed, neighbours_of, nodes_of}
-use Rattle.sp_rules.specs.Topologies.{IsRunnable}
+use Rattle.sp_rules.specs.Topologies.{IsRunnable, under, weights_in}
 use Rattle.laws_node.specs.Inputs.{ArtsFit}
+use Rattle.laws_node.specs.Nodes.{FitsAFrame}
 use Rattle.laws_node.specs.Sizes.{most_indexes}
 
 pub record Setting : Type 0 where
@@ -29,6 +32,13 @@ pub record Setting : Type 0 where
   pub digest : List ℕ → List ℕ
   -- its correct nodes start and stop by events, and sign the boot of each life. Else each has started before the first event, and none stops
   pub epochs : Bool
+  -- the administrator's key, how many indexes it has, and the document of a version with these weights of its edges. Where topologies may change, the
+  -- administrator signs it with the index before the version
+  pub admin : List ℕ
+  pub admin_total : ℕ
+  pub document : (version : ℕ) → (weights : List ℕ) → List ℕ
+  -- what is signed of it
+  pub unsigned : (version : ℕ) → (weights : List ℕ) → List ℕ
 
 -- ---- who is correct
 
@@ -48,7 +58,15 @@ is_correct x u = is_node x u && not (is_one_of x.bad u)
 
 -- what is fixed in its life of this boot
 abbrev pub fixed_at : Setting → NodeId → (boot : ℕ) → Fixed
-fixed_at x u boot = record { me = u; boot = boot; topology = x.topology; signature_len = x.signature_len; epochs = x.epochs }
+fixed_at x u boot = record {
+  me = u;
+  boot = boot;
+  topology = x.topology;
+  document = x.document x.topology.version (weights_in x.topology.edges);
+  signature_len = x.signature_len;
+  admin = x.admin;
+  epochs = x.epochs;
+}
 
 -- its signer, from an index on, below a bound
 abbrev pub signer_from : Setting → NodeId → (index bound : ℕ) → Signer
@@ -77,6 +95,24 @@ node_at_boot x u = booted (fixed_of x u) (first_signer x u) (link_keys x u) x.bu
 abbrev pub correct_nodes : Setting → List NodeId
 correct_nodes x = filter (is_correct x) (nodes_of x.topology)
 
+-- ---- versions of its topology
+
+-- other versions may follow
+abbrev pub may_change : Setting → Bool
+may_change x = not (x.topology.format == FORMAT_1)
+
+-- the topology of a version with these weights
+abbrev pub version_of : Setting → (version : ℕ) → (weights : List ℕ) → Topology
+version_of x version weights = record x.topology { version = version; edges = under x.topology.edges weights }
+
+-- the document says that version, and the administrator signed it
+pub record ReadsVersion (arts : Arts) (x : Setting) (version : ℕ) (weights : List ℕ) : Type 0 where
+  pub document : Document
+  pub reads : arts.read_document (x.document version weights) ≡ Some document
+  pub topology : document.topology ≡ version_of x version weights
+  pub message : document.message ≡ x.unsigned version weights
+  pub signed : IsTrue (arts.valid x.admin document.message document.signature)
+
 -- ---- what is asked of a setting and of arts. Each is proved of the arts of a format and of what a schedule's header makes
 
 pub record SettingFits (arts : Arts) (x : Setting) : Type 0 where
@@ -87,6 +123,18 @@ pub record SettingFits (arts : Arts) (x : Setting) : Type 0 where
   pub total : x.total ≤ most_indexes
   -- each correct node signs validly under the key that the topology has for it, and what it reads is in its ranges
   pub each : (u : NodeId) → IsTrue (is_correct x u) → ArtsFit arts (fixed_of x u) (first_signer x u)
+  -- a frame has room for each document
+  pub room : (version : ℕ) (weights : List ℕ) → FitsAFrame (x.document version weights)
+  -- and what is signed of it is bytes
+  pub unsigned : (version : ℕ) (weights : List ℕ) → AreBytes (x.unsigned version weights)
+  -- where topologies may change, the document of a version with a weight in its range for each edge is read back as that version
+  pub documents : may_change x ≡ true → (version : ℕ) (weights : List ℕ) → length weights ≡ length x.topology.edges
+      → All (λ weight. weight ≤ MAX_WEIGHT) weights → 1 ≤ version → version ≤ x.admin_total → ReadsVersion arts x version weights
+  pub versions : x.admin_total < 2 ^ 32
+  -- the first version is one of these, and withdraws no edge
+  pub some : 1 ≤ x.admin_total
+  pub first : x.topology.version ≡ 1
+  pub all_open : All (λ e. 1 ≤ e.weight) x.topology.edges
 
 -- and no node ever starts or stops by an event
 pub record StaysUp (arts : Arts) (x : Setting) : Type 0 where

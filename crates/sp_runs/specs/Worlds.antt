@@ -1,4 +1,4 @@
--- The state of a world: its correct nodes and their key files, all frames that they made, by direction, and what was crafted.
+-- The state of a world: its correct nodes and their key files, all frames that they made, by direction, and what was crafted and published.
 use Rattle.std.specs.Prelude.{ℕ, zero, suc, ◌==◌, ◌+◌, ◌&&◌, Bool, List, [], ◌∷◌, ◌++◌, find, map, replicate, slice_get, Option, None, Some, if◌then◌else◌}
 use Rattle.std.specs.List.{list_any}
 use Rattle.std.specs.Option.{option_and_then}
@@ -9,6 +9,8 @@ use Rattle.sp_keystate.specs.declared.numbers.Numbers.{Numbers}
 use Rattle.sp_rules.specs.Masks.{greatest_id}
 use Rattle.sp_rules.specs.Node.{NodeState}
 use Rattle.sp_runs.specs.Settings.{Setting, correct_nodes, node_at_boot}
+use Rattle.sp_schedule_events.specs.Documents.{none_published}
+use Rattle.sp_schedule_events.specs.declared.published.Published.{Published}
 
 -- The frames that one node made for another, in the order of their numbers. A place is empty where the node didn't run when it was polled
 pub record Direction : Type 0 where
@@ -16,7 +18,7 @@ pub record Direction : Type 0 where
   pub to : NodeId
   pub frames : List (Option (List ℕ))
 
--- how many objects were crafted with a key
+-- how many objects and documents were crafted with a key
 pub record Crafted : Type 0 where
   pub key : NodeId
   pub count : ℕ
@@ -30,6 +32,8 @@ pub record World : Type 0 where
   pub directions : List Direction
   -- the keys that objects were crafted with
   pub crafted : List Crafted
+  -- the last version that the administrator published
+  pub published : Published
 
 -- no frame is there. Each correct node has booted; with epochs none has
 abbrev pub at_start : Setting → World
@@ -38,6 +42,7 @@ at_start x = record {
   nodes = if x.epochs then [] else map (node_at_boot x) (correct_nodes x);
   directions = [];
   crafted = [];
+  published = none_published;
 }
 
 -- ---- nodes

@@ -33,12 +33,12 @@ keeps_then a b c first second s es is =
     let there = second s (es ++ here.0) here.1 in
     (here.0 ++ there.0, subst (IsOf c s) (append_assoc es here.0 there.0) there.1)
 
-event_keeps : (s : Scenario) (es : List Event) (words : List Word) (read : Result Event Fault) (next : Stage) → event_more s es words read ≡ Ok next
+event_keeps : (s : Scenario) (es : List Event) (read : Result Event Fault) (next : Stage) → event_more s es read ≡ Ok next
     → Keeps (stages.Events s es) next
-event_keeps s es words (Ok e) next is =
+event_keeps s es (Ok e) next is =
     let to : stages.Events s (es ++ e ∷ []) ≡ next = cc in
     λ t fs same. (e ∷ [], subst (λ (z : Stage). IsOf z t (fs ++ e ∷ [])) to (same.0, ap (λ (gs : List Event). gs ++ e ∷ []) same.1))
-event_keeps s es words (Err fault) next is = absurd cc
+event_keeps s es (Err fault) next is = absurd cc
 
 says_keeps : (stage next : Stage) (words : List Word) → says stage words ≡ Ok next → Keeps stage next
 says_keeps stages.Start next words is = λ s es none. absurd none
@@ -50,14 +50,14 @@ says_keeps (stages.Edges scenario) next words is = λ s es none. absurd none
 says_keeps (stages.Bads scenario) next words is = λ s es none. absurd none
 says_keeps (stages.Epochs scenario) next words is = λ s es none. absurd none
 says_keeps (stages.Events s es) next words is =
-    elim (if_cases (fits end_cells words) (Ok (stages.End s es)) (if nat_le MAX_EVENTS (length es) then Err kinds.TooMany else event_more s es words (read_event s es words)) (Ok next) is) [
+    elim (if_cases (fits end_cells words) (Ok (stages.End s es)) (if nat_le MAX_EVENTS (length es) then Err kinds.TooMany else event_more s es (read_event s es words)) (Ok next) is) [
       | inl end ↦ (
           let to : stages.End s es ≡ next = (let said = end.1 in cc) in
           λ t fs same. ([], subst (λ (z : Stage). IsOf z t (fs ++ [])) to (same.0, same.1 ∙ sym (append-nil fs))))
       | inr other ↦
-          elim (if_cases (nat_le MAX_EVENTS (length es)) (Err kinds.TooMany) (event_more s es words (read_event s es words)) (Ok next) other.1) [
+          elim (if_cases (nat_le MAX_EVENTS (length es)) (Err kinds.TooMany) (event_more s es (read_event s es words)) (Ok next) other.1) [
             | inl many ↦ absurd (let out = many.1 in cc)
-            | inr event ↦ event_keeps s es words (read_event s es words) next event.1
+            | inr event ↦ event_keeps s es (read_event s es words) next event.1
           ]
     ]
 says_keeps (stages.End s es) next words is = absurd cc

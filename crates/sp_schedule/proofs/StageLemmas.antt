@@ -198,7 +198,7 @@ edge_more s words next good none off says_it =
     )
 
 event_said : (s : Scenario) (es : List Event) (words : List Word) (r : Result Event Fault) (next : Stage) → read_event s es words ≡ r → IsSchedule s es → length es < MAX_EVENTS
-    → event_more s es words r ≡ Ok next
+    → event_more s es r ≡ Ok next
     → (lines_to next ≡ lines_to (stages.Events s es) ++ words ∷ []) × AreGood next
 event_said s es words (Err fault) next read good room is = absurd cc
 event_said s es words (Ok e) next read good room is =
@@ -296,10 +296,10 @@ says_more (stages.Epochs s) words next good is =
       | inr other ↦ absurd (let out = other.1 in cc)
     ]
 says_more (stages.Events s es) words next good is =
-    elim (if_cases (fits end_cells words) (Ok (stages.End s es)) (if nat_le MAX_EVENTS (length es) then Err kinds.TooMany else event_more s es words (read_event s es words)) (Ok next) is) [
+    elim (if_cases (fits end_cells words) (Ok (stages.End s es)) (if nat_le MAX_EVENTS (length es) then Err kinds.TooMany else event_more s es (read_event s es words)) (Ok next) is) [
       | inl end ↦ ends s es words next good end.0 (let to = end.1 in cc)
       | inr other ↦
-          elim (if_cases (nat_le MAX_EVENTS (length es)) (Err kinds.TooMany) (event_more s es words (read_event s es words)) (Ok next) other.1) [
+          elim (if_cases (nat_le MAX_EVENTS (length es)) (Err kinds.TooMany) (event_more s es (read_event s es words)) (Ok next) other.1) [
             | inl many ↦ absurd (let out = many.1 in cc)
             | inr event ↦ event_said s es words (read_event s es words) next refl good (grind (arith, nat_tests, event.0)) event.1
           ]

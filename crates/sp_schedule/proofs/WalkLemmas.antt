@@ -257,6 +257,8 @@ end_not z (events.Craft c v key (crafted.Prio p)) = refl
 end_not z (events.Craft c v key (crafted.Weight w)) = refl
 end_not z (events.Start u) = refl
 end_not z (events.Stop u) = refl
+end_not z (events.Publish u weights) = refl
+end_not z (events.CraftDocument c v key version weights) = refl
 
 event_line : (s : Scenario) (es : List Event) (e : Event) → s.graph.nodes ≤ max_nodes s.format → length es < MAX_EVENTS → InRange s es e
     → says (stages.Events s es) (event_words s e) ≡ Ok (stages.Events s (es ++ e ∷ []))
@@ -266,16 +268,16 @@ event_line s es e few room is =
     go (fits end_cells (event_words s e)) (nat_le MAX_EVENTS (length es)) (read_event s es (event_words s e)) (end_not s e) more read
   where
     go : (a b : Bool) (r : Result Event Fault) → a ≡ false → b ≡ false → r ≡ Ok e
-        → (if a then Ok (stages.End s es) else (if b then Err kinds.TooMany else event_more s es (event_words s e) r)) ≡ Ok (stages.Events s (es ++ e ∷ []))
+        → (if a then Ok (stages.End s es) else (if b then Err kinds.TooMany else event_more s es r)) ≡ Ok (stages.Events s (es ++ e ∷ []))
     go a b r no_end some read = rw (no_end, some, read) refl
 
-events_follow : (s : Scenario) (es : List Event) → s.graph.nodes ≤ max_nodes s.format → AreInRange s es → length es ≤ MAX_EVENTS
+events_follow : (s : Scenario) (es : List Event) → s.graph.nodes ≤ max_nodes s.format → length s.graph.edges ≤ max_edges s.format → AreInRange s es → length es ≤ MAX_EVENTS
     → Follows (stages.Events s []) (map (event_words s) es) (stages.Events s es)
-events_follow s es few None_yet count = none (stages.Events s [])
-events_follow s es few (One_more {before = before} e are is) count =
+events_follow s es few many None_yet count = none (stages.Events s [])
+events_follow s es few many (One_more {before = before} e are is) count =
     let room : length before < MAX_EVENTS = omega (arith, count, length-append before (e ∷ [])) in
-    let front = events_follow s before few are (omega (arith, room)) in
-    let last = one (stages.Events s before) (stages.Events s (before ++ e ∷ [])) (event_words s e) (good_event_line s before e few is) (event_line s before e few room is) in
+    let front = events_follow s before few many are (omega (arith, room)) in
+    let last = one (stages.Events s before) (stages.Events s (before ++ e ∷ [])) (event_words s e) (good_event_line s before e few many is) (event_line s before e few room is) in
     subst (λ (ls : List (List Word)). Follows (stages.Events s []) ls (stages.Events s (before ++ e ∷ []))) (sym (map-append (event_words s) before (e ∷ [])))
     (both (map (event_words s) before) (event_words s e ∷ []) _ _ _ front last)
 
@@ -284,6 +286,6 @@ pub schedule_follows : (s : Scenario) (es : List Event) → IsSchedule s es → 
 schedule_follows s es good =
     let few = good.scenario.graph.nodes.1 in
     let end = one (stages.Events s es) (stages.End s es) end_words (good_row_line end_cells tt refl tt) refl in
-    let back = both (map (event_words s) es) (end_words ∷ []) _ _ _ (events_follow s es few good.events good.count) end in
+    let back = both (map (event_words s) es) (end_words ∷ []) _ _ _ (events_follow s es few good.scenario.graph.few good.events good.count) end in
     let all = both (header_lines s) (map (event_words s) es ++ end_words ∷ []) _ _ _ (header_follows s good.scenario) back in
     (all.good, all.follows)

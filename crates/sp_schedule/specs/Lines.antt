@@ -18,8 +18,7 @@
 --                 end              End
 --     End         none
 --
--- Every bad line of the header is `Header`. After 16,384 events each line but `end` is `TooMany`, whatever else is wrong with it. A good line of which no
--- event is built is `Unbuilt`.
+-- Every bad line of the header is `Header`. After 16,384 events each line but `end` is `TooMany`, whatever else is wrong with it.
 use Rattle.std.specs.Prelude.{ℕ, ◌≡◌, ◌&&◌, ◌||◌, ◌==◌, nat_le, nat_lt, Bool, true, false, if◌then◌else◌}
 use Rattle.std.specs.Prelude.{List, [], ◌∷◌, ◌++◌, length, Option, Some, None, Result, Ok, Err}
 use Rattle.sp_base.specs.Formats.{max_edges}
@@ -37,7 +36,6 @@ use Rattle.sp_graph.specs.declared.graph.Graph.{Graph}
 use Rattle.sp_topology.specs.declared.topology.Edge.{Edge}
 use Rattle.sp_topology.specs.declared.topology.LmsHeight.{LmsHeight}
 use Rattle.sp_schedule_events.specs.EventLines.{read_event}
-use Rattle.sp_schedule_events.specs.Later.{later_line}
 use Rattle.sp_schedule_events.specs.declared.scenario.Scenario.{Scenario}
 use Rattle.sp_schedule_events.specs.declared.event.Event.{Event}
 use Rattle.sp_schedule.specs.Header.{bad_cells, begin_cells, bounds_cells, edge_cells, end_cells, epochs_cells, height_cells, nodes_cells, seed_cells, version_cells}
@@ -112,20 +110,10 @@ says_edge s words = header (next_edge s words) (λ e. stages.Edges (with_edge s 
 abbrev pub says_epochs : Scenario → Result Stage Kind
 says_epochs s = if s.format == FORMAT_2 then Ok (stages.Epochs (with_epochs s)) else Err kinds.Header
 
--- a line of no event is `Unbuilt` where nothing else is wrong with it
-abbrev pub without_event : Result (Unit {0}) Fault → Kind
-without_event (Ok good) = kinds.Unbuilt
-without_event (Err fault) = kind_of fault
-
--- why the words aren't an event: they fit no row of an event, or are bad in theirs
-abbrev pub no_event : Scenario → List Word → Fault → Kind
-no_event s words faults.Form = without_event (later_line s words)
-no_event s words fault = kind_of fault
-
 -- an event is one event more
-abbrev pub event_more : Scenario → List Event → List Word → Result Event Fault → Result Stage Kind
-event_more s es words (Ok e) = Ok (stages.Events s (es ++ e ∷ []))
-event_more s es words (Err fault) = Err (no_event s words fault)
+abbrev pub event_more : Scenario → List Event → Result Event Fault → Result Stage Kind
+event_more s es (Ok e) = Ok (stages.Events s (es ++ e ∷ []))
+event_more s es (Err fault) = Err (kind_of fault)
 
 -- what the words of a line say at a stage: where they lead, or why they are refused
 abbrev pub says : Stage → List Word → Result Stage Kind
@@ -142,7 +130,7 @@ says (stages.Bads s) words =
 says (stages.Epochs s) words = if fits begin_cells words then Ok (stages.Events s []) else Err kinds.Header
 says (stages.Events s es) words =
     if fits end_cells words then Ok (stages.End s es)
-    else (if nat_le MAX_EVENTS (length es) then Err kinds.TooMany else event_more s es words (read_event s es words))
+    else (if nat_le MAX_EVENTS (length es) then Err kinds.TooMany else event_more s es (read_event s es words))
 says (stages.End s es) words = Err kinds.AfterEnd
 
 -- the header isn't whole

@@ -22,7 +22,6 @@ kind_word kinds.Range = codes "Range"
 kind_word kinds.NoEnd = codes "NoEnd"
 kind_word kinds.AfterEnd = codes "AfterEnd"
 kind_word kinds.TooBig = codes "TooBig"
-kind_word kinds.Unbuilt = codes "Unbuilt"
 
 -- the kind of a fault in an event's line
 abbrev pub kind_of : Fault → Kind

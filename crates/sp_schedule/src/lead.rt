@@ -4,7 +4,7 @@ ghost use Rattle.sp_base.specs.declared.limits.TheConstants.{MAX_EVENTS};
 ghost use Rattle.sp_lines.specs.Answers.{Says};
 ghost use Rattle.sp_lines.specs.Rows.{line_of};
 ghost use Rattle.sp_schedule.specs.Header.{bad_cells, next_after};
-ghost use Rattle.sp_schedule.specs.Lines.{IsLead, next_edge, no_event, with_bad, with_edge, with_epochs, without_event};
+ghost use Rattle.sp_schedule.specs.Lines.{IsLead, next_edge, with_bad, with_edge, with_epochs};
 
 use crate::header::{
     bad, bounds, edge, height, is_bad_line, is_begin, is_end, is_epochs, is_next_edge, next_after,
@@ -12,11 +12,9 @@ use crate::header::{
 };
 use crate::refused::kind_of;
 use crate::scenario_copy::copy_of;
-use crate::{
-    Edge, Event, Fault, Graph, Kind, LineRefused, LmsHeight, Parsed, Scenario, Stage, Timeline,
-};
+use crate::{Edge, Event, Graph, Kind, LineRefused, LmsHeight, Parsed, Scenario, Stage, Timeline};
 use sp_base::{FORMAT_2, Limits, Listed, MAX_EVENTS, Memory, NodeId};
-use sp_schedule_events::{later_line, read_event};
+use sp_schedule_events::read_event;
 use std::alloc::Global;
 
 /// What comes of a line.
@@ -302,30 +300,9 @@ fn after_events(alloc: Global, scenario: Scenario, mut events: Timeline, words: 
             Err(Memory) => Lead::Unread(Stage::Events(scenario, events)),
         },
         Err(LineRefused::Bad(fault)) => {
-            let kind = no_event(&scenario, words, fault);
-            Lead::Bad(Stage::Events(scenario, events), kind)
+            Lead::Bad(Stage::Events(scenario, events), kind_of(fault))
         }
         Err(LineRefused::Memory) => Lead::Unread(Stage::Events(scenario, events)),
-    }
-}
-
-/// Why the words of a line aren't an event: they fit no row of an event, or are bad in theirs.
-fn no_event(scenario: &Scenario, words: &[&[u8]], fault: Fault) -> Kind
-    ensures { result ≡ no_event scenario.now (map (λ w. w.now) words.now) fault }
-{
-    match fault {
-        Fault::Form => without_event(later_line(scenario, words)),
-        fault => kind_of(fault),
-    }
-}
-
-/// Why a line of no event is refused.
-fn without_event(line: Result<(), Fault>) -> Kind
-    ensures { result ≡ without_event line }
-{
-    match line {
-        Ok(()) => Kind::Unbuilt,
-        Err(fault) => kind_of(fault),
     }
 }
 

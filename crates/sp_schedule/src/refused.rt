@@ -34,8 +34,6 @@ pub enum Kind {
     AfterEnd,
     /// The text is longer than may be read. It is told of line 0.
     TooBig,
-    /// The line is good, and no event is built of it: it publishes or crafts a document.
-    Unbuilt,
 }
 
 /// Why a line that waits isn't read.
@@ -65,7 +63,6 @@ impl Kind {
             Kind::NoEnd => "NoEnd",
             Kind::AfterEnd => "AfterEnd",
             Kind::TooBig => "TooBig",
-            Kind::Unbuilt => "Unbuilt",
         }
     }
 }

@@ -1,16 +1,18 @@
--- The line of a crafted frame: a report, or an object behind the key that signs it.
-use Rattle.std.proofs.Common.{◌≡◌, ◌<◌, ℕ, suc, ◌==◌, ◌&&◌, Bool, true, false, cond, List, [], ◌∷◌, Option, Some, None, Result, Ok, Err, Bor, refl, sym, ◌∙◌, ap, arith, inl, inr, drop, length, map, if◌then◌else◌}
-use Rattle.std.specs.Prelude.{codes, find, option_map}
+-- The line of a crafted frame: a report, or an object or a document behind the key that signs it.
+use Rattle.std.proofs.Common.{◌≡◌, ◌<◌, ◌≤◌, ℕ, suc, get_or, ◌==◌, ◌&&◌, Bool, true, false, cond, List, [], ◌∷◌, Option, Some, None, Result, Ok, Err, Bor, refl, sym, subst, ◌∙◌, ap, arith, inl, inr, drop, take, length, map, if◌then◌else◌}
+use Rattle.std.specs.Prelude.{◌-◌, ◌^◌, codes, find, option_map}
+use Rattle.std.specs.Option.{option_or}
 use Rattle.std.proofs.lemmas.Bool.{cases_Bool, and_parts}
 use Rattle.std.proofs.lemmas.Bool.Decides.{nat_tests}
+use Rattle.std.proofs.lemmas.List.{take_all}
 use Rattle.sp_base.specs.Refusals.{◌>>=◌}
 use Rattle.sp_schedule_crafts.specs.declared.object.CraftedObject.{CraftedObject}
 use Rattle.sp_text.specs.Spelling.{Word}
-use Rattle.sp_lines.specs.Cells.{Bytes, Cell, Mask, Name, Number, Tested, number_at, same, tested_at}
+use Rattle.sp_lines.specs.Cells.{Bytes, Cell, Mask, Name, Number, Numbers, Tested, number_at, same, tested_at}
 use Rattle.sp_lines.specs.Rows.{agrees, fits, row_at}
 use Rattle.sp_lines.specs.declared.fault.Fault.{Fault}
 use Rattle.sp_lines.specs.declared.fault.Fault.TheVariants as faults
-use Rattle.sp_lines.proofs.Words.{same_self}
+use Rattle.sp_lines.proofs.Words.{same_self, same_words}
 use Rattle.sp_schedule_crafts.specs.Objects as objects
 use Rattle.sp_schedule_crafts.specs.Objects.{id}
 use Rattle.sp_schedule_crafts.specs.Reading as reading
@@ -18,14 +20,14 @@ use Rattle.sp_schedule_crafts.specs.declared.form.ObjectForm.{ObjectForm}
 use Rattle.sp_schedule_crafts.specs.declared.form.ObjectForm.TheVariants as objs
 use Rattle.sp_schedule_events.specs.Events.{event_of}
 use Rattle.sp_schedule_events.specs.EventLines.{form_for, if_joined, read_event, read_for, read_form}
-use Rattle.sp_schedule_events.specs.Names.{crafted_event, line_for}
-use Rattle.sp_schedule_events.specs.Scenarios.{are_joined, is_correct}
+use Rattle.sp_schedule_events.specs.Names.{crafted_event, line_for, line_where}
+use Rattle.sp_schedule_events.specs.Scenarios.{are_joined, has_documents, is_correct}
 use Rattle.sp_schedule_events.specs.Table as forms
-use Rattle.sp_schedule_events.specs.Table.{Form, cells}
+use Rattle.sp_schedule_events.specs.Table.{Form, cells, document_forms, has_status, life_forms}
 use Rattle.sp_schedule_events.specs.declared.event.Event.{Event}
 use Rattle.sp_schedule_events.specs.declared.event.Event.TheVariants as events
 use Rattle.sp_schedule_events.specs.declared.scenario.Scenario.{Scenario}
-use Rattle.sp_schedule_events.proofs.NameLemmas.{by_plain_name, one_less, plain_forms, same_search, starts, starts_so}
+use Rattle.sp_schedule_events.proofs.NameLemmas.{by_name, in_parts, no_lives, none_of_two, one_form, one_less, one_of_two, plain_forms, same_search, starts, starts_so, where_had}
 
 -- ---- which row
 
@@ -46,6 +48,8 @@ agrees_all (Bytes low high ∷ cs) free [] = refl
 agrees_all (Bytes low high ∷ cs) free (x ∷ xs) = agrees_all cs free xs
 agrees_all (Mask format ∷ cs) free [] = refl
 agrees_all (Mask format ∷ cs) free (x ∷ xs) = agrees_all cs free xs
+agrees_all (Numbers count high ∷ cs) free [] = refl
+agrees_all (Numbers count high ∷ cs) free (x ∷ xs) = agrees_all cs free xs
 
 turned : (a b : Bool) → (a && b) ≡ (b && a)
 turned true true = refl
@@ -85,17 +89,10 @@ object_row s objs.Ack c v key name fields = row_of (forms.node s) (forms.correct
 object_row s objs.Prio c v key name fields = row_of (forms.node s) (forms.correct s) (forms.node s) (codes "prio") (rest s.format objs.Prio) tt c v key name fields refl
 object_row s objs.Weight c v key name fields = row_of (forms.node s) (forms.correct s) (forms.node s) (codes "weight") (rest s.format objs.Weight) tt c v key name fields refl
 
-status_row : (s : Scenario) (c v key name : Word) (fields : List Word)
-    → starts (cells s forms.CraftStatus) (codes "craft" ∷ c ∷ v ∷ key ∷ name ∷ fields) ≡ (same key (codes "status") && (length fields == 3))
-status_row s c v key name fields =
-    ap (λ (t : Bool). (7 == length (c ∷ v ∷ key ∷ name ∷ fields)) && (same key (codes "status") && t)) (agrees_all (forms.node s ∷ objects.any_number ∷ objects.any_number ∷ []) tt fields)
-    ∙ ap (λ (t : Bool). t && (same key (codes "status") && true)) (four_less 3 (length fields))
-    ∙ turned (length fields == 3) (same key (codes "status") && true)
-    ∙ ap (λ (t : Bool). t && (length fields == 3)) (always (same key (codes "status")))
-  where
-    always : (t : Bool) → (t && true) ≡ t
-    always true = refl
-    always false = refl
+document_row : (s : Scenario) (c v key name : Word) (fields : List Word)
+    → starts (cells s forms.CraftDocument) (codes "craft" ∷ c ∷ v ∷ key ∷ name ∷ fields) ≡ (same name (codes "document") && (length fields == 2))
+document_row s c v key name fields =
+    row_of (forms.node s) (forms.correct s) (Number 0 s.graph.nodes) (codes "document") (Number 1 (2 ^ 32 - 1) ∷ forms.weights s ∷ []) tt c v key name fields refl
 
 find_mapped : {F G : Type 0} (test : G → Bool) (g : F → G) (all : List F) → find test (map g all) ≡ option_map g (find (λ f. test (g f)) all)
 find_mapped test g [] = refl
@@ -104,17 +101,20 @@ find_mapped test g (f ∷ all) = elim (cases_Bool (test (g f))) [
   | inr t ↦ rw t (find_mapped test g all)
 ]
 
--- the row of a crafted line
-pub craft_form : (s : Scenario) (c v key name : Word) (fields : List Word)
+-- the row of a crafted line that is no report: that of an object, or of a document in format 2
+craft_form : (s : Scenario) (c v key name : Word) (fields : List Word) → same key (codes "status") ≡ false
     → form_for s (codes "craft" ∷ c ∷ v ∷ key ∷ name ∷ fields)
-    ≡ cond (same key (codes "status") && (length fields == 3)) (Some forms.CraftStatus) (option_map forms.Craft (reading.form_named name (length fields)))
-craft_form s c v key name fields =
-    by_plain_name s (codes "craft") (c ∷ v ∷ key ∷ name ∷ fields) refl refl
-    ∙ ap (λ (t : Bool). cond t (Some forms.CraftStatus) (find test (map forms.Craft objects.forms))) (status_row s c v key name fields)
-    ∙ ap (λ (o : Option Form). cond (same key (codes "status") && (length fields == 3)) (Some forms.CraftStatus) o)
+    ≡ option_or (option_map forms.Craft (reading.form_named name (length fields)))
+    (if has_documents s then cond (same name (codes "document") && (length fields == 2)) (Some forms.CraftDocument) None else None)
+craft_form s c v key name fields other =
+    by_name s (codes "craft") (c ∷ v ∷ key ∷ name ∷ fields) other ∙ in_parts s test
+    ∙ ap (λ (o : Option Form). option_or o (option_or (find test (life_forms s.epochs)) (find test (document_forms (has_documents s)))))
     (find_mapped test forms.Craft objects.forms
     ∙ ap (option_map forms.Craft)
     (same_search (λ o. test (forms.Craft o)) (λ o. same name (reading.name o) && (length fields == reading.count o)) (λ o. object_row s o c v key name fields) objects.forms))
+    ∙ ap (option_or (option_map forms.Craft (reading.form_named name (length fields))))
+    (no_lives s test refl refl ∙ one_of_two (has_documents s) test forms.Publish forms.CraftDocument
+    ∙ ap (λ (t : Bool). if has_documents s then cond t (Some forms.CraftDocument) None else None) (document_row s c v key name fields))
   where
     test : Form → Bool
     test form = starts (cells s form) (codes "craft" ∷ c ∷ v ∷ key ∷ name ∷ fields)
@@ -174,41 +174,80 @@ found_count name count o is = go objects.forms is
     ]
 
 -- a line with a report
-pub reported : (s : Scenario) (es : List Event) (c v key name : Word) (fields : List Word) → (same key (codes "status") && (length fields == 3)) ≡ true
+pub reported : (s : Scenario) (es : List Event) (c v key name : Word) (fields : List Word) → same key (codes "status") ≡ true
     → read_event s es (codes "craft" ∷ c ∷ v ∷ key ∷ name ∷ fields) ≡ line_for s es forms.CraftStatus (codes "craft" ∷ c ∷ v ∷ codes "status" ∷ name ∷ fields)
-unfolding read_form
 reported s es c v key name fields is =
-    let found : form_for s (codes "craft" ∷ c ∷ v ∷ key ∷ name ∷ fields) ≡ Some forms.CraftStatus = craft_form s c v key name fields ∙ rw is refl in
-    let parts = and_parts (same key (codes "status")) (length fields == 3) is in
-    let fit : fits (cells s forms.CraftStatus) (codes "craft" ∷ c ∷ v ∷ codes "status" ∷ name ∷ fields) ≡ true =
-    starts_so (cells s forms.CraftStatus) (codes "craft") (c ∷ v ∷ codes "status" ∷ name ∷ fields) ∙ status_row s c v (codes "status") name fields ∙ parts.1 in
-    rw (found, fit) refl
+    subst (λ (k : Word). read_event s es (codes "craft" ∷ c ∷ v ∷ k ∷ name ∷ fields) ≡ line_for s es forms.CraftStatus (codes "craft" ∷ c ∷ v ∷ codes "status" ∷ name ∷ fields))
+    (sym (same_words key (codes "status") is))
+    (one_form s es forms.CraftStatus (codes "craft") (c ∷ v ∷ codes "status" ∷ name ∷ fields)
+    (ap (λ (t : Bool). cond t (Some forms.CraftStatus) None) (starts_so (cells s forms.CraftStatus) (codes "craft") (c ∷ v ∷ codes "status" ∷ name ∷ fields))))
+
+-- a line with a document
+pub documented : (s : Scenario) (es : List Event) (c v key name : Word) (fields : List Word) → same key (codes "status") ≡ false → same name (codes "document") ≡ true
+    → read_event s es (codes "craft" ∷ c ∷ v ∷ key ∷ name ∷ fields)
+    ≡ line_where (has_documents s) s es forms.CraftDocument (codes "craft" ∷ c ∷ v ∷ key ∷ codes "document" ∷ fields)
+documented s es c v key name fields other is =
+    subst
+    (λ (x : Word). read_event s es (codes "craft" ∷ c ∷ v ∷ key ∷ x ∷ fields)
+    ≡ line_where (has_documents s) s es forms.CraftDocument (codes "craft" ∷ c ∷ v ∷ key ∷ codes "document" ∷ fields))
+    (sym (same_words name (codes "document") is))
+    (where_had s es forms.CraftDocument (codes "craft") (c ∷ v ∷ key ∷ codes "document" ∷ fields) (has_documents s)
+    (craft_form s c v key (codes "document") fields other
+    ∙ ap (λ (t : Bool). if has_documents s then cond t (Some forms.CraftDocument) None else None) (sym (document_row s c v key (codes "document") fields))))
 
 -- a line with an object
 pub crafted : (s : Scenario) (es : List Event) (c v key name : Word) (fields : List Word) (o : ObjectForm)
-    → (same key (codes "status") && (length fields == 3)) ≡ false → reading.form_named name (length fields) ≡ Some o
+    → same key (codes "status") ≡ false → reading.form_named name (length fields) ≡ Some o
     → read_event s es (codes "craft" ∷ c ∷ v ∷ key ∷ name ∷ fields) ≡ crafted_event s c v key o fields
 crafted s es c v key name fields o other is =
-    let found : form_for s (codes "craft" ∷ c ∷ v ∷ key ∷ name ∷ fields) ≡ Some (forms.Craft o) = craft_form s c v key name fields ∙ rw (other, is) refl in
+    let found : form_for s (codes "craft" ∷ c ∷ v ∷ key ∷ name ∷ fields) ≡ Some (forms.Craft o) = craft_form s c v key name fields other ∙ rw is refl in
     rw found (craft_read s es o c v key name fields (found_count name (length fields) o is))
 
--- neither a report nor an object
+no_row : (has : Bool) → (if has then cond false (Some forms.CraftDocument) None else None) ≡ None
+no_row true = refl
+no_row false = refl
+
+-- none of these
 pub uncrafted : (s : Scenario) (es : List Event) (c v key name : Word) (fields : List Word)
-    → (same key (codes "status") && (length fields == 3)) ≡ false → reading.form_named name (length fields) ≡ None
+    → same key (codes "status") ≡ false → same name (codes "document") ≡ false → reading.form_named name (length fields) ≡ None
     → read_event s es (codes "craft" ∷ c ∷ v ∷ key ∷ name ∷ fields) ≡ Err faults.Form
-uncrafted s es c v key name fields other is =
-    let found : form_for s (codes "craft" ∷ c ∷ v ∷ key ∷ name ∷ fields) ≡ None = craft_form s c v key name fields ∙ rw (other, is) refl in
+uncrafted s es c v key name fields other no_document is =
+    let found : form_for s (codes "craft" ∷ c ∷ v ∷ key ∷ name ∷ fields) ≡ None =
+    craft_form s c v key name fields other ∙ rw (is, no_document) (no_row (has_documents s)) in
     rw found refl
 
 -- too few words
 pub crafted_few : (s : Scenario) (es : List Event) (words : List (Bor Word)) → length words < 4 → read_event s es (codes "craft" ∷ map (λ w. w.now) words) ≡ Err faults.Form
 crafted_few s es words few =
-    ap (λ (found : Option Form). read_for s es found (codes "craft" ∷ map (λ w. w.now) words))
-    (by_plain_name s (codes "craft") (map (λ w. w.now) words) refl refl ∙ none_fits words few)
+    ap (λ (found : Option Form). read_for s es found (codes "craft" ∷ map (λ w. w.now) words)) (none_fits words few)
   where
-    none_fits : (ws : List (Bor Word)) → length ws < 4 → find (λ form. starts (cells s form) (codes "craft" ∷ map (λ w. w.now) ws)) plain_forms ≡ None
-    none_fits [] few = refl
-    none_fits (a ∷ []) few = refl
-    none_fits (a ∷ b ∷ []) few = refl
-    none_fits (a ∷ b ∷ c ∷ []) few = refl
+    test : List Word → Form → Bool
+    test xs form = starts (cells s form) (codes "craft" ∷ xs)
+
+    no_form : (xs : List Word) → has_status xs ≡ false → find (test xs) plain_forms ≡ None → test xs forms.CraftDocument ≡ false → form_for s (codes "craft" ∷ xs) ≡ None
+    no_form xs other plain document =
+        by_name s (codes "craft") xs other ∙ in_parts s (test xs)
+        ∙ ap (λ (o : Option Form). option_or o (option_or (find (test xs) (life_forms s.epochs)) (find (test xs) (document_forms (has_documents s))))) plain
+        ∙ no_lives s (test xs) refl refl ∙ none_of_two (has_documents s) (test xs) forms.Publish forms.CraftDocument refl document
+
+    three : (a b c : Word) (t : Bool) → same c (codes "status") ≡ t → form_for s (codes "craft" ∷ a ∷ b ∷ c ∷ []) ≡ None
+    three a b c true is = rw is refl
+    three a b c false is = no_form (a ∷ b ∷ c ∷ []) is refl refl
+
+    none_fits : (ws : List (Bor Word)) → length ws < 4 → form_for s (codes "craft" ∷ map (λ w. w.now) ws) ≡ None
+    none_fits [] few = no_form [] refl refl refl
+    none_fits (a ∷ []) few = no_form (a.now ∷ []) refl refl refl
+    none_fits (a ∷ b ∷ []) few = no_form (a.now ∷ b.now ∷ []) refl refl refl
+    none_fits (a ∷ b ∷ c ∷ []) few = three a.now b.now c.now (same c.now (codes "status")) refl
     none_fits (a ∷ b ∷ c ∷ d ∷ more) few = absurd (omega (arith, few))
+
+-- what words say stands at the first four places and behind them
+pub from_four : (P : List Word → Type 0) (words : List (Bor Word)) (d : Bor Word) → 4 ≤ length words
+    → P ((get_or words 0 d).now ∷ (get_or words 1 d).now ∷ (get_or words 2 d).now ∷ (get_or words 3 d).now ∷ map (λ w. w.now) (take (length words - 4) (drop 4 words)))
+    → P (map (λ w. w.now) words)
+from_four P (a ∷ b ∷ c ∷ e ∷ more) d low p =
+    subst (λ (rest : List (Bor Word)). P (a.now ∷ b.now ∷ c.now ∷ e.now ∷ map (λ w. w.now) rest)) (take_all (length (a ∷ b ∷ c ∷ e ∷ more) - 4) more (omega arith)) p
+from_four P [] d low p = absurd (omega (arith, low))
+from_four P (a ∷ []) d low p = absurd (omega (arith, low))
+from_four P (a ∷ b ∷ []) d low p = absurd (omega (arith, low))
+from_four P (a ∷ b ∷ c ∷ []) d low p = absurd (omega (arith, low))

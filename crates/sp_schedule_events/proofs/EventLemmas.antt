@@ -1,32 +1,41 @@
 -- Events, their rows and their words.
-use Rattle.std.proofs.Common.{◌≡◌, ℕ, ◌<◌, ◌≤◌, ◌^◌, ◌-◌, ◌==◌, Bool, true, false, List, [], ◌∷◌, Option, Some, None, Ok, Err, refl, sym, subst, ◌∙◌, arith, inl, inr, if◌then◌else◌}
-use Rattle.std.specs.Prelude.{◌&&◌, codes, find, nat_lt, not}
+use Rattle.std.proofs.Common.{◌≡◌, ℕ, ◌<◌, ◌≤◌, ◌+◌, ◌^◌, ◌-◌, ◌==◌, Bool, true, false, List, [], ◌∷◌, ◌++◌, length, Option, Some, None, Ok, Err, refl, sym, subst, ◌∙◌, arith, inl, inr, if◌then◌else◌}
+use Rattle.std.specs.Prelude.{◌&&◌, codes, find, nat_le, nat_lt, not}
+use Rattle.std.specs.List.{list_all}
+use Rattle.std.proofs.lemmas.List.Folds.{find-append}
 use Rattle.std.specs.Fmt.{decimal}
 use Rattle.std.specs.Str.Parse.{AllDigits}
 use Rattle.std.proofs.lemmas.Fmt.{decimal_is_IsNumeral}
 use Rattle.std.proofs.lemmas.Str.Parse.{digit_from_value}
-use Rattle.std.proofs.lemmas.Bool.{and_parts, cases_Bool}
+use Rattle.std.proofs.lemmas.Bool.{and_from, and_parts, cases_Bool}
 use Rattle.std.proofs.lemmas.Bool.Decides.{nat_tests}
 use Rattle.sp_base.specs.Formats.{max_edges, max_nodes}
 use Rattle.sp_base.specs.declared.format.TheConstants.{FORMAT_1}
+use Rattle.sp_base.specs.declared.id.NodeId.{NodeId}
+use Rattle.sp_base.specs.declared.limits.TheConstants.{MAX_LINE_BYTES}
 use Rattle.sp_base.proofs.RefusalLemmas.{then_ok}
+use Rattle.sp_schedule_crafts.specs.Objects as crafts
+use Rattle.sp_schedule_crafts.specs.declared.object.CraftedObject.{CraftedObject}
 use Rattle.sp_schedule_crafts.specs.declared.object.CraftedObject.TheVariants as crafted
 use Rattle.sp_text.specs.Spelling.{Word}
-use Rattle.sp_lines.specs.Cells.{same}
+use Rattle.sp_lines.specs.Cells.{Cell, same}
 use Rattle.sp_lines.specs.Rows.{AreIn, Values, fits, row_at, spelled}
-use Rattle.sp_lines.specs.Widths.{is_good_row}
+use Rattle.sp_lines.specs.Widths.{is_good_cell, is_good_row, widths}
 use Rattle.sp_lines.specs.declared.fault.Fault.TheVariants as faults
 use Rattle.sp_lines.proofs.RowLemmas.{fit_parts, row_back, row_read}
 use Rattle.sp_lines.proofs.TextLemmas.{IsGoodLine}
-use Rattle.sp_lines.proofs.WidthLemmas.{good_row_line, good_row_room}
+use Rattle.sp_lines.proofs.WidthLemmas.{good_cells, good_row_line}
 use Rattle.sp_lines.proofs.Words.{same_words}
 use Rattle.sp_schedule_crafts.specs.declared.form.ObjectForm.TheVariants as objects
 use Rattle.sp_schedule_events.specs.Events.{event_of, event_words, form_of, is_joined, values_of}
 use Rattle.sp_schedule_events.specs.EventLines.{InRange, form_for, if_joined, read_event, read_for, read_form}
+use Rattle.sp_schedule_events.specs.Documents.{may_craft, may_publish, published}
 use Rattle.sp_schedule_events.specs.Lives.{is_started, may_act}
+use Rattle.sp_schedule_events.specs.Scenarios.{are_joined, has_documents}
+use Rattle.sp_schedule_events.proofs.NameLemmas.{no_lives}
 use Rattle.sp_schedule_events.specs.Laws.{EventsHaveOneLine}
 use Rattle.sp_schedule_events.specs.Table as forms
-use Rattle.sp_schedule_events.specs.Table.{Form, cells}
+use Rattle.sp_schedule_events.specs.Table.{Form, cells, document_forms, life_forms}
 use Rattle.sp_schedule_events.specs.declared.scenario.Scenario.{Scenario}
 use Rattle.sp_schedule_events.specs.declared.event.Event.{Event}
 use Rattle.sp_schedule_events.specs.declared.event.Event.TheVariants as events
@@ -52,6 +61,8 @@ event_back z (events.Craft c v key (crafted.Prio p)) = refl
 event_back z (events.Craft c v key (crafted.Weight w)) = refl
 event_back z (events.Start u) = refl
 event_back z (events.Stop u) = refl
+event_back z (events.Publish u weights) = refl
+event_back z (events.CraftDocument c v key version weights) = refl
 
 -- the words of a row's values are those of its event, which are in the same ranges
 record IsOfForm (s : Scenario) (form : Form) (xs : Values (cells s form)) : Type 0 where
@@ -76,6 +87,8 @@ of_form s (forms.Craft objects.Prio) xs = record { words = refl; ranges = λ are
 of_form s (forms.Craft objects.Weight) xs = record { words = refl; ranges = λ are. are }
 of_form s forms.Start xs = record { words = refl; ranges = λ are. are }
 of_form s forms.Stop xs = record { words = refl; ranges = λ are. are }
+of_form s forms.Publish xs = record { words = refl; ranges = λ are. are }
+of_form s forms.CraftDocument xs = record { words = refl; ranges = λ are. are }
 
 -- ---- the row that an event's words fit
 
@@ -103,15 +116,35 @@ edges_small format = elim (cases_Bool (format == FORMAT_1)) [
   | inr two ↦ rw two (omega arith)
 ]
 
--- the key of an acknowledgement is a node
+-- the key of a crafted frame is a node, or 0
 key_small : (s : Scenario) → s.graph.nodes ≤ max_nodes s.format → (n : ℕ) → n ≤ s.graph.nodes → n < 2 ^ 64
 key_small s few n below = omega (arith, few, below, nodes_small s.format)
 
--- a start or a stop comes with epochs alone
-life_form : (epochs : Bool) (test : Form → Bool) (found : Form) → epochs ≡ true → find test (forms.Start ∷ forms.Stop ∷ []) ≡ Some found
-    → find test (if epochs then forms.Start ∷ forms.Stop ∷ [] else []) ≡ Some found
-life_form true test found is at = at
-life_form false test found is at = absurd cc
+-- the form that one of two is, where a scenario has these
+had : (has : Bool) (test : Form → Bool) (a b found : Form) → has ≡ true → find test (a ∷ b ∷ []) ≡ Some found → find test (if has then a ∷ b ∷ [] else []) ≡ Some found
+had true test a b found is at = at
+had false test a b found is at = absurd cc
+
+-- of a life: the forms of documents come after it
+life_form : (s : Scenario) (test : Form → Bool) (found : Form) → s.epochs ≡ true → find test (forms.Start ∷ forms.Stop ∷ []) ≡ Some found
+    → find test (life_forms s.epochs ++ document_forms (has_documents s)) ≡ Some found
+life_form s test found is at =
+    find-append test (life_forms s.epochs) (document_forms (has_documents s)) ∙ rw (had s.epochs test forms.Start forms.Stop found is at) refl
+
+-- of a document
+document_form : (s : Scenario) (test : Form → Bool) (found : Form) → has_documents s ≡ true → test forms.Start ≡ false → test forms.Stop ≡ false
+    → find test (forms.Publish ∷ forms.CraftDocument ∷ []) ≡ Some found → find test (life_forms s.epochs ++ document_forms (has_documents s)) ≡ Some found
+document_form s test found is start stop at =
+    find-append test (life_forms s.epochs) (document_forms (has_documents s)) ∙ no_lives s test start stop
+    ∙ had (has_documents s) test forms.Publish forms.CraftDocument found is at
+
+-- an object is no report
+object_again : (s : Scenario) (c v key : NodeId) (o : CraftedObject) → s.graph.nodes ≤ max_nodes s.format → key.0 ≤ s.graph.nodes
+    → form_for s (event_words s (events.Craft c v key o)) ≡ Some (forms.Craft (crafts.form_of o))
+object_again z c v key (crafted.Rel r) few below = rw (not_status key.0 (key_small z few key.0 below)) refl
+object_again z c v key (crafted.Ack a) few below = rw (not_status key.0 (key_small z few key.0 below)) refl
+object_again z c v key (crafted.Prio p) few below = rw (not_status key.0 (key_small z few key.0 below)) refl
+object_again z c v key (crafted.Weight w) few below = rw (not_status key.0 (key_small z few key.0 below)) refl
 
 form_again : (s : Scenario) (es : List Event) (e : Event) → s.graph.nodes ≤ max_nodes s.format → InRange s es e → form_for s (event_words s e) ≡ Some (form_of e)
 form_again z es (events.Rel s d payload) few is = refl
@@ -125,14 +158,18 @@ form_again z es (events.Pass u v n) few is = refl
 form_again z es (events.Flip u v n back bit) few is = refl
 form_again z es (events.Inject u v bytes) few is = refl
 form_again z es (events.CraftStatus c v s d base have) few is = refl
-form_again z es (events.Craft c v key (crafted.Rel r)) few is = refl
-form_again z es (events.Craft c v key (crafted.Ack a)) few is = rw (not_status key.0 (key_small z few key.0 is.values.2.3.1)) refl
-form_again z es (events.Craft c v key (crafted.Prio p)) few is = refl
-form_again z es (events.Craft c v key (crafted.Weight w)) few is = refl
+form_again z es (events.Craft c v key o) few is = object_again z c v key o few is.values.2.3.1
 form_again z es (events.Start u) few is =
-    life_form z.epochs (λ f. fits (cells z f) (event_words z (events.Start u))) forms.Start (and_parts z.epochs (not (is_started es u.0)) is.may).0 refl
+    life_form z (λ f. fits (cells z f) (event_words z (events.Start u))) forms.Start (and_parts z.epochs (not (is_started es u.0)) is.may).0 refl
 form_again z es (events.Stop u) few is =
-    life_form z.epochs (λ f. fits (cells z f) (event_words z (events.Stop u))) forms.Stop (and_parts z.epochs (is_started es u.0) is.may).0 refl
+    life_form z (λ f. fits (cells z f) (event_words z (events.Stop u))) forms.Stop (and_parts z.epochs (is_started es u.0) is.may).0 refl
+form_again z es (events.Publish u weights) few is =
+    document_form z (λ f. fits (cells z f) (event_words z (events.Publish u weights))) forms.Publish
+    (and_parts (has_documents z) (may_publish z (published es) weights) is.joined).0 refl refl refl
+form_again z es (events.CraftDocument c v key version weights) few is =
+    rw (not_status key (key_small z few key is.values.2.3.1))
+    (document_form z (λ f. fits (cells z f) (event_words z (events.CraftDocument c v key version weights))) forms.CraftDocument
+    (and_parts (has_documents z) (are_joined z c.0 v.0 && may_craft z (published es) key version weights) is.joined).0 refl refl refl)
 
 -- the row that was found is fitted
 found_fits : {F : Type 0} (test : F → Bool) (all : List F) (found : F) → find test all ≡ Some found → test found ≡ true
@@ -145,9 +182,9 @@ found_fits test (x ∷ all) found is =
 
 -- ---- good rows
 
--- each row of the table has lines that can be read
-pub good_form : (s : Scenario) (form : Form) → s.graph.nodes ≤ max_nodes s.format → is_good_row (cells s form) ≡ true
-good_form s form few = go form
+-- the places of each row are good
+good_places : (s : Scenario) (form : Form) → s.graph.nodes ≤ max_nodes s.format → list_all is_good_cell (cells s form) ≡ true
+good_places s form few = go form
   where
     room : nat_lt s.graph.nodes (2 ^ 64) ≡ true
     room = grind (arith, nat_tests, few, nodes_small s.format)
@@ -158,7 +195,7 @@ good_form s form few = go form
     edges : nat_lt (max_edges s.format - 1) (2 ^ 64) ≡ true
     edges = grind (arith, nat_tests, edges_small s.format)
 
-    go : (f : Form) → is_good_row (cells s f) ≡ true
+    go : (f : Form) → list_all is_good_cell (cells s f) ≡ true
     go forms.Rel = rw room refl
     go forms.Prio = rw room refl
     go forms.Take = rw room refl
@@ -172,17 +209,61 @@ good_form s form few = go form
     go forms.CraftStatus = rw room refl
     go (forms.Craft objects.Rel) = rw (room, ids) refl
     go (forms.Craft objects.Ack) = rw (room, ids) refl
-    go (forms.Craft objects.Prio) = elim (cases_Bool (s.format == FORMAT_1)) [
-      | inl one ↦ rw (room, ids, one) refl
-      | inr two ↦ rw (room, ids, two) refl
-    ]
+    go (forms.Craft objects.Prio) = rw (room, ids) refl
     go (forms.Craft objects.Weight) = rw (room, ids, edges) refl
     go forms.Start = rw room refl
     go forms.Stop = rw room refl
+    go forms.Publish = rw room refl
+    go forms.CraftDocument = rw room refl
+
+-- there is one, and the line isn't too long
+record IsShort (cs : List Cell) : Type 0 where
+  some : nat_le 1 (length cs) ≡ true
+  short : nat_le (widths cs) (MAX_LINE_BYTES + 1) ≡ true
+
+short_row : (s : Scenario) (form : Form) → length s.graph.edges ≤ max_edges s.format → IsShort (cells s form)
+short_row s form few = go form
+  where
+    narrow : (count : ℕ) → count ≤ max_edges s.format → count ≤ 256
+    narrow count within = elim (cases_Bool (s.format == FORMAT_1)) [
+      | inl one ↦ (let small : count ≤ 120 = rw one at within in omega (arith, small))
+      | inr two ↦ (let small : count ≤ 256 = rw two at within in small)
+    ]
+
+    go : (f : Form) → IsShort (cells s f)
+    go forms.Rel = record { some = refl; short = refl }
+    go forms.Prio = record { some = refl; short = refl }
+    go forms.Take = record { some = refl; short = refl }
+    go forms.TakePrio = record { some = refl; short = refl }
+    go forms.Tick = record { some = refl; short = refl }
+    go forms.Weight = record { some = refl; short = refl }
+    go forms.Poll = record { some = refl; short = refl }
+    go forms.Pass = record { some = refl; short = refl }
+    go forms.Flip = record { some = refl; short = refl }
+    go forms.Inject = record { some = refl; short = refl }
+    go forms.CraftStatus = record { some = refl; short = refl }
+    go (forms.Craft objects.Rel) = record { some = refl; short = refl }
+    go (forms.Craft objects.Ack) = record { some = refl; short = refl }
+    go (forms.Craft objects.Prio) = elim (cases_Bool (s.format == FORMAT_1)) [
+      | inl one ↦ record { some = refl; short = rw one refl }
+      | inr two ↦ record { some = refl; short = rw two refl }
+    ]
+    go (forms.Craft objects.Weight) = record { some = refl; short = refl }
+    go forms.Start = record { some = refl; short = refl }
+    go forms.Stop = record { some = refl; short = refl }
+    go forms.Publish = record { some = refl; short = grind (arith, nat_tests, narrow (length s.graph.edges) few) }
+    go forms.CraftDocument = record { some = refl; short = grind (arith, nat_tests, narrow (length s.graph.edges) few) }
 
 -- the line of an event in its ranges can be read
-pub good_event_line : (s : Scenario) (es : List Event) (e : Event) → s.graph.nodes ≤ max_nodes s.format → InRange s es e → IsGoodLine (event_words s e)
-good_event_line s es e few is = good_row_line (cells s (form_of e)) (values_of s e) (good_form s (form_of e) few) is.values
+pub good_event_line : (s : Scenario) (es : List Event) (e : Event) → s.graph.nodes ≤ max_nodes s.format → length s.graph.edges ≤ max_edges s.format → InRange s es e
+    → IsGoodLine (event_words s e)
+good_event_line s es e few many is =
+    let cs = cells s (form_of e) in
+    let short = short_row s (form_of e) many in
+    let good : is_good_row cs ≡ true =
+    and_from (nat_le 1 (length cs) && list_all is_good_cell cs) (nat_le (widths cs) (MAX_LINE_BYTES + 1))
+    (and_from (nat_le 1 (length cs)) (list_all is_good_cell cs) short.some (good_places s (form_of e) few)) short.short in
+    good_row_line cs (values_of s e) good is.values
 
 -- ---- both ways
 
@@ -208,12 +289,12 @@ form_read s es form words e fit read =
 event_read : (s : Scenario) (es : List Event) (words : List Word) (e : Event) → (found : Option Form) → form_for s words ≡ found → read_for s es found words ≡ Ok e
     → InRange s es e × (words ≡ event_words s e)
 event_read s es words e None is read = absurd cc
-event_read s es words e (Some form) is read = form_read s es form words e (found_fits (λ f. fits (cells s f) words) (forms.forms s) form is) read
+event_read s es words e (Some form) is read = form_read s es form words e (found_fits (λ f. fits (cells s f) words) (forms.forms_for s words) form is) read
 
 event_back_read : (s : Scenario) (es : List Event) (e : Event) → s.graph.nodes ≤ max_nodes s.format → InRange s es e → read_event s es (event_words s e) ≡ Ok e
 unfolding read_form
 event_back_read s es e few is =
-    let row = row_back (cells s (form_of e)) (values_of s e) (good_row_room (cells s (form_of e)) (good_form s (form_of e) few)) is.values in
+    let row = row_back (cells s (form_of e)) (values_of s e) (good_cells (cells s (form_of e)) (good_places s (form_of e) few)) is.values in
     rw (form_again s es e few is) (rw row (rw (event_back s e) (rw (is.may, is.joined) refl)))
 
 pub events_have_one_line : EventsHaveOneLine

@@ -1,4 +1,6 @@
 pub mod CountLemmas
+pub mod PublishedLemmas
+pub mod DocumentLemmas
 pub mod NameLemmas
 pub mod CraftLemmas
 pub mod EventLemmas

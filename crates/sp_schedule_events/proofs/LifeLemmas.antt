@@ -1,14 +1,17 @@
--- The flags of started nodes keep up with the events.
+-- The flags of started nodes keep up with the events, and so does all that a timeline keeps.
 use Rattle.std.proofs.Common.{◌≡◌, ◌<◌, ℕ, ◌==◌, Bool, true, false, List, [], ◌∷◌, ◌++◌, set, replicate, get_or, refl, sym, ap, ◌∙◌, arith, get_or-set_same, get_or-set_other}
 use Rattle.std.proofs.lemmas.Bool.Decides.{nat_tests}
 use Rattle.std.proofs.lemmas.List.{get_or-replicate, length-replicate, length-set}
 use Rattle.std.proofs.lemmas.List.Sums.{fold-append}
 use Rattle.sp_schedule_events.specs.Counts.{Count, with_event}
+use Rattle.sp_schedule_events.specs.Documents.{list_in, with_list}
 use Rattle.sp_schedule_events.specs.Lives.{is_started, started_after}
 use Rattle.sp_schedule_events.specs.StartedNodes.{AreFlagged, AreKept, with_life}
 use Rattle.sp_schedule_events.specs.declared.event.Event.{Event}
 use Rattle.sp_schedule_events.specs.declared.event.Event.TheVariants as events
+use Rattle.sp_schedule_events.specs.declared.published.Published.{Published}
 use Rattle.sp_schedule_events.proofs.CountLemmas.{counted_more}
+use Rattle.sp_schedule_events.proofs.PublishedLemmas.{published_more}
 
 pub none_flagged : AreFlagged [] (replicate 256 false)
 none_flagged = record {
@@ -63,7 +66,14 @@ flagged_more es flags (events.Flip a b number back bit) are = same_flags es flag
 flagged_more es flags (events.Inject a b bytes) are = same_flags es flags (events.Inject a b bytes) are (λ u was. refl)
 flagged_more es flags (events.Craft c b key body) are = same_flags es flags (events.Craft c b key body) are (λ u was. refl)
 flagged_more es flags (events.CraftStatus c b s d base have) are = same_flags es flags (events.CraftStatus c b s d base have) are (λ u was. refl)
+flagged_more es flags (events.Publish a weights) are = same_flags es flags (events.Publish a weights) are (λ u was. refl)
+flagged_more es flags (events.CraftDocument c b key version weights) are = same_flags es flags (events.CraftDocument c b key version weights) are (λ u was. refl)
 
--- both tables do
-pub kept_more : (es : List Event) (rows : List Count) (flags : List Bool) (e : Event) → AreKept es rows flags → AreKept (es ++ e ∷ []) (with_event rows e) (with_life flags e)
-kept_more es rows flags e kept = record { counted = counted_more es rows e kept.counted; flagged = flagged_more es flags e kept.flagged }
+-- and all that a timeline keeps does
+pub kept_more : (es : List Event) (rows : List Count) (flags : List Bool) (last : Published) (e : Event) → AreKept es rows flags last
+    → AreKept (es ++ e ∷ []) (with_event rows e) (with_life flags e) (with_list last (list_in e))
+kept_more es rows flags last e kept = record {
+  counted = counted_more es rows e kept.counted;
+  flagged = flagged_more es flags e kept.flagged;
+  published = published_more es last e kept.published;
+}

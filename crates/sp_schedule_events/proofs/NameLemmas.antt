@@ -1,5 +1,5 @@
 -- A line is found by its name: no other row has words with that name.
-use Rattle.std.proofs.Common.{◌≡◌, ℕ, suc, ◌==◌, ◌&&◌, Bool, true, false, cond, List, [], ◌∷◌, Option, Some, None, Result, Err, map, if◌then◌else◌, refl, sym, subst, ◌∙◌, ap, arith, inl, inr, length}
+use Rattle.std.proofs.Common.{◌≡◌, ℕ, suc, ◌==◌, ◌&&◌, Bool, true, false, cond, List, [], ◌∷◌, ◌++◌, Option, Some, None, Result, map, if◌then◌else◌, refl, sym, subst, ◌∙◌, ap, arith, inl, inr, length}
 use Rattle.std.specs.Prelude.{codes, find}
 use Rattle.std.specs.Option.{option_or}
 use Rattle.std.proofs.lemmas.List.Folds.{find-append}
@@ -7,16 +7,16 @@ use Rattle.std.proofs.lemmas.Bool.{cases_Bool}
 use Rattle.std.proofs.lemmas.Bool.Decides.{nat_tests}
 use Rattle.sp_text.specs.Spelling.{Word}
 use Rattle.sp_lines.specs.Answers.{Reads}
-use Rattle.sp_lines.specs.Cells.{Bytes, Cell, Mask, Name, Number, Tested, same}
+use Rattle.sp_lines.specs.Cells.{Bytes, Cell, Mask, Name, Number, Numbers, Tested, same}
 use Rattle.sp_lines.specs.Rows.{agrees, fits}
-use Rattle.sp_lines.specs.declared.fault.Fault.TheVariants as faults
 use Rattle.sp_lines.specs.declared.fault.LineRefused.{LineRefused}
 use Rattle.sp_lines.proofs.Words.{same_words}
 use Rattle.sp_schedule_crafts.specs.Objects as objects
 use Rattle.sp_schedule_events.specs.EventLines.{form_for, read_event, read_for}
-use Rattle.sp_schedule_events.specs.Names.{life_line_for, line_for, line_named, name, names}
+use Rattle.sp_schedule_events.specs.Names.{line_for, line_named, line_where, name, names}
+use Rattle.sp_schedule_events.specs.Scenarios.{has_documents}
 use Rattle.sp_schedule_events.specs.Table as forms
-use Rattle.sp_schedule_events.specs.Table.{Form, cells}
+use Rattle.sp_schedule_events.specs.Table.{Form, cells, document_forms, has_status, is_report, life_forms}
 use Rattle.sp_schedule_events.specs.declared.event.Event.{Event}
 use Rattle.sp_schedule_events.specs.declared.line_of.LineName.{LineName}
 use Rattle.sp_schedule_events.specs.declared.line_of.LineName.TheVariants as lines
@@ -46,46 +46,60 @@ starts_so (Number low high ∷ cs) x xs = refl
 starts_so (Tested low high test ∷ cs) x xs = refl
 starts_so (Bytes low high ∷ cs) x xs = refl
 starts_so (Mask format ∷ cs) x xs = refl
+starts_so (Numbers count high ∷ cs) x xs = refl
 
 pub same_search : {F : Type 0} (t u : F → Bool) → ((f : F) → t f ≡ u f) → (all : List F) → find t all ≡ find u all
 same_search t u are [] = refl
 same_search t u are (f ∷ all) = rw (are f, same_search t u are all) refl
 
--- the form of words by their name
-by_name : (s : Scenario) (x : Word) (xs : List Word) → form_for s (x ∷ xs) ≡ find (λ form. starts (cells s form) (x ∷ xs)) (forms.forms s)
-by_name s x xs = same_search (λ form. fits (cells s form) (x ∷ xs)) (λ form. starts (cells s form) (x ∷ xs)) (λ form. starts_so (cells s form) x xs) (forms.forms s)
+-- the form of words by their name, where they aren't those of a report
+pub by_name : (s : Scenario) (x : Word) (xs : List Word) → is_report (x ∷ xs) ≡ false
+    → form_for s (x ∷ xs) ≡ find (λ form. starts (cells s form) (x ∷ xs)) (forms.forms s)
+by_name s x xs other =
+    ap (λ (report : Bool). find (λ form. fits (cells s form) (x ∷ xs)) (if report then forms.CraftStatus ∷ [] else forms.forms s)) other
+    ∙ same_search (λ form. fits (cells s form) (x ∷ xs)) (λ form. starts (cells s form) (x ∷ xs)) (λ form. starts_so (cells s form) x xs) (forms.forms s)
 
 -- the forms of each scenario
 abbrev pub plain_forms : List Form
 plain_forms =
-    forms.Rel ∷ forms.Prio ∷ forms.Take ∷ forms.TakePrio ∷ forms.Tick ∷ forms.Weight ∷ forms.Poll ∷ forms.Pass ∷ forms.Flip ∷ forms.Inject ∷ forms.CraftStatus
+    forms.Rel ∷ forms.Prio ∷ forms.Take ∷ forms.TakePrio ∷ forms.Tick ∷ forms.Weight ∷ forms.Poll ∷ forms.Pass ∷ forms.Flip ∷ forms.Inject
     ∷ map forms.Craft objects.forms
 
--- those of a scenario with epochs alone
-abbrev pub life_forms : Bool → List Form
-life_forms epochs = if epochs then forms.Start ∷ forms.Stop ∷ [] else []
+-- a search among all is one among these first, then among those of epochs, and then among those of documents
+pub in_parts : (s : Scenario) (test : Form → Bool) → find test (forms.forms s)
+    ≡ option_or (find test plain_forms) (option_or (find test (life_forms s.epochs)) (find test (document_forms (has_documents s))))
+in_parts s test =
+    find-append test plain_forms (life_forms s.epochs ++ document_forms (has_documents s))
+    ∙ ap (option_or (find test plain_forms)) (find-append test (life_forms s.epochs) (document_forms (has_documents s)))
 
-none_more : {F : Type 0} (o : Option F) → option_or o None ≡ o
+pub none_more : {F : Type 0} (o : Option F) → option_or o None ≡ o
 none_more (Some f) = refl
 none_more None = refl
 
-no_life : (epochs : Bool) (test : Form → Bool) → test forms.Start ≡ false → test forms.Stop ≡ false → find test (life_forms epochs) ≡ None
-no_life true test start stop = rw (start, stop) refl
-no_life false test start stop = refl
+pub none_of_two : (has : Bool) (test : Form → Bool) (a b : Form) → test a ≡ false → test b ≡ false → find test (if has then a ∷ b ∷ [] else []) ≡ None
+none_of_two true test a b first second = rw (first, second) refl
+none_of_two false test a b first second = refl
 
--- the form of words by their name, which isn't that of a start or a stop
-pub by_plain_name : (s : Scenario) (x : Word) (xs : List Word) → same x (codes "start") ≡ false → same x (codes "stop") ≡ false
-    → form_for s (x ∷ xs) ≡ find (λ form. starts (cells s form) (x ∷ xs)) plain_forms
-by_plain_name s x xs start stop =
-    by_name s x xs ∙ find-append test plain_forms (life_forms s.epochs)
-    ∙ ap (option_or (find test plain_forms)) (no_life s.epochs test (rw start refl) (rw stop refl)) ∙ none_more (find test plain_forms)
+pub one_of_two : (has : Bool) (test : Form → Bool) (a b : Form) → find test (if has then a ∷ b ∷ [] else []) ≡ (if has then find test (a ∷ b ∷ []) else None)
+one_of_two true test a b = refl
+one_of_two false test a b = refl
+
+-- the form of words by their name, which is that of one of the first alone
+pub by_plain_name : (s : Scenario) (x : Word) (xs : List Word) → same x (codes "start") ≡ false → same x (codes "stop") ≡ false → same x (codes "publish") ≡ false
+    → same x (codes "craft") ≡ false → form_for s (x ∷ xs) ≡ find (λ form. starts (cells s form) (x ∷ xs)) plain_forms
+by_plain_name s x xs start stop publish craft =
+    by_name s x xs (ap (λ (b : Bool). b && has_status xs) craft) ∙ in_parts s test
+    ∙ ap (λ (more : Option Form). option_or (find test plain_forms) (option_or more (find test (document_forms (has_documents s)))))
+    (none_of_two s.epochs test forms.Start forms.Stop (rw start refl) (rw stop refl))
+    ∙ ap (option_or (find test plain_forms)) (none_of_two (has_documents s) test forms.Publish forms.CraftDocument (rw publish refl) (rw craft refl))
+    ∙ none_more (find test plain_forms)
   where
     test : Form → Bool
     test form = starts (cells s form) (x ∷ xs)
 
 -- ---- a name of one form
 
-one_form : (s : Scenario) (es : List Event) (form : Form) (x : Word) (xs : List Word) → form_for s (x ∷ xs) ≡ cond (starts (cells s form) (x ∷ xs)) (Some form) None
+pub one_form : (s : Scenario) (es : List Event) (form : Form) (x : Word) (xs : List Word) → form_for s (x ∷ xs) ≡ cond (starts (cells s form) (x ∷ xs)) (Some form) None
     → read_event s es (x ∷ xs) ≡ line_for s es form (x ∷ xs)
 one_form s es form x xs is = elim (cases_Bool (starts (cells s form) (x ∷ xs))) [
   | inl t ↦ rw (is, starts_so (cells s form) x xs, t) refl
@@ -107,55 +121,74 @@ form_of lines.Inject = forms.Inject
 form_of lines.Craft = forms.CraftStatus
 form_of lines.Start = forms.Start
 form_of lines.Stop = forms.Stop
+form_of lines.Publish = forms.Publish
 
 -- no other form has the name, in any scenario
 abbrev pub has_one : LineName → Bool
 has_one lines.Craft = false
 has_one lines.Start = false
 has_one lines.Stop = false
+has_one lines.Publish = false
 has_one line = true
 
 only : (s : Scenario) (es : List Event) (line : LineName) (xs : List Word) → has_one line ≡ true → read_event s es (name line ∷ xs) ≡ line_for s es (form_of line) (name line ∷ xs)
-only s es lines.Rel xs one = one_form s es forms.Rel (codes "rel") xs (by_plain_name s (codes "rel") xs refl refl)
-only s es lines.Prio xs one = one_form s es forms.Prio (codes "prio") xs (by_plain_name s (codes "prio") xs refl refl)
-only s es lines.Take xs one = one_form s es forms.Take (codes "take") xs (by_plain_name s (codes "take") xs refl refl)
-only s es lines.TakePrio xs one = one_form s es forms.TakePrio (codes "takep") xs (by_plain_name s (codes "takep") xs refl refl)
-only s es lines.Tick xs one = one_form s es forms.Tick (codes "tick") xs (by_plain_name s (codes "tick") xs refl refl)
-only s es lines.Weight xs one = one_form s es forms.Weight (codes "weight") xs (by_plain_name s (codes "weight") xs refl refl)
-only s es lines.Poll xs one = one_form s es forms.Poll (codes "poll") xs (by_plain_name s (codes "poll") xs refl refl)
-only s es lines.Pass xs one = one_form s es forms.Pass (codes "pass") xs (by_plain_name s (codes "pass") xs refl refl)
-only s es lines.Flip xs one = one_form s es forms.Flip (codes "flip") xs (by_plain_name s (codes "flip") xs refl refl)
-only s es lines.Inject xs one = one_form s es forms.Inject (codes "inject") xs (by_plain_name s (codes "inject") xs refl refl)
+only s es lines.Rel xs one = one_form s es forms.Rel (codes "rel") xs (by_plain_name s (codes "rel") xs refl refl refl refl)
+only s es lines.Prio xs one = one_form s es forms.Prio (codes "prio") xs (by_plain_name s (codes "prio") xs refl refl refl refl)
+only s es lines.Take xs one = one_form s es forms.Take (codes "take") xs (by_plain_name s (codes "take") xs refl refl refl refl)
+only s es lines.TakePrio xs one = one_form s es forms.TakePrio (codes "takep") xs (by_plain_name s (codes "takep") xs refl refl refl refl)
+only s es lines.Tick xs one = one_form s es forms.Tick (codes "tick") xs (by_plain_name s (codes "tick") xs refl refl refl refl)
+only s es lines.Weight xs one = one_form s es forms.Weight (codes "weight") xs (by_plain_name s (codes "weight") xs refl refl refl refl)
+only s es lines.Poll xs one = one_form s es forms.Poll (codes "poll") xs (by_plain_name s (codes "poll") xs refl refl refl refl)
+only s es lines.Pass xs one = one_form s es forms.Pass (codes "pass") xs (by_plain_name s (codes "pass") xs refl refl refl refl)
+only s es lines.Flip xs one = one_form s es forms.Flip (codes "flip") xs (by_plain_name s (codes "flip") xs refl refl refl refl)
+only s es lines.Inject xs one = one_form s es forms.Inject (codes "inject") xs (by_plain_name s (codes "inject") xs refl refl refl refl)
 only s es lines.Craft xs one = absurd cc
 only s es lines.Start xs one = absurd cc
 only s es lines.Stop xs one = absurd cc
+only s es lines.Publish xs one = absurd cc
 
--- ---- a start or a stop
+-- ---- a name that not each scenario has
 
-life_found : (epochs : Bool) (s : Scenario) (form : Form) (words : List Word) → epochs ≡ true → find (λ f. starts (cells s f) words) (forms.Start ∷ forms.Stop ∷ []) ≡ cond (starts (cells s form) words) (Some form) None
-    → find (λ f. starts (cells s f) words) (life_forms epochs) ≡ cond (starts (cells s form) words) (Some form) None
-life_found true s form words is at = at
-life_found false s form words is at = absurd cc
+pub where_had : (s : Scenario) (es : List Event) (form : Form) (x : Word) (xs : List Word) (has : Bool)
+    → form_for s (x ∷ xs) ≡ (if has then cond (starts (cells s form) (x ∷ xs)) (Some form) None else None) → read_event s es (x ∷ xs) ≡ line_where has s es form (x ∷ xs)
+where_had s es form x xs true is = one_form s es form x xs is
+where_had s es form x xs false is = ap (λ (found : Option Form). read_for s es found (x ∷ xs)) is
 
-life_lost : (epochs : Bool) (test : Form → Bool) → epochs ≡ false → find test (life_forms epochs) ≡ None
-life_lost true test is = absurd cc
-life_lost false test is = refl
+no_documents : (s : Scenario) (test : Form → Bool) → test forms.Publish ≡ false → test forms.CraftDocument ≡ false
+    → option_or (find test (life_forms s.epochs)) (find test (document_forms (has_documents s))) ≡ find test (life_forms s.epochs)
+no_documents s test publish craft =
+    ap (option_or (find test (life_forms s.epochs))) (none_of_two (has_documents s) test forms.Publish forms.CraftDocument publish craft)
+    ∙ none_more (find test (life_forms s.epochs))
 
-pub started : (s : Scenario) (es : List Event) (xs : List Word) → read_event s es (codes "start" ∷ xs) ≡ life_line_for s es forms.Start (codes "start" ∷ xs)
-started s es xs = elim (cases_Bool s.epochs) [
-  | inl t ↦ one_form s es forms.Start (codes "start") xs (by_name s (codes "start") xs ∙ life_found s.epochs s forms.Start (codes "start" ∷ xs) t refl)
-      ∙ sym (ap (λ (b : Bool). if b then line_for s es forms.Start (codes "start" ∷ xs) else Err faults.Form) t)
-  | inr t ↦ ap (λ (found : Option Form). read_for s es found (codes "start" ∷ xs)) (by_name s (codes "start") xs ∙ life_lost s.epochs (λ f. starts (cells s f) (codes "start" ∷ xs)) t)
-      ∙ sym (ap (λ (b : Bool). if b then line_for s es forms.Start (codes "start" ∷ xs) else Err faults.Form) t)
-]
+pub no_lives : (s : Scenario) (test : Form → Bool) → test forms.Start ≡ false → test forms.Stop ≡ false
+    → option_or (find test (life_forms s.epochs)) (find test (document_forms (has_documents s))) ≡ find test (document_forms (has_documents s))
+no_lives s test start stop =
+    ap (λ (more : Option Form). option_or more (find test (document_forms (has_documents s)))) (none_of_two s.epochs test forms.Start forms.Stop start stop)
 
-pub stopped : (s : Scenario) (es : List Event) (xs : List Word) → read_event s es (codes "stop" ∷ xs) ≡ life_line_for s es forms.Stop (codes "stop" ∷ xs)
-stopped s es xs = elim (cases_Bool s.epochs) [
-  | inl t ↦ one_form s es forms.Stop (codes "stop") xs (by_name s (codes "stop") xs ∙ life_found s.epochs s forms.Stop (codes "stop" ∷ xs) t refl)
-      ∙ sym (ap (λ (b : Bool). if b then line_for s es forms.Stop (codes "stop" ∷ xs) else Err faults.Form) t)
-  | inr t ↦ ap (λ (found : Option Form). read_for s es found (codes "stop" ∷ xs)) (by_name s (codes "stop") xs ∙ life_lost s.epochs (λ f. starts (cells s f) (codes "stop" ∷ xs)) t)
-      ∙ sym (ap (λ (b : Bool). if b then line_for s es forms.Stop (codes "stop" ∷ xs) else Err faults.Form) t)
-]
+pub started : (s : Scenario) (es : List Event) (xs : List Word) → read_event s es (codes "start" ∷ xs) ≡ line_where s.epochs s es forms.Start (codes "start" ∷ xs)
+started s es xs =
+    where_had s es forms.Start (codes "start") xs s.epochs
+    (by_name s (codes "start") xs refl ∙ in_parts s test ∙ no_documents s test refl refl ∙ one_of_two s.epochs test forms.Start forms.Stop)
+  where
+    test : Form → Bool
+    test form = starts (cells s form) (codes "start" ∷ xs)
+
+pub stopped : (s : Scenario) (es : List Event) (xs : List Word) → read_event s es (codes "stop" ∷ xs) ≡ line_where s.epochs s es forms.Stop (codes "stop" ∷ xs)
+stopped s es xs =
+    where_had s es forms.Stop (codes "stop") xs s.epochs
+    (by_name s (codes "stop") xs refl ∙ in_parts s test ∙ no_documents s test refl refl ∙ one_of_two s.epochs test forms.Start forms.Stop)
+  where
+    test : Form → Bool
+    test form = starts (cells s form) (codes "stop" ∷ xs)
+
+pub handed : (s : Scenario) (es : List Event) (xs : List Word)
+    → read_event s es (codes "publish" ∷ xs) ≡ line_where (has_documents s) s es forms.Publish (codes "publish" ∷ xs)
+handed s es xs =
+    where_had s es forms.Publish (codes "publish") xs (has_documents s)
+    (by_name s (codes "publish") xs refl ∙ in_parts s test ∙ no_lives s test refl refl ∙ one_of_two (has_documents s) test forms.Publish forms.CraftDocument)
+  where
+    test : Form → Bool
+    test form = starts (cells s form) (codes "publish" ∷ xs)
 
 -- the first word of a line that was found is its name
 pub is_named : (x : Word) (line : LineName) → line_named x ≡ Some line → x ≡ name line
@@ -191,5 +224,5 @@ all_fail test (f ∷ all) none = elim (cases_Bool (test f)) [
 pub unnamed : (s : Scenario) (x : Word) (xs : List Word) → line_named x ≡ None → form_for s (x ∷ xs) ≡ None
 unnamed s x xs none =
     let f = all_fail (λ line. same x (name line)) names none in
-    by_plain_name s x xs f.1.1.1.1.1.1.1.1.1.1.1.0 f.1.1.1.1.1.1.1.1.1.1.1.1.0
+    by_plain_name s x xs f.1.1.1.1.1.1.1.1.1.1.1.0 f.1.1.1.1.1.1.1.1.1.1.1.1.0 f.1.1.1.1.1.1.1.1.1.1.1.1.1.0 f.1.1.1.1.1.1.1.1.1.1.0
     ∙ rw (f.0, f.1.0, f.1.1.0, f.1.1.1.0, f.1.1.1.1.0, f.1.1.1.1.1.0, f.1.1.1.1.1.1.0, f.1.1.1.1.1.1.1.0, f.1.1.1.1.1.1.1.1.0, f.1.1.1.1.1.1.1.1.1.0, f.1.1.1.1.1.1.1.1.1.1.0) refl

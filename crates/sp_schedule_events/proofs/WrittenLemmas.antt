@@ -30,6 +30,8 @@ same_words z (events.Craft c v key (crafted.Prio p)) = refl
 same_words z (events.Craft c v key (crafted.Weight w)) = refl
 same_words z (events.Start u) = refl
 same_words z (events.Stop u) = refl
+same_words z (events.Publish u weights) = refl
+same_words z (events.CraftDocument c v key version weights) = refl
 
 -- a name and its fields, written one after the other, and a newline
 pub line_written : (s : Scenario) (e : Event) (old a b c new : List ℕ) → a ≡ old ++ event_name e → b ≡ a ++ after_spaces (front_words e) → c ≡ b ++ after_spaces (back_words s.format e)

@@ -19,3 +19,5 @@ acting (events.Craft c v key object) = v
 acting (events.CraftStatus c v s d base have) = v
 acting (events.Start u) = u
 acting (events.Stop u) = u
+acting (events.Publish u weights) = u
+acting (events.CraftDocument c v key version weights) = v

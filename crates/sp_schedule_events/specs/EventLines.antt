@@ -7,13 +7,13 @@ use Rattle.sp_lines.specs.declared.fault.Fault.{Fault}
 use Rattle.sp_lines.specs.declared.fault.Fault.TheVariants as faults
 use Rattle.sp_schedule_events.specs.Events.{event_of, form_of, is_joined, values_of}
 use Rattle.sp_schedule_events.specs.Lives.{may_act}
-use Rattle.sp_schedule_events.specs.Table.{Form, cells, forms}
+use Rattle.sp_schedule_events.specs.Table.{Form, cells, forms_for}
 use Rattle.sp_schedule_events.specs.declared.scenario.Scenario.{Scenario}
 use Rattle.sp_schedule_events.specs.declared.event.Event.{Event}
 
 -- the form whose row the words fit
 abbrev pub form_for : Scenario → List Word → Option Form
-form_for s words = form_among (cells s) (forms s) words
+form_for s words = form_among (cells s) (forms_for s words) words
 
 -- the rules that join fields come last: on the line itself, and on who is started
 abbrev pub if_joined : Scenario → List Event → Event → Result Event Fault

@@ -4,7 +4,8 @@ use Rattle.sp_text.specs.Spelling.{Word}
 use Rattle.sp_lines.specs.Rows.{Values, spelled}
 use Rattle.sp_schedule_crafts.specs.Objects as objects
 use Rattle.sp_schedule_crafts.specs.Objects.{id}
-use Rattle.sp_schedule_events.specs.Scenarios.{are_joined, differ}
+use Rattle.sp_schedule_events.specs.Documents.{may_craft, may_publish, published}
+use Rattle.sp_schedule_events.specs.Scenarios.{are_joined, differ, has_documents}
 use Rattle.sp_schedule_events.specs.Table as forms
 use Rattle.sp_schedule_events.specs.Table.{Form, cells}
 use Rattle.sp_schedule_events.specs.declared.scenario.Scenario.{Scenario}
@@ -26,6 +27,8 @@ event_of s forms.Inject x = events.Inject (id x.0) (id x.1.0) x.1.1.0
 event_of s forms.CraftStatus x = events.CraftStatus (id x.0) (id x.1.0) (id x.1.1.0) (id x.1.1.1.0) x.1.1.1.1.0 x.1.1.1.1.1.0
 event_of s forms.Start x = events.Start (id x.0)
 event_of s forms.Stop x = events.Stop (id x.0)
+event_of s forms.Publish x = events.Publish (id x.0) x.1.0
+event_of s forms.CraftDocument x = events.CraftDocument (id x.0) (id x.1.0) x.1.1.0 x.1.1.1.0 x.1.1.1.1.0
 event_of s (forms.Craft object) x = events.Craft (id x.0) (id x.1.0) (id x.1.1.0) (objects.object_of s.format object x.1.1.1)
 
 -- the row of an event
@@ -44,6 +47,8 @@ form_of (events.CraftStatus c v s d base have) = forms.CraftStatus
 form_of (events.Craft c v key object) = forms.Craft (objects.form_of object)
 form_of (events.Start u) = forms.Start
 form_of (events.Stop u) = forms.Stop
+form_of (events.Publish u weights) = forms.Publish
+form_of (events.CraftDocument c v key version weights) = forms.CraftDocument
 
 -- its values in that row
 abbrev pub values_of : (s : Scenario) (e : Event) → Values (cells s (form_of e))
@@ -61,6 +66,8 @@ values_of z (events.CraftStatus c v s d base have) = (c.0, (v.0, (s.0, (d.0, (ba
 values_of z (events.Craft c v key object) = (c.0, (v.0, (key.0, objects.values_of z.format object)))
 values_of z (events.Start u) = (u.0, tt)
 values_of z (events.Stop u) = (u.0, tt)
+values_of z (events.Publish u weights) = (u.0, (weights, tt))
+values_of z (events.CraftDocument c v key version weights) = (c.0, (v.0, (key, (version, (weights, tt)))))
 
 -- the words of an event. They are the same in each scenario of a format
 abbrev pub event_words : Scenario → Event → List Word
@@ -97,3 +104,6 @@ is_joined s es (events.CraftStatus c v a b base have) = are_joined s c.0 v.0 && 
 is_joined s es (events.Craft c v key object) = are_joined s c.0 v.0
 is_joined s es (events.Start u) = true
 is_joined s es (events.Stop u) = true
+is_joined s es (events.Publish u weights) = has_documents s && may_publish s (published es) weights
+is_joined s es (events.CraftDocument c v key version weights) =
+    has_documents s && (are_joined s c.0 v.0 && may_craft s (published es) key version weights)

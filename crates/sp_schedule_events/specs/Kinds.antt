@@ -25,3 +25,9 @@ IsAsked (events.TakePrio d) = Unit {0}
 IsAsked (events.Tick u now) = Unit {0}
 IsAsked (events.Weight u v weight) = Unit {0}
 IsAsked _ = ⊥
+
+-- the administrator's document is handed to a node, or a compromised node sends one
+abbrev pub IsOfDocument : Event → Type 0
+IsOfDocument (events.Publish u weights) = Unit {0}
+IsOfDocument (events.CraftDocument c v key version weights) = Unit {0}
+IsOfDocument _ = ⊥

@@ -15,7 +15,7 @@ abbrev pub is_started : List Event → ℕ → Bool
 is_started es u = fold (started_after u) false es
 
 -- Whether the event may come, by who is started. Without epochs no node starts or stops, and each may act. With them only a node that isn't started
--- starts, and only one that is stops and is asked for something; bytes may come to any node.
+-- starts, and only one that is stops, is asked for something and is handed a document; bytes may come to any node.
 abbrev pub may_act : (epochs : Bool) → List Event → Event → Bool
 may_act epochs es (events.Start u) = epochs && not (is_started es u.0)
 may_act epochs es (events.Stop u) = epochs && is_started es u.0
@@ -24,4 +24,5 @@ may_act epochs es (events.Flip u v number back bit) = true
 may_act epochs es (events.Inject u v bytes) = true
 may_act epochs es (events.Craft c v key object) = true
 may_act epochs es (events.CraftStatus c v s d base have) = true
+may_act epochs es (events.CraftDocument c v key version weights) = true
 may_act epochs es e = not epochs || is_started es (acting e).0

@@ -1,5 +1,5 @@
 -- The first word of each line, and what is read behind it.
-use Rattle.std.specs.Prelude.{List, [], ◌∷◌, find, Option, Result, Ok, Err, codes, if◌then◌else◌}
+use Rattle.std.specs.Prelude.{Bool, List, [], ◌∷◌, find, Option, Result, Ok, Err, codes, if◌then◌else◌}
 use Rattle.sp_base.specs.Refusals.{◌>>=◌}
 use Rattle.sp_text.specs.Spelling.{Word}
 use Rattle.sp_lines.specs.Cells.{number_at, same, tested_at}
@@ -32,12 +32,13 @@ name lines.Inject = codes "inject"
 name lines.Craft = codes "craft"
 name lines.Start = codes "start"
 name lines.Stop = codes "stop"
+name lines.Publish = codes "publish"
 
 -- all lines
 abbrev pub names : List LineName
 names =
     lines.Rel ∷ lines.Prio ∷ lines.Take ∷ lines.TakePrio ∷ lines.Tick ∷ lines.Weight ∷ lines.Poll ∷ lines.Pass ∷ lines.Flip ∷ lines.Inject ∷ lines.Craft
-    ∷ lines.Start ∷ lines.Stop ∷ []
+    ∷ lines.Start ∷ lines.Stop ∷ lines.Publish ∷ []
 
 -- the line with this first word
 abbrev pub line_named : Word → Option LineName
@@ -47,9 +48,9 @@ line_named word = find (λ line. same word (name line)) names
 abbrev pub line_for : Scenario → List Event → Form → List Word → Result Event Fault
 line_for s es form words = if fits (cells s form) words then read_form s es form words else Err faults.Form
 
--- the event of words with the name of a start or a stop: no line of a scenario without epochs
-abbrev pub life_line_for : Scenario → List Event → Form → List Word → Result Event Fault
-life_line_for s es form words = if s.epochs then line_for s es form words else Err faults.Form
+-- the same where not each scenario has the form
+abbrev pub line_where : (has : Bool) → Scenario → List Event → Form → List Word → Result Event Fault
+line_where has s es form words = if has then line_for s es form words else Err faults.Form
 
 -- the event of a crafted object of this form, whose name has these words behind it
 abbrev pub crafted_event : Scenario → Word → Word → Word → ObjectForm → List Word → Result Event Fault

@@ -1,6 +1,7 @@
 -- What a scenario says of nodes and pairs of nodes.
 use Rattle.std.specs.Prelude.{ℕ, ◌==◌, Bool, not}
 use Rattle.std.specs.List.{list_any}
+use Rattle.sp_base.specs.declared.format.TheConstants.{FORMAT_1}
 use Rattle.sp_topology.specs.Neighbours.{joins}
 use Rattle.sp_schedule_events.specs.declared.scenario.Scenario.{Scenario}
 
@@ -18,3 +19,7 @@ are_joined s a b = list_any (joins a b) s.graph.edges
 
 abbrev pub differ : ℕ → ℕ → Bool
 differ a b = not (a == b)
+
+-- the administrator signs documents in format 2 alone
+abbrev pub has_documents : Scenario → Bool
+has_documents s = not (s.format == FORMAT_1)

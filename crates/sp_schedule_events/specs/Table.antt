@@ -7,16 +7,19 @@
 --     tick U NOW                         craft C V status S D BASE HAVE
 --     weight U V W                       craft C V KEY and an object of the crafts' table
 --
---     start U                            stop U
+--     start U                            publish U LIST
+--     stop U                             craft C V KEY document N LIST
 --
--- The key of a crafted object may be that of any node. The last two are lines of a scenario with epochs alone.
-use Rattle.std.specs.Prelude.{List, [], ◌∷◌, ◌++◌, map, codes, if◌then◌else◌}
+-- The key of a crafted object may be that of any node, and the key of a document also 0, the administrator's. LIST has a weight for each edge, 0 for one that
+-- is withdrawn, or is `same` for the last list that was published. Nodes start and stop in a scenario with epochs alone, and documents are of format 2.
+use Rattle.std.specs.Prelude.{◌-◌, ◌^◌, ◌&&◌, Bool, false, List, [], ◌∷◌, ◌++◌, length, map, codes, if◌then◌else◌}
 use Rattle.sp_base.specs.declared.limits.TheConstants.{MAX_PRIORITY, MAX_WEIGHT}
-use Rattle.sp_lines.specs.Cells.{Bytes, Cell, Name, Number, Tested}
+use Rattle.sp_text.specs.Spelling.{Word}
+use Rattle.sp_lines.specs.Cells.{Bytes, Cell, Name, Number, Numbers, Tested, same}
 use Rattle.sp_schedule_crafts.specs.Objects as objects
 use Rattle.sp_schedule_crafts.specs.Objects.{any_number, payload}
 use Rattle.sp_schedule_crafts.specs.declared.form.ObjectForm.{ObjectForm}
-use Rattle.sp_schedule_events.specs.Scenarios.{is_correct}
+use Rattle.sp_schedule_events.specs.Scenarios.{has_documents, is_correct}
 use Rattle.sp_schedule_events.specs.declared.scenario.Scenario.{Scenario}
 
 -- the forms of an event's line
@@ -35,6 +38,8 @@ pub data Form : Type 0 where
   Craft : ObjectForm → Form
   Start : Form
   Stop : Form
+  Publish : Form
+  CraftDocument : Form
 
 -- ---- places
 
@@ -43,6 +48,9 @@ node s = Number 1 s.graph.nodes
 
 abbrev pub correct : Scenario → Cell
 correct s = Tested 1 s.graph.nodes (is_correct s)
+
+abbrev pub weights : Scenario → Cell
+weights s = Numbers (length s.graph.edges) MAX_WEIGHT
 
 -- ---- rows
 
@@ -62,9 +70,33 @@ cells s CraftStatus = Name (codes "craft") ∷ node s ∷ correct s ∷ Name (co
 cells s (Craft object) = Name (codes "craft") ∷ node s ∷ correct s ∷ node s ∷ objects.cells s.format object
 cells s Start = Name (codes "start") ∷ correct s ∷ []
 cells s Stop = Name (codes "stop") ∷ correct s ∷ []
+cells s Publish = Name (codes "publish") ∷ correct s ∷ weights s ∷ []
+cells s CraftDocument =
+    Name (codes "craft") ∷ node s ∷ correct s ∷ Number 0 s.graph.nodes ∷ Name (codes "document") ∷ Number 1 (2 ^ 32 - 1) ∷ weights s ∷ []
 
--- all forms of a scenario; the report stands before the acknowledgement, since a line of both has the word `status` in the place of a key
+-- ---- the forms of a scenario
+
+abbrev pub life_forms : (epochs : Bool) → List Form
+life_forms epochs = if epochs then Start ∷ Stop ∷ [] else []
+
+abbrev pub document_forms : (documents : Bool) → List Form
+document_forms documents = if documents then Publish ∷ CraftDocument ∷ [] else []
+
+-- all but the report
 abbrev pub forms : Scenario → List Form
 forms s =
-    Rel ∷ Prio ∷ Take ∷ TakePrio ∷ Tick ∷ Weight ∷ Poll ∷ Pass ∷ Flip ∷ Inject ∷ CraftStatus
-    ∷ (map Craft objects.forms ++ (if s.epochs then Start ∷ Stop ∷ [] else []))
+    Rel ∷ Prio ∷ Take ∷ TakePrio ∷ Tick ∷ Weight ∷ Poll ∷ Pass ∷ Flip ∷ Inject
+    ∷ (map Craft objects.forms ++ (life_forms s.epochs ++ document_forms (has_documents s)))
+
+-- the word `status` in the place of a key is that of a report, whatever comes after it
+abbrev pub has_status : List Word → Bool
+has_status (c ∷ v ∷ key ∷ words) = same key (codes "status")
+has_status words = false
+
+abbrev pub is_report : List Word → Bool
+is_report (name ∷ words) = same name (codes "craft") && has_status words
+is_report [] = false
+
+-- those that words may have
+abbrev pub forms_for : Scenario → List Word → List Form
+forms_for s words = if is_report words then CraftStatus ∷ [] else forms s

@@ -3,6 +3,7 @@ use Rattle.std.specs.Prelude.{ℕ, List, [], ◌∷◌, ◌++◌, codes}
 use Rattle.std.specs.Fmt.{decimal}
 use Rattle.sp_base.specs.declared.id.NodeId.{NodeId}
 use Rattle.sp_text.specs.Spelling.{Word, hex_word}
+use Rattle.sp_lines.specs.Cells.{numbers_word}
 use Rattle.sp_schedule_crafts.specs.Written.{object_words}
 use Rattle.sp_schedule_events.specs.declared.event.Event.{Event}
 use Rattle.sp_schedule_events.specs.declared.event.Event.TheVariants as events
@@ -27,6 +28,8 @@ event_name (events.CraftStatus c v s d base have) = codes "craft"
 event_name (events.Craft c v key object) = codes "craft"
 event_name (events.Start u) = codes "start"
 event_name (events.Stop u) = codes "stop"
+event_name (events.Publish u weights) = codes "publish"
+event_name (events.CraftDocument c v key version weights) = codes "craft"
 
 -- the node that acts, and the other node or the moment
 abbrev pub front_words : Event → List Word
@@ -44,6 +47,8 @@ front_words (events.CraftStatus c v s d base have) = pair_words c v
 front_words (events.Craft c v key object) = pair_words c v
 front_words (events.Start u) = decimal u.0 ∷ []
 front_words (events.Stop u) = decimal u.0 ∷ []
+front_words (events.Publish u weights) = decimal u.0 ∷ []
+front_words (events.CraftDocument c v key version weights) = pair_words c v
 
 -- what comes after these
 abbrev pub back_words : (format : ℕ) → Event → List Word
@@ -61,6 +66,8 @@ back_words format (events.CraftStatus c v s d base have) = codes "status" ∷ de
 back_words format (events.Craft c v key object) = decimal key.0 ∷ object_words format object
 back_words format (events.Start u) = []
 back_words format (events.Stop u) = []
+back_words format (events.Publish u weights) = numbers_word weights ∷ []
+back_words format (events.CraftDocument c v key version weights) = decimal key ∷ codes "document" ∷ decimal version ∷ numbers_word weights ∷ []
 
 -- all words of an event
 abbrev pub words_of : (format : ℕ) → Event → List Word

@@ -1,11 +1,11 @@
-// The lines of frames that compromised nodes craft: with one object, or with a report and no object.
-ghost use Rattle.std.specs.Prelude.{◌≡◌, ◌∷◌, ◌&&◌, ◌==◌, codes, map};
+// The lines of frames that compromised nodes craft: with one object, with a document, or with a report and no object.
+ghost use Rattle.std.specs.Prelude.{◌∷◌, codes, map};
 ghost use Rattle.sp_lines.specs.Answers.{Reads};
-ghost use Rattle.sp_lines.specs.Cells.{same};
 ghost use Rattle.sp_schedule_events.specs.EventLines.{read_event};
 ghost use Rattle.sp_schedule_events.specs.Names.{crafted_event, line_for};
 ghost use Rattle.sp_schedule_events.specs.Table as forms;
 
+use crate::document_line::document;
 use crate::joined::{are_joined, differ, if_joined};
 use crate::line_of::LineOf;
 use crate::nodes::{correct, node};
@@ -13,7 +13,7 @@ use crate::{Event, Fault, LineRefused};
 use sp_lines::{named, ranged};
 use sp_schedule_crafts::{ObjectForm, object_form, read_object};
 
-/// `craft C V status S D BASE HAVE`, or `craft C V KEY` and an object.
+/// `craft C V status S D BASE HAVE`, or `craft C V KEY` and an object or a document.
 pub fn craft(line: &LineOf<'_>, words: &[&[u8]]) -> Result<Event, LineRefused>
     ensures { Reads result (read_event line.now.scenario.now line.now.before.now (codes "craft" ∷ map (λ w. w.now) words.now)) }
 {
@@ -23,7 +23,7 @@ pub fn craft(line: &LineOf<'_>, words: &[&[u8]]) -> Result<Event, LineRefused>
     }
 }
 
-/// A report, or an object of this name.
+/// A report, or a document or an object of this name.
 fn crafted(
     line: &LineOf<'_>,
     c: &[u8],
@@ -35,20 +35,16 @@ fn crafted(
     ensures { Reads result (read_event line.now.scenario.now line.now.before.now
         (codes "craft" ∷ c.now ∷ v.now ∷ key.now ∷ name.now ∷ map (λ w. w.now) fields.now)) }
 {
-    if is_report(key, fields.len()) {
+    if named(key, b"status") {
         return report(line, c, v, name, fields);
+    }
+    if named(name, b"document") {
+        return document(line, c, v, key, fields);
     }
     let Some(form) = object_form(name, fields.len()) else {
         return Err(LineRefused::Bad(Fault::Form));
     };
     object(line, c, v, key, form, fields)
-}
-
-/// Whether it is a report: this word stands in the place of a key, and so many words behind the first node.
-fn is_report(key: &[u8], count: usize) -> bool
-    ensures { result ≡ (same key.now (codes "status") && (count == 3)) }
-{
-    named(key, b"status") && count == 3
 }
 
 /// A report and no object.

@@ -1,5 +1,5 @@
 // What happens in a run, one event after the other.
-use sp_base::{Bytes, NodeId};
+use sp_base::{Bytes, Listed, NodeId};
 use sp_schedule_crafts::CraftedObject;
 
 /// One event of a schedule: a step of one node.
@@ -88,5 +88,20 @@ pub enum Event {
     /// `u` stops. All that it held is lost, but for the numbers of its key file.
     Stop {
         u: NodeId,
+    },
+    /// The administrator hands `u` a document. With weights, one for each edge and 0 for one that is withdrawn, it is the next version, which is signed now;
+    /// without them it is the last one.
+    Publish {
+        u: NodeId,
+        weights: Option<Listed<u32>>,
+    },
+    /// `c` sends `v` a document of this version, signed by the key of a node, or of the administrator where this is 0. Without weights it has the last that
+    /// were published.
+    CraftDocument {
+        c: NodeId,
+        v: NodeId,
+        key: u8,
+        version: u32,
+        weights: Option<Listed<u32>>,
     },
 }

@@ -16,7 +16,8 @@ impl Event {
             Event::Tick { u, .. } | Event::Weight { u, .. } | Event::Poll { u, .. } => *u,
             Event::Pass { v, .. } | Event::Flip { v, .. } | Event::Inject { v, .. } => *v,
             Event::Craft { v, .. } | Event::CraftStatus { v, .. } => *v,
-            Event::Start { u } | Event::Stop { u } => *u,
+            Event::CraftDocument { v, .. } => *v,
+            Event::Start { u } | Event::Stop { u } | Event::Publish { u, .. } => *u,
         }
     }
 }

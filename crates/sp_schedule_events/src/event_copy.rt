@@ -1,9 +1,9 @@
 // A copy of an event, by the kinds of events.
 ghost use Rattle.std.specs.Prelude.{◌≡◌, IfOk};
-ghost use Rattle.sp_schedule_events.specs.Kinds.{IsAsked, IsCraft, IsOfFrame};
+ghost use Rattle.sp_schedule_events.specs.Kinds.{IsAsked, IsCraft, IsOfDocument, IsOfFrame};
 
 use crate::Event;
-use sp_base::{Bytes, Memory};
+use sp_base::{Bytes, Listed, Memory};
 use sp_schedule_crafts::copy_object;
 use std::alloc::Global;
 
@@ -23,6 +23,7 @@ impl Event {
                 copy_of_frame(alloc, self)
             }
             Event::Craft { .. } | Event::CraftStatus { .. } => copy_craft(alloc, self),
+            Event::Publish { .. } | Event::CraftDocument { .. } => copy_of_document(alloc, self),
             Event::Start { u } => Ok(Event::Start { u: *u }),
             Event::Stop { u } => Ok(Event::Stop { u: *u }),
         }
@@ -130,4 +131,45 @@ fn copy_craft(alloc: Global, event: &Event) -> Result<Event, Memory>
         }),
         _ => unreachable!(),
     }
+}
+
+/// The same of a document that is handed to a node, or that a compromised node sends.
+fn copy_of_document(alloc: Global, event: &Event) -> Result<Event, Memory>
+    requires { IsOfDocument event.now }
+    ensures { IfOk result (λ copied. copied ≡ event.now) }
+{
+    match event {
+        Event::Publish { u, weights } => Ok(Event::Publish {
+            u: *u,
+            weights: copy_weights(alloc, weights)?,
+        }),
+        Event::CraftDocument {
+            c,
+            v,
+            key,
+            version,
+            weights,
+        } => Ok(Event::CraftDocument {
+            c: *c,
+            v: *v,
+            key: *key,
+            version: *version,
+            weights: copy_weights(alloc, weights)?,
+        }),
+        _ => unreachable!(),
+    }
+}
+
+/// The same weights, where there are some.
+pub fn copy_weights(
+    alloc: Global,
+    weights: &Option<Listed<u32>>,
+) -> Result<Option<Listed<u32>>, Memory>
+    ensures { IfOk result (λ copied. copied ≡ weights.now) }
+{
+    let Some(weights) = weights else {
+        return Ok(None);
+    };
+    let copied = Vec::from_slice(alloc, weights.as_slice())?;
+    Ok(Some(Listed::from_vec(copied)))
 }

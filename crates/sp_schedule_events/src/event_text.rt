@@ -3,13 +3,14 @@ ghost use Rattle.std.specs.Prelude.{◌≡◌, ◌++◌, ◌∷◌, [], OnOk, co
 ghost use Rattle.std.specs.Fmt.{decimal};
 ghost use Rattle.std.specs.String.{string_bytes};
 ghost use Rattle.sp_text.specs.Spelling.{hex_word};
+ghost use Rattle.sp_lines.specs.Cells.{numbers_word};
 ghost use Rattle.sp_lines.specs.Rows.{after_spaces, line_text};
 ghost use Rattle.sp_schedule_events.specs.Events.{event_words};
 ghost use Rattle.sp_schedule_events.specs.Written.{back_words, event_name, front_words, pair_words};
 
 use crate::{Event, Scenario};
-use sp_base::{Memory, NodeId};
-use sp_lines::{push_field, push_hex_field, push_name_field};
+use sp_base::{Listed, Memory, NodeId};
+use sp_lines::{push_field, push_hex_field, push_name_field, push_numbers_field};
 use sp_schedule_crafts::push_object;
 
 /// Appends the line of an event of a scenario. After an error the text is unspecified.
@@ -38,9 +39,10 @@ fn event_name(event: &Event) -> &'static str
         Event::Pass { .. } => "pass",
         Event::Flip { .. } => "flip",
         Event::Inject { .. } => "inject",
-        Event::Craft { .. } | Event::CraftStatus { .. } => "craft",
+        Event::Craft { .. } | Event::CraftStatus { .. } | Event::CraftDocument { .. } => "craft",
         Event::Start { .. } => "start",
         Event::Stop { .. } => "stop",
+        Event::Publish { .. } => "publish",
     }
 }
 
@@ -52,14 +54,18 @@ fn push_front(out: &mut String, event: &Event) -> Result<(), Memory>
         Event::Rel { s, d, .. } | Event::Prio { s, d, .. } => push_pair(out, *s, *d),
         Event::Take { d, s } => push_pair(out, *d, *s),
         Event::TakePrio { d } => push_field(out, u64::from(d.0)),
-        Event::Start { u } | Event::Stop { u } => push_field(out, u64::from(u.0)),
+        Event::Start { u } | Event::Stop { u } | Event::Publish { u, .. } => {
+            push_field(out, u64::from(u.0))
+        }
         Event::Tick { u, now } => push_moment(out, *u, *now),
         Event::Weight { u, v, .. }
         | Event::Poll { u, v }
         | Event::Pass { u, v, .. }
         | Event::Flip { u, v, .. }
         | Event::Inject { u, v, .. } => push_pair(out, *u, *v),
-        Event::Craft { c, v, .. } | Event::CraftStatus { c, v, .. } => push_pair(out, *c, *v),
+        Event::Craft { c, v, .. }
+        | Event::CraftStatus { c, v, .. }
+        | Event::CraftDocument { c, v, .. } => push_pair(out, *c, *v),
     }
 }
 
@@ -98,6 +104,13 @@ fn push_back(out: &mut String, format: u8, event: &Event) -> Result<(), Memory>
             have,
             ..
         } => push_status(out, *s, *d, *base, *have),
+        Event::Publish { weights, .. } => push_numbers_field(out, weights),
+        Event::CraftDocument {
+            key,
+            version,
+            weights,
+            ..
+        } => push_document(out, *key, *version, weights),
     }
 }
 
@@ -152,4 +165,20 @@ fn push_status(out: &mut String, s: NodeId, d: NodeId, base: u64, have: u64) -> 
     push_pair(out, s, d)?;
     push_field(out, base)?;
     push_field(out, have)
+}
+
+/// Appends the key, the version and the weights of a crafted document.
+fn push_document(
+    out: &mut String,
+    key: u8,
+    version: u32,
+    weights: &Option<Listed<u32>>,
+) -> Result<(), Memory>
+    ensures { OnOk result (string_bytes out.new ≡ string_bytes out.old
+        ++ after_spaces (decimal key ∷ codes "document" ∷ decimal version ∷ numbers_word weights.now ∷ [])) }
+{
+    push_field(out, u64::from(key))?;
+    push_name_field(out, "document")?;
+    push_field(out, u64::from(version))?;
+    push_numbers_field(out, weights)
 }

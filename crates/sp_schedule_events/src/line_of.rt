@@ -18,6 +18,7 @@ pub enum LineName {
     Craft,
     Start,
     Stop,
+    Publish,
 }
 
 /// What a line is read with: memory, the scenario, and the events before it.

@@ -6,6 +6,7 @@ ghost use Rattle.sp_schedule_events.specs.EventLines.{read_event};
 ghost use Rattle.sp_schedule_events.specs.Names.{line_named};
 
 use crate::craft_line::craft;
+use crate::document_line::publish;
 use crate::event_line::{prio, rel, take, takep, tick, weight};
 use crate::frame_line::{flip, inject, pass, poll};
 use crate::life_line::{start, stop};
@@ -15,7 +16,7 @@ use sp_lines::named;
 use std::alloc::Global;
 
 /// The first word of each line.
-const NAMES: [(&[u8], LineName); 13] = [
+const NAMES: [(&[u8], LineName); 14] = [
     (b"rel", LineName::Rel),
     (b"prio", LineName::Prio),
     (b"take", LineName::Take),
@@ -29,6 +30,7 @@ const NAMES: [(&[u8], LineName); 13] = [
     (b"craft", LineName::Craft),
     (b"start", LineName::Start),
     (b"stop", LineName::Stop),
+    (b"publish", LineName::Publish),
 ];
 
 /// The event of a line that may come after those before it, or why there is none.
@@ -72,6 +74,7 @@ fn event_named(line: &LineOf<'_>, name: &[u8], words: &[&[u8]]) -> Result<Event,
         LineName::Craft => craft(line, words),
         LineName::Start => start(line, words),
         LineName::Stop => stop(line, words),
+        LineName::Publish => publish(line, words),
     }
 }
 

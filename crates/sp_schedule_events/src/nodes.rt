@@ -1,11 +1,11 @@
-// The nodes of a line: any node of the scenario, and a correct one.
+// What a line asks of its scenario: any node of it, a correct one, and whether it has documents.
 ghost use Rattle.std.specs.Prelude.{◌≡◌};
 ghost use Rattle.sp_base.specs.Refusals.{Gives};
 ghost use Rattle.sp_lines.specs.Cells.{number_at, tested_at};
-ghost use Rattle.sp_schedule_events.specs.Scenarios.{is_bad, is_correct};
+ghost use Rattle.sp_schedule_events.specs.Scenarios.{has_documents, is_bad, is_correct};
 
 use crate::Scenario;
-use sp_base::NodeId;
+use sp_base::{FORMAT_1, NodeId};
 use sp_lines::{Fault, ranged};
 
 /// Whether the scenario names the node as compromised.
@@ -33,4 +33,11 @@ pub fn correct(scenario: &Scenario, word: &[u8]) -> Result<NodeId, Fault>
         return Err(Fault::Range);
     }
     Ok(id)
+}
+
+/// Whether the administrator signs documents: in format 2.
+pub fn has_documents(scenario: &Scenario) -> bool
+    ensures { result ≡ has_documents scenario.now }
+{
+    scenario.format != FORMAT_1
 }

@@ -1,11 +1,13 @@
-// The events of a schedule in their order, with the number of polls of each direction, and with which nodes are started.
+// The events of a schedule in their order, with the number of polls of each direction, with which nodes are started, and with what was published.
 ghost use Rattle.std.specs.Prelude.{◌≡◌, ◌<◌, ◌∷◌, ◌++◌, [], length, OnOk, OnErr};
 ghost use Rattle.sp_base.specs.declared.limits.TheConstants.{MAX_EVENTS};
+ghost use Rattle.sp_schedule_events.specs.Documents.{published};
 ghost use Rattle.sp_schedule_events.specs.Events.{polls};
 ghost use Rattle.sp_schedule_events.specs.Lives.{is_started};
 
 use crate::Event;
 use crate::poll_counts::PollCounts;
+use crate::published::{Published, add_list, list_in, none_published};
 use crate::started_nodes::{IDS, note};
 use sp_base::{Memory, NodeId, push_in_room};
 use std::alloc::Global;
@@ -17,6 +19,8 @@ pub struct Timeline {
     events: Vec<Event>,
     counts: PollCounts,
     started: [bool; 256],
+    published: Published,
+    alloc: Global,
 }
 
 impl Model for Timeline {
@@ -28,7 +32,7 @@ impl Model for Timeline {
 
     ghost view = { λ t. t.events.items };
 
-    ghost invariant = { λ t. AreKept t.events.items t.counts t.started };
+    ghost invariant = { λ t. AreKept t.events.items t.counts t.started t.published };
 }
 
 impl Timeline {
@@ -40,6 +44,8 @@ impl Timeline {
             events: Vec::new(alloc),
             counts: PollCounts::new(alloc),
             started: [false; IDS],
+            published: none_published(),
+            alloc,
         }
     }
 
@@ -69,6 +75,13 @@ impl Timeline {
         self.started[u.0 as usize]
     }
 
+    /// What the events publish.
+    pub fn published(&self) -> &Published
+        ensures { result.now ≡ published self.now }
+    {
+        &self.published
+    }
+
     /// One more event at the end. After an error the events are as before.
     pub fn push(&mut self, event: Event) -> Result<(), Memory>
         requires { length self.old < MAX_EVENTS }
@@ -76,7 +89,9 @@ impl Timeline {
         ensures err { OnErr result (self.new ≡ self.old) }
     {
         self.events.reserve(1)?;
+        let list = list_in(self.alloc, &event)?;
         self.counts.count(&event)?;
+        add_list(&mut self.published, list);
         note(&mut self.started, &event);
         push_in_room(&mut self.events, event);
         Ok(())

@@ -50,7 +50,6 @@ fails_not c t size setups.Signature fits signed fails = fails signed
 fails_not c t size setups.Me fits signed fails = let none = fails.1 in let own = fits.own in absurd (cc)
 fails_not c t size setups.Key fits signed fails = fails.2 fits.own
 fails_not c t size setups.Peer fits signed fails = fails.2 fits.peers
-fails_not c t size setups.Withdrawn fits signed fails = let there = fails.3 in let none = fits.standing in absurd (cc)
 fails_not c t size (setups.Document fault) fits signed fails = fails
 fails_not c t size setups.Memory fits signed fails = fails
 
@@ -66,7 +65,6 @@ fits_one c t setups.Signature want fits misfits = judged_not c t misfits.0 misfi
 fits_one c t setups.Me want fits misfits = judged_not c t misfits.0 misfits.1 setups.Me fits misfits.2 misfits.3
 fits_one c t setups.Key want fits misfits = judged_not c t misfits.0 misfits.1 setups.Key fits misfits.2 misfits.3
 fits_one c t setups.Peer want fits misfits = judged_not c t misfits.0 misfits.1 setups.Peer fits misfits.2 misfits.3
-fits_one c t setups.Withdrawn want fits misfits = judged_not c t misfits.0 misfits.1 setups.Withdrawn fits misfits.2 misfits.3
 
 pub not_refused : (text out : List ℕ) (c : Config) (t : Topology) → IsConfigured text c t → IsRefused text out → ⊥
 not_refused text out c t configured (inl bad) = says_one text c bad.refused configured.says bad.says

@@ -2,7 +2,7 @@
 --
 --     refused 0 Toml                    the text is no TOML, or no UTF-8
 --     refused 0 Unknown KEY             also Missing and Range
---     refused 0 Topology KIND           the document's first fault, or Signature, Me, Key, Peer, Withdrawn
+--     refused 0 Topology KIND           the document's first fault, or Signature, Me, Key, Peer
 use Rattle.std.specs.Prelude.{ℕ, ◌≡◌, ◌≢◌, ◌⊎◌, List, [], ◌++◌, Result, Ok, Err, codes}
 use Rattle.std.specs.Str.{IsUtf8}
 use Rattle.sp_config.specs.Readings.{config_of}
@@ -41,7 +41,6 @@ misfit_word setups.Signature = codes "Signature"
 misfit_word setups.Me = codes "Me"
 misfit_word setups.Key = codes "Key"
 misfit_word setups.Peer = codes "Peer"
-misfit_word setups.Withdrawn = codes "Withdrawn"
 misfit_word setups.Memory = []
 
 unfoldable pub misfit_line : SetupRefused → List ℕ

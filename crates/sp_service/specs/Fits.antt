@@ -5,7 +5,6 @@
 --     Me           the node isn't in the document
 --     Key          the node's key in the document isn't that of the seed
 --     Peer         the peers aren't just the neighbours, each once and ascending, or two of them have one port
---     Withdrawn    an edge is withdrawn
 use Rattle.std.specs.Prelude.{ℕ, ◌≡◌, ◌==◌, ◌&&◌, Bool, true, false, not, List, [], ◌∷◌, map, take, drop, Some, None, Ok, Err}
 use Rattle.std.specs.List.{list_any}
 use Rattle.sp_base.specs.declared.id.NodeId.{NodeId}
@@ -17,7 +16,6 @@ use Rattle.sp_sign.specs.Heights.{param_of}
 use Rattle.sp_topology.specs.Documents.{read_of}
 use Rattle.sp_topology.specs.Keys.{key_of}
 use Rattle.sp_topology.specs.Neighbours.{neighbours_from}
-use Rattle.sp_topology.specs.declared.topology.Edge.{Edge}
 use Rattle.sp_topology.specs.declared.topology.Topology.{Topology}
 use Rattle.sp_service.specs.declared.refused.SetupRefused.{SetupRefused}
 use Rattle.sp_service.specs.declared.refused.SetupRefused.TheVariants as refusals
@@ -46,10 +44,6 @@ pub record ArePeers (c : Config) (t : Topology) : Type 0 where
   pub neighbours_are : map (λ p. p.id) c.peers ≡ neighbours c t
   pub apart : have_own_ports c.peers ≡ true
 
--- whether one of these edges is withdrawn
-abbrev pub has_withdrawn : List Edge → Bool
-has_withdrawn edges = list_any (λ e. e.weight == 0) edges
-
 -- ---- together
 
 -- the configuration fits this topology
@@ -59,7 +53,6 @@ pub record Fits (c : Config) (t : Topology) : Type 0 where
   pub signed : IsSigned c size
   pub own : HasOwnKey c t
   pub peers : ArePeers c t
-  pub standing : has_withdrawn t.edges ≡ false
 
 -- the first judgement that a configuration with such a document fails
 abbrev pub Fails : Config → Topology → ℕ → SetupRefused → Type 0
@@ -67,7 +60,6 @@ Fails c t size refusals.Signature = ¬ IsSigned c size
 Fails c t size refusals.Me = IsSigned c size × IsStranger c t
 Fails c t size refusals.Key = IsSigned c size × ¬ IsStranger c t × ¬ HasOwnKey c t
 Fails c t size refusals.Peer = IsSigned c size × HasOwnKey c t × ¬ ArePeers c t
-Fails c t size refusals.Withdrawn = IsSigned c size × HasOwnKey c t × ArePeers c t × (has_withdrawn t.edges ≡ true)
 Fails c t size _ = ⊥
 
 -- why a configuration doesn't fit

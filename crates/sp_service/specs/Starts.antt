@@ -1,12 +1,15 @@
 -- How a daemon's node starts: nothing was sent, heard or kept, no client has a session, and the signer has the indexes that the first line of the
 -- recording says. Under a document of format 2 it has signed its boot with the first of them, and holds it.
-use Rattle.std.specs.Prelude.{ℕ, ◌≡◌, ◌≤◌, ◌<◌, ◌==◌}
+use Rattle.std.specs.Prelude.{ℕ, ◌≡◌, ◌≤◌, ◌<◌, ◌==◌, List, Some}
 use Rattle.sp_base.specs.declared.format.TheConstants.{FORMAT_2}
 use Rattle.sp_client.specs.Tables.{no_sessions}
 use Rattle.sp_config.specs.declared.config.Config.{Config}
 use Rattle.sp_hss.specs.KeyTree.{total}
+use Rattle.sp_hss.specs.Validity.{IsValid}
+use Rattle.sp_node_format.specs.Format.{document_in}
 use Rattle.sp_node_state.specs.Boots.{started_of}
 use Rattle.sp_node_state.specs.declared.boot.NodeConfig.{NodeConfig}
+use Rattle.sp_rules.specs.Arts.{Document}
 use Rattle.sp_recording.specs.declared.line.Opening.{Opening}
 use Rattle.sp_service.specs.NodeParts.{link_keys, node_signer}
 use Rattle.sp_service_station.specs.Stations.{Station, node_of}
@@ -18,10 +21,16 @@ abbrev pub node_config : Config → Topology → NodeConfig
 node_config c t = record {
   me = c.node;
   topology = t;
+  document = c.topology;
   limits = record { buffer = c.buffer; store = c.store };
   keys = link_keys c t;
+  admin = c.admin;
   epochs = t.format == FORMAT_2;
 }
+
+-- the bytes are a document with its signature by this administrator
+abbrev pub IsSignedBy : (admin document : List ℕ) → Type 0
+IsSignedBy admin document = (d : Document) × (document_in document ≡ Some d) × IsValid admin d.message d.signature
 
 -- how many messages the node's key signs
 abbrev pub total_of : Topology → ℕ

@@ -66,7 +66,6 @@ fn misfit_word(refused: SetupRefused) -> &'static str
         SetupRefused::Me => "Me",
         SetupRefused::Key => "Key",
         SetupRefused::Peer => "Peer",
-        SetupRefused::Withdrawn => "Withdrawn",
         SetupRefused::Memory => "",
     }
 }

@@ -1,7 +1,7 @@
 // The judgements on a configuration, in their order.
 ghost use Rattle.std.specs.Prelude.{◌≡◌, ◌≤◌, ◌↔◌, IfErr, IfOk, IsTrue, Ok as Read, drop, length, take};
 ghost use Rattle.sp_hss.specs.Validity.{IsValid};
-ghost use Rattle.sp_service.specs.Fits.{ArePeers, Fits, IsSigned, Misfits, has_withdrawn};
+ghost use Rattle.sp_service.specs.Fits.{ArePeers, Fits, IsSigned, Misfits};
 ghost use Rattle.sp_service.specs.KeyFaults.{IsKeyFault};
 ghost use Rattle.sp_service.specs.NodeParts.{IsKeyOf};
 ghost use Rattle.sp_topology.specs.Documents.{read_of};
@@ -13,7 +13,7 @@ use sp_base::Memory;
 use sp_config::Config;
 use sp_hss::SeedKey;
 use sp_sign::{check_topology, param_of};
-use sp_topology::{Edge, Topology, TopologyRefused};
+use sp_topology::{Topology, TopologyRefused};
 use std::alloc::Global;
 
 /// The topology that a configuration fits, and the key of its seed there, whose upper tree is hashed once.
@@ -40,9 +40,6 @@ pub fn judge(alloc: Global, config: &Config) -> Result<Fitted, SetupRefused>
     }
     if !are_peers(alloc, config, &topology)? {
         return Err(SetupRefused::Peer);
-    }
-    if has_withdrawn(topology.edges.as_slice()) {
-        return Err(SetupRefused::Withdrawn);
     }
     Ok(Fitted { topology, key })
 }
@@ -113,11 +110,4 @@ fn are_peers(alloc: Global, config: &Config, topology: &Topology) -> Result<bool
     };
     let peers = config.peers.as_slice();
     Ok(are_neighbours(peers, &neighbours) && have_own_ports(peers))
-}
-
-/// Whether one of the edges is withdrawn.
-fn has_withdrawn(edges: &[Edge]) -> bool
-    ensures { result ≡ has_withdrawn edges.now }
-{
-    edges.iter().any(|edge| edge.weight == 0)
 }

@@ -17,8 +17,6 @@ pub enum SetupRefused {
     Key,
     #[error("the peers aren't the neighbours, each once and ascending, or two have one port")]
     Peer,
-    #[error("an edge of the document is withdrawn")]
-    Withdrawn,
     #[error("no memory is left")]
     Memory,
 }

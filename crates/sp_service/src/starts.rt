@@ -1,13 +1,14 @@
 // A daemon's node at its start.
-ghost use Rattle.std.specs.Prelude.{◌↔◌, IfOk, IsTrue};
-ghost use Rattle.sp_service.specs.Starts.{CanAnnounce, IsOpening, IsStarted};
+ghost use Rattle.std.specs.Prelude.{◌≡◌, ◌≤◌, ◌↔◌, IfOk, IsTrue, length};
+ghost use Rattle.sp_frame.specs.declared.writing.TheConstants.{MAX_DOCUMENT_BYTES};
+ghost use Rattle.sp_service.specs.Starts.{CanAnnounce, IsOpening, IsSignedBy, IsStarted};
 ghost use Rattle.sp_service.specs.Fits.{Fits};
 ghost use Rattle.sp_service.specs.NodeParts.{IsKeyOf};
 ghost use Rattle.sp_topology.specs.Ranges.{IsTopology};
 
 use crate::fitting::Fitted;
 use crate::node_parts::{link_keys, node_signer};
-use sp_base::{FORMAT_2, Limits, Listed, Memory};
+use sp_base::{Bytes, FORMAT_2, Limits, Listed, Memory};
 use sp_config::Config;
 use sp_node::NodeConfig;
 use sp_recording::Opening;
@@ -24,7 +25,7 @@ pub fn can_announce(topology: &Topology, opening: Opening) -> bool
 
 /// The station of a configuration that fits its topology, at the start that the first line of a recording says. Under a document of format 2 its
 /// node has signed its boot.
-#[tactic(auto, using(crate::proofs::Bootable::bootable))]
+#[tactic(auto, using(crate::proofs::Bootable::bootable, crate::proofs::Bootable::signed_by))]
 pub fn station_at(
     alloc: Global,
     config: &Config,
@@ -40,16 +41,28 @@ pub fn station_at(
     let Fitted { topology, key } = fitted;
     let signer = node_signer(alloc, config.node, key, opening.index, opening.bound)?;
     let keys = link_keys(alloc, config, &topology)?;
+    let document = document_of(alloc, &config.admin, config.topology.as_slice())?;
     let epochs = topology.format == FORMAT_2;
     let node = NodeConfig {
         me: config.node,
         topology,
+        document,
         limits: Limits {
             buffer: config.buffer,
             store: config.store,
         },
         keys: Listed::from_vec(keys),
+        admin: config.admin,
         epochs,
     };
     Station::boot(alloc, node, signer, opening.boot)
+}
+
+/// The signed document of a configuration, as its node gives it to others. A frame has room for it.
+fn document_of(alloc: Global, admin: &[u8; 60], document: &[u8]) -> Result<Bytes, Memory>
+    requires { IsSignedBy admin.now document.now }
+    ensures copied { IfOk result (λ copied. copied ≡ document.now) }
+    ensures short { length document.now ≤ MAX_DOCUMENT_BYTES }
+{
+    Bytes::copy(alloc, document)
 }

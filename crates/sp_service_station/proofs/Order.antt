@@ -13,18 +13,21 @@ use Rattle.sp_msg.specs.declared.body.Ack.{Ack}
 use Rattle.sp_msg.specs.declared.refused.SendRefused.{SendRefused}
 use Rattle.sp_msg.specs.declared.refused.SendRefused.TheVariants as refusals
 use Rattle.sp_node_format.specs.Format.{format_of}
-use Rattle.sp_rules.specs.Arrivals.{after_datagram}
+use Rattle.laws_node.proofs.Adopting.{publishing, reading}
+use Rattle.sp_rules.specs.Arrivals.{after_datagram, before_document, document_at, read_by}
+use Rattle.sp_rules.specs.Documents.{after_publish}
 use Rattle.sp_rules.specs.Link.{Link}
 use Rattle.sp_rules.specs.Masks.{Choice}
 use Rattle.sp_rules.specs.Node.{NodeState, Signer, call_refusal, called, kept_or, signed_once}
 use Rattle.sp_rules.specs.Parts.{Parts, edge_to}
 use Rattle.sp_rules.specs.Polls.{after_poll}
-use Rattle.sp_rules.specs.Prio.{is_node}
+use Rattle.sp_rules.specs.Prio.{is_there}
 use Rattle.sp_rules.specs.Rel.{room}
 use Rattle.sp_rules.specs.Sends.{PrioSend, after_send_prio, after_send_rel, after_set_weight, after_take_prio, after_take_rel, is_unmet, no_life, no_paths, no_room, prio_refusal, rel_refusal, send_prio_refusal, signer_refusal, weight_refusal, weight_refusal_at}
-use Rattle.sp_rules.specs.Steps.{Datagram, Input, NodeStep, Output, Poll, SendPrio, SendRel, SetWeight, TakePrio, TakeRel, Tick}
+use Rattle.sp_rules.specs.Steps.{Datagram, Input, NodeStep, Output, Poll, Publish, SendPrio, SendRel, SetWeight, TakePrio, TakeRel, Tick}
 use Rattle.sp_rules.specs.Ticks.{after_tick, at_time, due_now, settled_by}
-use Rattle.sp_rules.specs.Weights.{minimum}
+use Rattle.sp_rules.specs.Weights.{is_withdrawn, minimum}
+use Rattle.sp_rules.specs.declared.node.NodeRefused.{NodeRefused}
 use Rattle.sp_service_turns.specs.Inputs as inputs
 use Rattle.sp_service_turns.specs.declared.indexes.Indexes.{Indexes}
 use Rattle.sp_service_station.specs.Stations.{StationStep, indexes_in, indexes_of, node_of}
@@ -58,7 +61,7 @@ prio_free : (n : NodeState) (m : PrioSend) (choice : Choice) → send_prio_refus
 prio_free n m choice free =
     let own = first_free (prio_refusal n m) (no_paths choice) free in
     test_free (nat_lt m.expiry n.now) (refusals.Expired n.now) (signer_refusal n.signer)
-    (test_free ((m.dst.0 == n.fixed.me.0) || not (is_node n.parts.prio.nodes m.dst.0) || is_unmet n m.dst) refusals.BadEnd
+    (test_free ((m.dst.0 == n.fixed.me.0) || not (is_there n.parts.prio m.dst.0) || not (is_there n.parts.prio n.fixed.me.0) || is_unmet n m.dst) refusals.BadEnd
     (if nat_lt m.expiry n.now then Some (refusals.Expired n.now) else signer_refusal n.signer) own)
 
 rel_free : (n : NodeState) (dst : NodeId) → rel_refusal n dst ≡ None → signer_refusal n.signer ≡ None
@@ -69,7 +72,9 @@ rel_free n dst free =
 weight_free : (n : NodeState) (edge : Option ℕ) (weight : ℕ) → weight_refusal_at n edge weight ≡ None → signer_refusal n.signer ≡ None
 weight_free n None weight free = absurd (none-some refusals.BadEnd (sym free))
 weight_free n (Some edge) weight free =
-    test_free (nat_lt weight (minimum n.parts.weights edge)) (refusals.Low (minimum n.parts.weights edge)) (signer_refusal n.signer) free
+    let least = minimum n.parts.weights edge in
+    test_free (nat_lt weight least) (refusals.Low least) (signer_refusal n.signer)
+    (test_free (is_withdrawn n.parts.weights edge) refusals.BadEnd (if nat_lt weight least then Some (refusals.Low least) else signer_refusal n.signer) free)
 
 -- ---- the steps of a node
 
@@ -79,6 +84,12 @@ Goes old new = TakesNext (indexes_of old) (indexes_of new)
 goes_called : {X : Type 0} (refusal : Option X) (n : NodeState) (links : List Link) (parts : Parts) → Goes n (kept_or refusal n (called n links parts))
 goes_called None n links parts = inl refl
 goes_called (Some refused) n links parts = inl refl
+
+-- a document leaves the signer
+goes_taken : (refusal : Option NodeRefused) (n left : NodeState) (document : Option (List ℕ)) → Goes n left
+    → Goes n (kept_or refusal n (read_by (format_of n.fixed) left document))
+goes_taken None n left document goes = reading (format_of n.fixed) left document (λ m told. Goes n m) goes (λ bytes d is reads by. goes)
+goes_taken (Some refused) n left document goes = inl refl
 
 goes_signed : (refusal : Option SendRefused) (n : NodeState) (parts : Parts) → (refusal ≡ None → signer_refusal n.signer ≡ None)
     → Goes n (kept_or refusal n (signed_once n parts))
@@ -103,7 +114,11 @@ is_going old new made is goes = subst (Goes old) (sym is) goes
 
 goes : (old : NodeState) (input : Input) (output : Output) (new : NodeState) → NodeStep (format_of old.fixed) old input output new → Goes old new
 goes old (Poll to) output new step = is_going old new (after_poll old to) step.1 (goes_called (call_refusal old to) old _ _)
-goes old (Datagram from bytes) output new step = is_going old new (after_datagram (format_of old.fixed) old from bytes) step.1 (goes_called (call_refusal old from) old _ _)
+goes old (Datagram from bytes) output new step = is_going old new (after_datagram (format_of old.fixed) old from bytes) step.1
+    (goes_taken (call_refusal old from) old (before_document (format_of old.fixed) old from bytes) (document_at (format_of old.fixed) old from bytes) (inl refl))
+goes old (Publish bytes) output new step =
+    is_going old new (after_publish (format_of old.fixed) old bytes) step.1
+    (publishing (format_of old.fixed) old bytes (λ m told. Goes old m) (inl refl) (λ d reads by. inl refl))
 goes old (Tick now) output new step =
     is_going old new (after_tick (format_of old.fixed) old now) step.1 (goes_settled old (at_time old now) (due_now old) (signer_refusal old.signer) refl (λ free. free))
 goes old (SendRel dst payload) output new step =

@@ -12,12 +12,12 @@ use Rattle.sp_outside.specs.Calls.{Came, Got, Lost, Nothing}
 use Rattle.sp_rules.specs.Masks.{Choice, Mask, OnlyPaths}
 use Rattle.sp_rules.specs.Node.{NodeState, Signer, call_refusal, extended}
 use Rattle.sp_rules.specs.Parts.{edge_to}
-use Rattle.sp_rules.specs.Prio.{is_node}
+use Rattle.sp_rules.specs.Prio.{is_there}
 use Rattle.sp_rules.specs.Rel.{room}
 use Rattle.sp_rules.specs.Sends.{PrioSend, is_unmet, no_life, no_paths, no_room, prio_refusal, rel_refusal, send_prio_refusal, signer_refusal, weight_refusal, weight_refusal_at}
 use Rattle.sp_rules.specs.Steps as steps
 use Rattle.sp_rules.specs.Ticks.{due_now, reply_of, tick_reply_of}
-use Rattle.sp_rules.specs.Weights.{minimum}
+use Rattle.sp_rules.specs.Weights.{is_withdrawn, minimum}
 use Rattle.sp_rules.specs.declared.node.NodeRefused.{NodeRefused}
 use Rattle.sp_rules.specs.declared.node.TickReply.TheVariants as ticks
 use Rattle.sp_rules.specs.declared.rel.RelRefused.{RelRefused}
@@ -69,14 +69,16 @@ free_test false refused refusal one other = other
 
 free_prio : (n : NodeState) (m : PrioSend) → IsFree (signer_refusal n.signer) → IsFree (prio_refusal n m)
 free_prio n m free =
-    free_test ((m.dst.0 == n.fixed.me.0) || not (is_node n.parts.prio.nodes m.dst.0) || is_unmet n m.dst) refusals.BadEnd
+    free_test ((m.dst.0 == n.fixed.me.0) || not (is_there n.parts.prio m.dst.0) || not (is_there n.parts.prio n.fixed.me.0) || is_unmet n m.dst) refusals.BadEnd
     (if nat_lt m.expiry n.now then Some (refusals.Expired n.now) else signer_refusal n.signer) (λ b is. absurd (cc))
     (free_test (nat_lt m.expiry n.now) (refusals.Expired n.now) (signer_refusal n.signer) (λ b is. absurd (cc)) free)
 
 free_weight : (n : NodeState) (edge : Option ℕ) (weight : ℕ) → IsFree (signer_refusal n.signer) → IsFree (weight_refusal_at n edge weight)
 free_weight n None weight free = λ b is. absurd (cc)
 free_weight n (Some edge) weight free =
-    free_test (nat_lt weight (minimum n.parts.weights edge)) (refusals.Low (minimum n.parts.weights edge)) (signer_refusal n.signer) (λ b is. absurd (cc)) free
+    let least = minimum n.parts.weights edge in
+    free_test (is_withdrawn n.parts.weights edge) refusals.BadEnd (if nat_lt weight least then Some (refusals.Low least) else signer_refusal n.signer)
+    (λ b is. absurd (cc)) (free_test (nat_lt weight least) (refusals.Low least) (signer_refusal n.signer) (λ b is. absurd (cc)) free)
 
 -- ---- replies
 
@@ -121,6 +123,7 @@ supplied : (n : NodeState) → IsFree (signer_refusal n.signer) → IsSupplied n
 supplied n free (steps.Poll to) output new step = fine_output _ output step.0 (fine_call (call_refusal n to) _ (λ b. ((λ is. absurd (cc)), λ is. absurd (cc))))
 supplied n free (steps.Datagram from bytes) output new step =
     fine_output _ output step.0 (fine_call (call_refusal n from) _ (λ b. ((λ is. absurd (cc)), λ is. absurd (cc))))
+supplied n free (steps.Publish bytes) output new step = fine_output _ output step.0 (λ b. ((λ is. absurd (cc)), λ is. absurd (cc)))
 supplied n free (steps.Tick now) output new step = fine_output _ output step.0 (fine_tick (due_now n) (signer_refusal n.signer) free)
 supplied n free (steps.SendRel dst payload) output new step =
     fine_output _ output step.0

@@ -2,18 +2,21 @@
 use Rattle.std.proofs.Common.{◌≡◌, ◌≤◌, ◌+◌, ℕ, Bool, true, false, List, Option, None, Some, refl, sym, subst, ap, arith}
 use Rattle.std.specs.Prelude.{◌&&◌, if◌then◌else◌, nat_le}
 use Rattle.std.proofs.lemmas.Bool.Decides.{nat_tests}
+use Rattle.laws_node.proofs.Adopting.{publishing, reading}
 use Rattle.laws_node.proofs.Shapes.{shapes_stay}
 use Rattle.laws_node.specs.Shapes.{Shape}
 use Rattle.sp_msg.specs.declared.body.Ack.{Ack}
 use Rattle.sp_msg.specs.declared.refused.SendRefused.{SendRefused}
 use Rattle.sp_node_format.specs.Format.{format_of}
 use Rattle.sp_rules.specs.Link.{Link}
-use Rattle.sp_rules.specs.Node.{NodeState, called, extended, kept_or, signed_once}
+use Rattle.sp_rules.specs.Node.{NodeState, call_refusal, called, extended, kept_or, signed_once}
+use Rattle.sp_rules.specs.declared.node.NodeRefused.{NodeRefused}
 use Rattle.sp_rules.specs.Parts.{Parts}
-use Rattle.sp_rules.specs.Arrivals.{after_datagram}
+use Rattle.sp_rules.specs.Arrivals.{after_datagram, before_document, document_at, read_by}
+use Rattle.sp_rules.specs.Documents.{after_publish}
 use Rattle.sp_rules.specs.Polls.{after_poll}
 use Rattle.sp_rules.specs.Sends.{after_send_prio, after_send_rel, after_set_weight, after_take_prio, after_take_rel, signer_refusal}
-use Rattle.sp_rules.specs.Steps.{Datagram, Input, NodeStep, Output, Poll, SendPrio, SendRel, SetWeight, TakePrio, TakeRel, Tick}
+use Rattle.sp_rules.specs.Steps.{Datagram, Input, NodeStep, Output, Poll, Publish, SendPrio, SendRel, SetWeight, TakePrio, TakeRel, Tick}
 use Rattle.sp_rules.specs.Ticks.{after_tick, at_time, due_now, settled_by}
 use Rattle.sp_service_turns.specs.Indexes.{AreReserved, UsesOne}
 use Rattle.sp_service_station.specs.Stations.{indexes_of, reserved}
@@ -35,12 +38,25 @@ near_settled n None refusal = omega arith
 near_settled n (Some ack) (Some refused) = omega arith
 near_settled n (Some ack) None = omega arith
 
+-- a document leaves the signer
+near_read : (n left : NodeState) (document : Option (List ℕ)) → IsNear n left → IsNear n (read_by (format_of n.fixed) left document)
+near_read n left document near = reading (format_of n.fixed) left document (λ m told. IsNear n m) near (λ bytes d is reads by. near)
+
+near_taken : (refusal : Option NodeRefused) (n left : NodeState) (document : Option (List ℕ)) → IsNear n left
+    → IsNear n (kept_or refusal n (read_by (format_of n.fixed) left document))
+near_taken None n left document near = near_read n left document near
+near_taken (Some refused) n left document near = omega arith
+
 is_near : (old new made : NodeState) → new ≡ made → IsNear old made → IsNear old new
 is_near old new made is near = subst (IsNear old) (sym is) near
 
 rises : (old : NodeState) (input : Input) (output : Output) (new : NodeState) → NodeStep (format_of old.fixed) old input output new → IsNear old new
 rises old (Poll to) output new step = is_near old new (after_poll old to) step.1 (near_called _ old _ _)
-rises old (Datagram from bytes) output new step = is_near old new (after_datagram (format_of old.fixed) old from bytes) step.1 (near_called _ old _ _)
+rises old (Datagram from bytes) output new step = is_near old new (after_datagram (format_of old.fixed) old from bytes) step.1
+    (near_taken (call_refusal old from) old (before_document (format_of old.fixed) old from bytes) (document_at (format_of old.fixed) old from bytes) (omega arith))
+rises old (Publish bytes) output new step =
+    is_near old new (after_publish (format_of old.fixed) old bytes) step.1
+    (publishing (format_of old.fixed) old bytes (λ m told. IsNear old m) (omega arith) (λ d reads by. omega arith))
 rises old (Tick now) output new step = is_near old new (after_tick (format_of old.fixed) old now) step.1 (near_settled (at_time old now) (due_now old) (signer_refusal old.signer))
 rises old (SendRel dst payload) output new step = is_near old new (after_send_rel (format_of old.fixed) old dst payload) step.1 (near_signed _ old _)
 rises old (SendPrio message) output new step = is_near old new (after_send_prio (format_of old.fixed) old message step.choice) step.new_is (near_signed _ old _)

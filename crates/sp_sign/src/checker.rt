@@ -1,11 +1,13 @@
 // Checking the signatures of all nodes of a topology: of each node, the half that its signatures share is checked once.
 ghost use Rattle.std.specs.Prelude.{◌≡◌, ◌≢◌, ◌<◌, ◌≤◌, ◌+◌, ◌-◌, ◌^◌, ◌↔◌, min, Some, None, Ok, Err, IfOk, IfSome, IsNone, IsOk, IsTrue, map};
+ghost use Rattle.sp_hss.specs.Validity.{IsValid};
 ghost use Rattle.sp_msg.specs.Views.{as_body, signer_of};
 ghost use Rattle.sp_topology.specs.Keys.{key_of};
 ghost use Rattle.sp_sign.specs.Checker.{IsKeyAt, as_key};
 ghost use Rattle.sp_sign.specs.Checks.{IsForged, IsReadOf, IsSigned};
 
 use crate::SignRefused;
+use crate::checking::check_topology;
 use sp_base::{Memory, NodeId};
 use sp_hss::Verifier;
 use sp_msg::{BodyRef, signer};
@@ -82,6 +84,17 @@ impl Checker {
             return Err(SignRefused::BadSignature);
         }
         Ok(())
+    }
+
+    /// Whether a document bears the administrator's signature: the answer of the function of the same name. Each call counts as one check.
+    pub fn check_topology(&mut self, admin: &[u8; 60], document: &[u8], signature: &[u8]) -> bool
+        ensures valid { IsTrue result ↔ IsValid admin.now document.now signature.now }
+        ensures nodes { self.new.nodes ≡ self.old.nodes }
+        ensures counted { self.new.checks ≡ min (self.old.checks + 1) (2 ^ 64 - 1) }
+        ensures at_most_one { self.new.checks ≤ self.old.checks + 1 }
+    {
+        self.checks = self.checks.saturating_add(1);
+        check_topology(admin, document, signature)
     }
 }
 

@@ -3,9 +3,11 @@
 
 mod choice;
 mod counted;
+mod leaving;
 mod places;
 mod said;
 mod store;
 
+pub use leaving::Leaving;
 pub use sp_rules::{Entry, Put};
 pub use store::Store;

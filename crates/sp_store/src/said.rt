@@ -1,6 +1,6 @@
 // What the message of an entry says. Stores hold priority messages; any other says 0.
 ghost use Rattle.std.specs.Prelude.{◌≡◌};
-ghost use Rattle.sp_rules.specs.Store.{expiry, priority, said, source};
+ghost use Rattle.sp_rules.specs.Store.{expiry, priority, said, source, target};
 
 use sp_msg::{Body, Kept};
 use sp_rules::Entry;
@@ -18,6 +18,16 @@ pub fn source_of(kept: &Kept) -> u8
 {
     match &kept.body {
         Body::Prio(prio) => prio.src.0,
+        _ => 0,
+    }
+}
+
+/// The id of the destination.
+pub fn target(entry: &Entry) -> u8
+    ensures { result ≡ target entry.now }
+{
+    match &entry.kept.body {
+        Body::Prio(prio) => prio.dst.0,
         _ => 0,
     }
 }

@@ -1,14 +1,14 @@
 // A store: its entries in order of arrival, and how many each source has. All memory is taken at the start.
 ghost use Rattle.std.specs.Prelude.{◌≡◌, ◌+◌, ◌<◌, ◌≤◌, ◌^◌, IfOk, filter, find, length, slice_get};
 ghost use Rattle.std.specs.Option.{option_copied};
-ghost use Rattle.sp_rules.specs.Store.{empty_store, entry_in, expired_entries, expired_entry, is_expired, less_expired_entry};
-ghost use Rattle.sp_rules.specs.Store.{less_oldest, next_besides, oldest, put, put_answer, removed, victim, without};
+ghost use Rattle.sp_rules.specs.Store.{empty_store, entry_in, leaver, leavers, less_leaver, less_oldest, next_besides, oldest, put, put_answer, removed};
+ghost use Rattle.sp_rules.specs.Store.{victim, without};
+ghost use Rattle.sp_store.specs.Leaving.{leaves};
 ghost use Rattle.sp_store.specs.Places.{live};
 ghost use Rattle.sp_store.specs.Sound.{IsCounted};
 
 use crate::places::Places;
-use crate::said::expiry;
-use crate::{choice, counted};
+use crate::{Leaving, choice, counted};
 use sp_base::{Cursor, Four, Memory};
 use sp_msg::Kept;
 use sp_rules::{Entry, IDS, Put};
@@ -93,22 +93,22 @@ impl Store {
         self.remove(first)
     }
 
-    /// Takes out the oldest entry whose expiry is before this time. None exactly where there is none.
-    pub fn expire(&mut self, now: u64) -> Option<Entry>
-        ensures entry { result ≡ expired_entry self.old now }
-        ensures store { self.new ≡ less_expired_entry self.old now }
+    /// Takes out the oldest entry that leaves. None exactly where none does.
+    pub fn leave(&mut self, leaving: &Leaving<'_>) -> Option<Entry>
+        ensures entry { result ≡ leaver (leaves leaving.now) self.old }
+        ensures store { self.new ≡ less_leaver (leaves leaving.now) self.old }
     {
-        let gone = expired(self.places.slots(), now)?.id;
+        let gone = first_of(self.places.slots(), leaving)?.id;
         self.remove(gone)
     }
 
-    /// How many entries have an expiry before this time.
-    pub fn expiring(&self, now: u64) -> usize
-        ensures count { result ≡ length (expired_entries self.now now) }
+    /// How many entries leave.
+    pub fn leaving(&self, leaving: &Leaving<'_>) -> usize
+        ensures count { result ≡ length (leavers (leaves leaving.now) self.now) }
         ensures few { result < 2 ^ 16 }
     {
         let _capacity = self.places.capacity();
-        expired_count(self.places.slots(), now)
+        count_of(self.places.slots(), leaving)
     }
 
     /// How many entries there are.
@@ -164,13 +164,13 @@ fn nth(slots: &[Option<Entry>], place: usize) -> Option<&Entry>
     None
 }
 
-/// The oldest entry whose expiry is before this time.
-fn expired(slots: &[Option<Entry>], now: u64) -> Option<&Entry>
-    ensures { option_copied result ≡ find (is_expired now) (live slots.now) }
+/// The oldest entry that leaves.
+fn first_of<'a>(slots: &'a [Option<Entry>], leaving: &Leaving<'_>) -> Option<&'a Entry>
+    ensures { option_copied result ≡ find (leaves leaving.now) (live slots.now) }
 {
     'slots: for slot in slots {
         if let Some(entry) = slot {
-            if expiry(entry) < now {
+            if leaving.has(entry) {
                 return Some(entry);
             }
         }
@@ -178,15 +178,15 @@ fn expired(slots: &[Option<Entry>], now: u64) -> Option<&Entry>
     None
 }
 
-/// How many of these entries have an expiry before this time.
-fn expired_count(slots: &[Option<Entry>], now: u64) -> usize
-    ensures count { result ≡ length (filter (is_expired now) (live slots.now)) }
+/// How many of these entries leave.
+fn count_of(slots: &[Option<Entry>], leaving: &Leaving<'_>) -> usize
+    ensures count { result ≡ length (filter (leaves leaving.now) (live slots.now)) }
     ensures within { result ≤ length (live slots.now) }
 {
     let mut count = 0usize;
     'slots: for slot in slots {
         if let Some(entry) = slot {
-            if expiry(entry) < now {
+            if leaving.has(entry) {
                 count += 1;
             }
         }

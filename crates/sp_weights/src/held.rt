@@ -66,13 +66,13 @@ pub fn weight_in(rows: &[Option<Kept>], row: usize) -> u32
     }
 }
 
-/// The weight of an edge by what the rows hold: the greatest of the administrator's minimum and the last update of each end.
-pub fn effective_by(edges: &[Edge], rows: &[Option<Kept>], edge: EdgeId) -> u32
-    requires { edge.0 < length edges.now }
-    ensures { result ≡ effective_by edges.now rows.now edge.0 }
+/// The weight of an edge by these minima and by what the rows hold: the greatest of the administrator's minimum and the last update of each end.
+pub fn effective_by(least: &[u32], rows: &[Option<Kept>], edge: EdgeId) -> u32
+    requires { edge.0 < length least.now }
+    ensures { result ≡ effective_by least.now rows.now edge.0 }
 {
     let row = 2 * edge.0 as usize;
     let low = weight_in(rows, row);
     let high = weight_in(rows, row + 1);
-    edges[edge.0 as usize].weight.max(low.max(high))
+    least[edge.0 as usize].max(low.max(high))
 }

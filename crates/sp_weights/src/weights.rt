@@ -1,9 +1,12 @@
 // The updates of weights that a node holds. All memory is taken at the start.
-ghost use Rattle.std.specs.Prelude.{◌≡◌, ◌+◌, ◌*◌, ◌<◌, ◌≤◌, IfOk, length, map, option_copied, replicate, None as Nothing, false};
+ghost use Rattle.std.specs.Prelude.{◌≡◌, ◌+◌, ◌*◌, ◌<◌, ◌≤◌, IfOk, length, map, option_copied, replicate, slice_index_or, None as Nothing, false, ℕ};
+ghost use Rattle.sp_base.specs.declared.limits.TheConstants.{MAX_EDGES_2};
 ghost use Rattle.sp_rules.specs.Changes.{FitsAFormat};
 ghost use Rattle.sp_rules.specs.Handle.{offer_of};
-ghost use Rattle.sp_rules.specs.Weights.{cycle_at, effective, held, moved, next, next_row, next_seq, offer, start};
+ghost use Rattle.sp_rules.specs.Topologies.{weights_in};
+ghost use Rattle.sp_rules.specs.Weights.{cycle_at, effective, held, is_withdrawn, minimum, moved, next, next_row, next_seq, offer, replaced, start};
 ghost use Rattle.sp_topology.specs.Ranges.{IsTopology};
+ghost use Rattle.sp_weights.specs.Sound.{effective_by};
 
 use crate::held::{effective_by, held_in, row_in, row_of, seq_in};
 use sp_base::{Cursor, EdgeId, Memory, NodeId};
@@ -17,6 +20,8 @@ use std::marker::Model;
 #[derive(Debug, Drop)]
 pub struct Weights {
     edges: Vec<Edge>,
+    /// The administrator's minimum of each edge, 0 where it is withdrawn.
+    least: Vec<u32>,
     /// A row for each end of each edge, the lower end first.
     rows: Vec<Option<Kept>>,
     /// Which rows hold an update.
@@ -28,14 +33,15 @@ pub struct Weights {
 }
 
 impl Model for Weights {
+    ghost use Rattle.std.specs.Prelude.{length};
     ghost use Rattle.sp_rules.specs.Weights.{WeightState};
     ghost use Rattle.sp_weights.specs.Sound.{IsSound};
 
     ghost Value = { WeightState };
 
-    ghost view = { λ w. record { edges = w.edges.items; rows = w.rows.items; cycles = w.cycles.items } };
+    ghost view = { λ w. record { edges = w.edges.items; least = w.least.items; rows = w.rows.items; cycles = w.cycles.items } };
 
-    ghost invariant = { λ w. IsSound w.edges.items w.rows.items w.active.items w.in_effect.items };
+    ghost invariant = { λ w. IsSound (length w.edges.items) w.least.items w.rows.items w.active.items w.in_effect.items };
 }
 
 impl Weights {
@@ -49,9 +55,11 @@ impl Weights {
         let rows = empty_rows(alloc, count)?;
         let active = idle_rows(alloc, count)?;
         let cycles = starts(alloc, topology.nodes.as_slice().len())?;
+        let least = minima(alloc, edges.as_slice())?;
         let in_effect = minima(alloc, edges.as_slice())?;
         Ok(Weights {
             edges,
+            least,
             rows,
             active,
             cycles,
@@ -69,8 +77,12 @@ impl Weights {
         let Some(row) = row_of(update.edge, edge, update.origin) else {
             return Offer::Foreign;
         };
-        if update.weight < edge.weight {
-            return Offer::Low { min: edge.weight };
+        if self.is_withdrawn(update.edge) {
+            return Offer::Foreign;
+        }
+        let min = self.minimum(update.edge);
+        if update.weight < min {
+            return Offer::Low { min };
         }
         let held = seq_in(self.rows.as_slice(), row);
         if update.seq <= held {
@@ -93,11 +105,49 @@ impl Weights {
             self.rows[row] = Some(kept);
             self.active[row] = true;
             self.in_effect[edge.0 as usize] = effective_by(
-                self.edges.as_slice(),
+                self.least.as_slice(),
                 self.rows.as_slice(),
                 edge,
             );
         }
+    }
+
+    /// From now on the minima are those of another version of the topology, with the same edges. What is held stays. It takes no memory.
+    pub fn replace(&mut self, topology: &Topology)
+        requires { length topology.now.edges ≡ length self.old.edges }
+        ensures { self.new ≡ replaced self.old (weights_in topology.now.edges) }
+    {
+        replace_minima(&mut self.least, topology.edges.as_slice());
+        weigh_anew(
+            &mut self.in_effect,
+            self.least.as_slice(),
+            self.rows.as_slice(),
+        );
+    }
+
+    /// How many edges there are. Each has a minimum.
+    pub fn edges(&self) -> usize
+        ensures edges { result ≡ length self.now.edges }
+        ensures minima { result ≡ length self.now.least }
+        ensures few { result ≤ MAX_EDGES_2 }
+    {
+        self.least.len()
+    }
+
+    /// The administrator's minimum of an edge, 0 where it is withdrawn.
+    pub fn minimum(&self, edge: EdgeId) -> u32
+        requires { edge.0 < length self.now.edges }
+        ensures { result ≡ minimum self.now edge.0 }
+    {
+        self.least[edge.0 as usize]
+    }
+
+    /// Whether an edge is withdrawn.
+    pub fn is_withdrawn(&self, edge: EdgeId) -> bool
+        requires { edge.0 < length self.now.edges }
+        ensures { result ≡ is_withdrawn self.now edge.0 }
+    {
+        self.least[edge.0 as usize] == 0
     }
 
     /// The weight of an edge: the greatest of the administrator's minimum and the last update of each end.
@@ -186,4 +236,26 @@ fn minima(alloc: Global, edges: &[Edge]) -> Result<Vec<u32>, Memory>
     ensures { IfOk result (λ weights. weights.items ≡ map (λ e. e.weight) edges.now) }
 {
     Ok(edges.iter().map(|edge| edge.weight).collect(alloc)?)
+}
+
+/// The minima become those of these edges.
+fn replace_minima(least: &mut Vec<u32>, edges: &[Edge])
+    requires { length edges.now ≡ length least.old.items }
+    ensures { least.new.items ≡ weights_in edges.now }
+{
+    'edges: for place in 0..edges.len() {
+        least[place] = edges[place].weight;
+    }
+}
+
+/// The weight of each edge that is in effect under these minima.
+fn weigh_anew(in_effect: &mut Vec<u32>, least: &[u32], rows: &[Option<Kept>])
+    requires few { length least.now ≤ MAX_EDGES_2 }
+    requires enough { length in_effect.old.items ≡ length least.now }
+    ensures enough { length in_effect.new.items ≡ length least.now }
+    ensures each { (edge : ℕ) → edge < length least.now → slice_index_or in_effect.new.items edge 0 ≡ effective_by least.now rows.now edge }
+{
+    'edges: for place in 0..least.len() {
+        in_effect[place] = effective_by(least, rows, EdgeId(place as u16));
+    }
 }

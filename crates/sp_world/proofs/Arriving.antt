@@ -17,6 +17,7 @@ use Rattle.sp_runs.specs.Scenarios.{setting_of}
 use Rattle.sp_runs.specs.Worlds.{Crafted, Direction, World, is_me, without_node}
 use Rattle.sp_runs.specs.declared.what.What.{What}
 use Rattle.sp_schedule_events.specs.declared.event.Event.{Event}
+use Rattle.sp_schedule_events.specs.declared.published.Published.{Published}
 use Rattle.sp_schedule_events.specs.declared.scenario.Scenario.{Scenario}
 use Rattle.sp_keystate.specs.declared.numbers.Numbers.{Numbers}
 use Rattle.sp_world.specs.Arrivals.{CanHear, IsFound, IsHeard}
@@ -53,11 +54,11 @@ module _ (s : Scenario) (es : List Event) (js : List Entry) (nodes after : List 
       (subst (λ (n : NodeState). n.fixed.epochs ≡ s.epochs) same can.epochs)
       (subst (λ (n : NodeState). call_refusal n u ≡ None) same can.call.answers) (took can h)
 
-  judged_is : (keys : List Numbers) (crafted : List Crafted) (what : Option What) → (can : CanHear s len nodes v u) → (h : HeardAmong nodes u v bytes step after) → IsJudged what
-      → what ≡ forged (arts_of (setting_of s)) (setting_of s) es js (world_of keys nodes ds crafted) h.old (Datagram u bytes) (answered s.format h.old u bytes step)
-  judged_is keys crafted what can h judged =
+  judged_is : (keys : List Numbers) (crafted : List Crafted) (last : Published) (what : Option What) → (can : CanHear s len nodes v u) → (h : HeardAmong nodes u v bytes step after) → IsJudged what
+      → what ≡ forged (arts_of (setting_of s)) (setting_of s) es js (world_of keys nodes ds crafted last) h.old (Datagram u bytes) (answered s.format h.old u bytes step)
+  judged_is keys crafted last what can h judged =
       let same = same_old can h in
-      judged h.old h.new (world_of keys nodes ds crafted)
+      judged h.old h.new (world_of keys nodes ds crafted last)
       (subst (λ (n : NodeState). n.fixed.me ≡ v) same can.me)
       (subst (λ (n : NodeState). n.fixed.signature_len ≡ len) same can.long)
       (subst (λ (n : NodeState). n.fixed.epochs ≡ s.epochs) same can.epochs)
@@ -74,7 +75,7 @@ module _ (s : Scenario) (es : List Event) (js : List Entry) (nodes after : List 
     is_there = h.is_there;
     step = took can h;
     says = record { reply = (tells h.old u bytes s).reply; effects = (tells h.old u bytes s).effects };
-    unforged = λ keys crafted. sym (judged_is keys crafted None can h judged);
+    unforged = λ keys crafted last. sym (judged_is keys crafted last None can h judged);
     nodes_are = h.nodes_are;
   }
 
@@ -92,6 +93,6 @@ module _ (s : Scenario) (es : List Event) (js : List Entry) (nodes after : List 
         is_there = h.is_there;
         step = took can h;
         says = record { reply = refl; effects = refl };
-        found = λ keys crafted. sym (judged_is keys crafted (Some what) can h judged);
+        found = λ keys crafted last. sym (judged_is keys crafted last (Some what) can h judged);
         nodes_are = ap (λ (ns : List NodeState). without_node ns v) h.nodes_are ∙ without_is_same nodes v h.new is;
       }

@@ -1,5 +1,5 @@
 -- A node of a scenario may start, and is then as the rules of runs say.
-use Rattle.std.proofs.Common.{◌≡◌, ℕ, ◌+◌, ◌-◌, ◌<◌, ◌≤◌, ◌&&◌, Bool, true, false, cond, List, [], ◌∷◌, map, filter, Some, refl, sym, ap, ap₂, ◌∙◌}
+use Rattle.std.proofs.Common.{◌≡◌, ℕ, ◌+◌, ◌-◌, ◌<◌, ◌≤◌, ◌&&◌, ◌==◌, Bool, true, false, cond, List, [], ◌∷◌, map, filter, option_map, Some, Ok, Result, refl, sym, ap, ap₂, ◌∙◌}
 use Rattle.std.proofs.Common.{subst, arith, eqb, eqb-true, get_or, inl, inr, not, zero, suc, ◌++◌, length}
 use Rattle.std.specs.Prelude.{IsTrue}
 use Rattle.std.proofs.lemmas.Bool.{cases_Bool}
@@ -7,31 +7,47 @@ use Rattle.std.specs.List.{range_with_len}
 use Rattle.std.proofs.lemmas.List.{append-nil, map-append}
 use Rattle.std.proofs.lemmas.List.Elements.{filter-append}
 use Rattle.std.proofs.lemmas.List.FromFn.{get_or-map-range_with_len, length-map-range_with_len, map-range_with_len_more}
+use Rattle.laws_node.proofs.Withdrawing.{under_own}
+use Rattle.sp_adversary.specs.Administrators.{Administrator}
+use Rattle.sp_adversary.specs.Documents.{administrator_of, document_by, unsigned_by, version_by}
 use Rattle.sp_base.proofs.FormatLemmas as formats
+use Rattle.sp_base.specs.Refusals.{◌>>=◌}
+use Rattle.sp_base.specs.declared.format.TheConstants.{FORMAT_1}
 use Rattle.sp_base.specs.declared.limits.TheConstants.{MAX_EDGES_2}
 use Rattle.sp_base.specs.declared.id.NodeId.{NodeId}
 use Rattle.sp_epoch.specs.declared.started.Started.{Started}
-use Rattle.sp_hss.specs.KeyTree.{public_key, total}
+use Rattle.sp_hss.specs.KeyTree.{public_key, signature, total}
 use Rattle.sp_hss.specs.SeedKey.{SeedKey}
 use Rattle.sp_lms.specs.declared.param.LmsParam.{LmsParam}
 use Rattle.sp_msg.specs.declared.effect.Effect.{Effect}
-use Rattle.sp_node_state.specs.Boots.{IsBootable, started_of, told_at_start}
+use Rattle.sp_node_format.specs.Format.{document_of as as_document}
+use Rattle.sp_node_state.specs.Boots.{IsBootable, Says, started_of, told_at_start}
 use Rattle.sp_node_state.specs.declared.boot.NodeConfig.{NodeConfig}
 use Rattle.sp_rules.specs.Node.{NodeState, start_effects, started}
+use Rattle.sp_rules.specs.Arts.{Document}
 use Rattle.sp_rules.specs.Parts.{nodes_of}
+use Rattle.sp_rules.specs.Topologies.{weights_in}
 use Rattle.laws_runs_format.specs.Arts.{arts_of}
-use Rattle.sp_runs.specs.Scenarios.{IsHeader, edge_key, node_key, node_seed, numbered, setting_of, topology_of}
+use Rattle.sp_runs.specs.Scenarios.{IsHeader, admin_seed, document_of, edge_key, node_key, node_seed, numbered, setting_of, topology_of, unsigned_of}
 use Rattle.sp_runs.specs.Settings.{fixed_at, is_correct, is_one_of, node_at_boot, node_at_start, signer_from}
 use Rattle.sp_runs.specs.Worlds as worlds
 use Rattle.sp_schedule_events.specs.declared.scenario.Scenario.{Scenario}
 use Rattle.sp_sign.specs.Heights.{param_of}
 use Rattle.sp_sign.specs.NodeSigner.{NodeSigner}
+use Rattle.sp_topology.proofs.Spelled.{spelled_is_read}
+use Rattle.sp_topology.specs.Documents.{document}
 use Rattle.sp_topology.specs.Keys.{key_of}
 use Rattle.sp_topology.specs.Neighbours.{neighbours_from}
+use Rattle.sp_topology.specs.Ranges.{IsTopology}
+use Rattle.sp_topology.specs.declared.refused.TopologyRefused.{TopologyRefused}
+use Rattle.sp_topology.specs.declared.topology.Edge.{Edge}
 use Rattle.sp_topology.specs.declared.topology.LmsHeight.{LmsHeight}
 use Rattle.sp_topology.specs.declared.topology.NodeKey.{NodeKey}
+use Rattle.sp_topology.specs.declared.topology.Topology.{Topology}
+use Rattle.laws_runs_format.proofs.Documents.{rooms, totals}
 use Rattle.laws_runs_format.proofs.Topologies.{topologies_fit}
-use Rattle.sp_world.specs.Boots.{CanStart, Home, IsHome, config_of, first_of, own_signer, seed_key}
+use Rattle.sp_world.specs.Boots.{CanStart, Home, IsHome, config_of, first_document, first_of, own_signer, seed_key}
+use Rattle.sp_world.specs.Documents.{CanSign}
 
 map_of_map : {A B C : Type 0} (f : B → C) (g : A → B) (xs : List A) → map f (map g xs) ≡ map (λ x. f (g x)) xs
 map_of_map f g [] = refl
@@ -126,10 +142,71 @@ pub signer_is : (s : Scenario) (u : NodeId) (start : Started) (key : SeedKey) (o
 signer_is s u start key own is made =
     made ∙ ap (λ (k : SeedKey). record { node = u; signer = record { height = k.height; seed = k.seed; index = start.index; bound = start.bound } }) is
 
+-- ---- the document of the first version
+
+-- its topology is that of the scenario
+first_topology : (s : Scenario) → version_by (administrator_of s) 1 (weights_in s.graph.edges) ≡ topology_of s
+first_topology s = ap (λ (edges : List Edge). record (topology_of s) { edges = edges }) (under_own s.graph.edges)
+
+pub first_can : (s : Scenario) (a : Administrator) (weights : List ℕ) → IsHeader s → a ≡ administrator_of s → weights ≡ weights_in s.graph.edges
+    → IsTopology (version_by a 1 weights)
+first_can s a weights header is are = rw (is, are) (subst IsTopology (sym (first_topology s)) (topologies_fit s header).ranges)
+
+pub first_most : (s : Scenario) (a : Administrator) → a ≡ administrator_of s → 1 ≤ total a.key.height
+first_most s a is = rw is (totals s.height).0
+
+pub first_is_signed : (s : Scenario) (a : Administrator) (weights document : List ℕ) → a ≡ administrator_of s → weights ≡ weights_in s.graph.edges
+    → document ≡ document_by a 1 weights → document ≡ first_document s
+first_is_signed s a weights document is are made = rw (is, are) at made
+
+-- whatever comes after its bytes, they say it
+says_spelled : (t : Topology) (rest : List ℕ) → IsTopology t → Says (document t ++ rest) t
+says_spelled t rest ranges =
+    ap (λ (r : Result (Topology × List ℕ) TopologyRefused). option_map (λ (d : Document). d.topology)
+    (as_document (document t ++ rest) (r >>= λ read. Ok (read.0, length (document t ++ rest) - length read.1)))) (spelled_is_read t rest ranges)
+
+first_says : (s : Scenario) → IsHeader s → Says (first_document s) (topology_of s)
+first_says s header = go (s.format == FORMAT_1)
+  where
+    signed : List ℕ
+    signed = signature (param_of s.height) (admin_seed s.seed) 0 (document (version_by (administrator_of s) 1 (weights_in s.graph.edges)))
+
+    ranges : IsTopology (topology_of s)
+    ranges = (topologies_fit s header).ranges
+
+    bytes_are : document (version_by (administrator_of s) 1 (weights_in s.graph.edges)) ≡ document (topology_of s)
+    bytes_are = ap document (first_topology s)
+
+    go : (b : Bool) → Says (cond b (document (version_by (administrator_of s) 1 (weights_in s.graph.edges)))
+        (document (version_by (administrator_of s) 1 (weights_in s.graph.edges)) ++ signed)) (topology_of s)
+    go true =
+        subst (λ (bs : List ℕ). Says bs (topology_of s)) (append-nil (document (topology_of s)) ∙ sym bytes_are) (says_spelled (topology_of s) [] ranges)
+    go false = subst (λ (bs : List ℕ). Says (bs ++ signed) (topology_of s)) (sym bytes_are) (says_spelled (topology_of s) signed ranges)
+
+-- ---- any version
+
+pub can_write : (s : Scenario) (h : Home) (a : Administrator) (version : ℕ) (weights : List ℕ) → IsHome s h → a ≡ h.administrator
+    → IsTopology (version_by (administrator_of s) version weights) → IsTopology (version_by a version weights)
+can_write s h a version weights home is can = subst (λ (b : Administrator). IsTopology (version_by b version weights)) (sym (is ∙ home.administrator)) can
+
+pub can_sign : (s : Scenario) (h : Home) (a : Administrator) (version : ℕ) (weights : List ℕ) → IsHome s h → a ≡ h.administrator → CanSign s version weights
+    → version ≤ total a.key.height
+can_sign s h a version weights home is can = subst (λ (b : Administrator). version ≤ total b.key.height) (sym (is ∙ home.administrator)) can.most
+
+pub is_written : (s : Scenario) (h : Home) (a : Administrator) (version : ℕ) (weights bytes : List ℕ) → IsHome s h → a ≡ h.administrator
+    → bytes ≡ unsigned_by a version weights → bytes ≡ unsigned_of s version weights
+is_written s h a version weights bytes home is made = made ∙ ap (λ (b : Administrator). unsigned_by b version weights) (is ∙ home.administrator)
+
+pub is_signed : (s : Scenario) (h : Home) (a : Administrator) (version : ℕ) (weights bytes : List ℕ) → IsHome s h → a ≡ h.administrator
+    → bytes ≡ document_by a version weights → bytes ≡ document_of s version weights
+is_signed s h a version weights bytes home is made = made ∙ ap (λ (b : Administrator). document_by b version weights) (is ∙ home.administrator)
+
 pub may_start : (s : Scenario) (u : NodeId) (start : Started) (config : NodeConfig) (own : NodeSigner) → config ≡ config_of s u → own ≡ own_signer s u start
     → IsHeader s → IsTrue (is_correct (setting_of s) u) → CanStart s start → IsBootable config own start.boot
 may_start s u start config own config_is own_is header correct can = rw (config_is, own_is) (record {
   topology = topologies_fit s header;
+  document = first_says s header;
+  short = (rooms s header 1 (weights_in s.graph.edges)).1;
   node = refl;
   height = refl;
   is_mine = keys_are s.height s.seed u (range_with_len 1 s.graph.nodes) (among s u correct);

@@ -34,8 +34,8 @@ use Rattle.laws_runs_format.proofs.Headers.{headers_fit}
 use Rattle.laws_runs_format.proofs.ReadBack.{format_carries}
 use Rattle.laws_runs_format.specs.Arts.{arts_of}
 use Rattle.sp_world.proofs.Booting.{few_edges}
-use Rattle.sp_world.proofs.Standing.{at_first, fits}
-use Rattle.sp_world.specs.Stands.{CanCraft, ComesToOne, IsAtFirst, IsEdgeOf, Stands}
+use Rattle.sp_world.proofs.Standing.{fits, of_format}
+use Rattle.sp_world.specs.Stands.{CanCraft, ComesToOne, IsOfFormat, IsEdgeOf, Stands}
 use Rattle.sp_world_steps.proofs.Among.{place_of_any}
 
 -- ---- a frame that was made
@@ -98,7 +98,7 @@ can_craft : (s : Scenario) (es : List Event) (js : List Entry) (w : World) (e : 
 can_craft s es js w e comes c v acts hop =
     let st = comes.stands in
     let edge = edge_there s es js w e st c v hop in
-    let first = subst (IsAtFirst s.format w.nodes) acts (at_first s es js w e st comes.somebody) in
+    let first = subst (IsOfFormat s.format w.nodes) acts (of_format s es js w e st comes.somebody) in
     record {
       first = first;
       edge = edge;
@@ -116,6 +116,12 @@ pub status_may : (s : Scenario) (es : List Event) (js : List Entry) (w : World) 
 status_may s es js w e c v a b base have comes is =
     let now = subst (ComesToOne s es js w) is comes in
     can_craft s es js w (events.CraftStatus c v a b base have) now c v refl now.stands.range.fields.1
+
+pub version_may : (s : Scenario) (es : List Event) (js : List Entry) (w : World) (e : Event) (c v : NodeId) (key version : ℕ) (weights : Option (List ℕ))
+    → ComesToOne s es js w e → e ≡ events.CraftDocument c v key version weights → CanCraft s w.nodes c v
+version_may s es js w e c v key version weights comes is =
+    let now = subst (ComesToOne s es js w) is comes in
+    can_craft s es js w (events.CraftDocument c v key version weights) now c v refl now.stands.range.fields.1
 
 -- ---- what is crafted is good, with the boots that the node holds
 

@@ -1,4 +1,5 @@
 pub mod Standing
+pub mod Publishing
 pub mod Coming
 pub mod Crafting
 pub mod Arriving

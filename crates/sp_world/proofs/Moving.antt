@@ -9,7 +9,7 @@ use Rattle.laws_runs_format.specs.Arts.{arts_of}
 use Rattle.sp_node_format.specs.Format.{format_of}
 use Rattle.sp_rules.specs.Node.{NodeState, extended}
 use Rattle.sp_rules.specs.Parts.{Fixed}
-use Rattle.sp_rules.specs.Steps.{Datagram, Frame, Input, NodeStep, Output, Poll, Reply, SendPrio, SendRel, SetWeight, TakePrio, TakeRel, Tick, replied}
+use Rattle.sp_rules.specs.Steps.{Datagram, Frame, Input, NodeStep, Output, Poll, Publish, Reply, SendPrio, SendRel, SetWeight, TakePrio, TakeRel, Tick, replied}
 use Rattle.sp_runs.specs.Forgery.{forged, has_forged_tag}
 use Rattle.sp_runs.specs.Inputs.{acting, flipped, input_of}
 use Rattle.sp_runs.specs.Journals.{Says}
@@ -19,19 +19,22 @@ use Rattle.sp_runs.specs.Runs.{crafted_after, directions_after, next_frame}
 use Rattle.sp_runs.specs.Scenarios.{setting_of}
 use Rattle.sp_runs.specs.Settings.{Setting}
 use Rattle.sp_runs.specs.Worlds.{Crafted, Direction, World, frame_in, is_me, node_in, with_frame, with_node, without_node}
+use Rattle.sp_schedule_events.specs.Documents.{list_in, with_list}
+use Rattle.sp_schedule_events.specs.declared.published.Published.{Published}
 use Rattle.sp_schedule_events.specs.declared.event.Event.{Event}
 use Rattle.sp_schedule_events.specs.declared.event.Event.TheVariants as events
 use Rattle.sp_schedule_events.specs.declared.scenario.Scenario.{Scenario}
 use Rattle.sp_epoch.specs.Numbers.{next_bound, numbers_at}
 use Rattle.sp_keystate.specs.declared.numbers.Numbers.{Numbers}
 use Rattle.laws_runs.proofs.LifeCases.{Nobody, life_of}
-use Rattle.laws_runs.proofs.Ready.{As_was, Extended, Readied, ready_crafts, ready_frames, ready_with, was_there}
+use Rattle.laws_runs.proofs.Ready.{As_was, Extended, Readied, ready_crafts, ready_frames, ready_published, ready_with, was_there}
 use Rattle.laws_runs.proofs.Tables.{node_is}
 use Rattle.laws_runs.proofs.Turns.{epochs_are_on}
 use Rattle.sp_world_steps.proofs.Without.{without_is_same}
 use Rattle.sp_world.proofs.Standing.{are_filed, asked_reaches, can_hear, each, fits, not_off}
 use Rattle.sp_adversary.specs.Crafters.{Crafters}
 use Rattle.sp_world.specs.Arrivals.{Arrives, CanHear}
+use Rattle.sp_world.specs.Documents.{IsHanded}
 use Rattle.sp_world.specs.Past.{IsUndone}
 use Rattle.sp_world.specs.Scenes.{AreFiled, Scene, with_crafted, world_in}
 use Rattle.sp_world_steps.specs.Polls.{IsPolled}
@@ -44,79 +47,88 @@ use Rattle.sp_world_steps.specs.Asks.{asked}
 use Rattle.sp_world_steps.specs.Members.{AskedAmong}
 
 -- the parts of two worlds are the same
-same_parts : (keys : List Numbers) (a b : List NodeState) (c d : List Direction) (f g : List Crafted) → a ≡ b → c ≡ d → f ≡ g → world_of keys a c f ≡ world_of keys b d g
-same_parts keys a b c d f g one two three = rw (one, two, three) refl
+same_parts : (keys : List Numbers) (a b : List NodeState) (c d : List Direction) (f g : List Crafted) (p q : Published) → a ≡ b → c ≡ d → f ≡ g → p ≡ q
+    → world_of keys a c f p ≡ world_of keys b d g q
+same_parts keys a b c d f g p q one two three four = rw (one, two, three, four) refl
 
 -- ---- what is asked
 
 -- it makes no frame
-asked_is_no_poll : (w : World) (e : Event) (input : Input) → asked e ≡ Some input → next_frame w e ≡ 0
-asked_is_no_poll w (events.Rel s d payload) input is = refl
-asked_is_no_poll w (events.Prio s d prio expiry paths payload) input is = refl
-asked_is_no_poll w (events.Take d s) input is = refl
-asked_is_no_poll w (events.TakePrio d) input is = refl
-asked_is_no_poll w (events.Tick u now) input is = refl
-asked_is_no_poll w (events.Weight u v weight) input is = refl
-asked_is_no_poll w (events.Poll u v) input is = absurd (cc)
-asked_is_no_poll w (events.Pass u v number) input is = refl
-asked_is_no_poll w (events.Flip u v number back bit) input is = refl
-asked_is_no_poll w (events.Inject u v bytes) input is = refl
-asked_is_no_poll w (events.Craft c v key body) input is = refl
-asked_is_no_poll w (events.CraftStatus c v s d base have) input is = refl
-asked_is_no_poll w (events.Start u) input is = absurd (cc)
-asked_is_no_poll w (events.Stop u) input is = absurd (cc)
+asked_is_no_poll : (w : World) (e : Event) (document : List ℕ) (input : Input) → asked document e ≡ Some input → next_frame w e ≡ 0
+asked_is_no_poll w (events.Rel s d payload) document input is = refl
+asked_is_no_poll w (events.Prio s d prio expiry paths payload) document input is = refl
+asked_is_no_poll w (events.Take d s) document input is = refl
+asked_is_no_poll w (events.TakePrio d) document input is = refl
+asked_is_no_poll w (events.Tick u now) document input is = refl
+asked_is_no_poll w (events.Weight u v weight) document input is = refl
+asked_is_no_poll w (events.Poll u v) document input is = absurd (cc)
+asked_is_no_poll w (events.Pass u v number) document input is = refl
+asked_is_no_poll w (events.Flip u v number back bit) document input is = refl
+asked_is_no_poll w (events.Inject u v bytes) document input is = refl
+asked_is_no_poll w (events.Craft c v key body) document input is = refl
+asked_is_no_poll w (events.CraftStatus c v s d base have) document input is = refl
+asked_is_no_poll w (events.CraftDocument c v key version weights) document input is = absurd (cc)
+asked_is_no_poll w (events.Publish u weights) document input is = refl
+asked_is_no_poll w (events.Start u) document input is = absurd (cc)
+asked_is_no_poll w (events.Stop u) document input is = absurd (cc)
 
-asked_keeps_frames : (ds : List Direction) (e : Event) (input : Input) (reply : Reply) → asked e ≡ Some input → directions_after ds e reply ≡ ds
-asked_keeps_frames ds (events.Rel s d payload) input reply is = refl
-asked_keeps_frames ds (events.Prio s d prio expiry paths payload) input reply is = refl
-asked_keeps_frames ds (events.Take d s) input reply is = refl
-asked_keeps_frames ds (events.TakePrio d) input reply is = refl
-asked_keeps_frames ds (events.Tick u now) input reply is = refl
-asked_keeps_frames ds (events.Weight u v weight) input reply is = refl
-asked_keeps_frames ds (events.Poll u v) input reply is = absurd (cc)
-asked_keeps_frames ds (events.Pass u v number) input reply is = refl
-asked_keeps_frames ds (events.Flip u v number back bit) input reply is = refl
-asked_keeps_frames ds (events.Inject u v bytes) input reply is = refl
-asked_keeps_frames ds (events.Craft c v key body) input reply is = refl
-asked_keeps_frames ds (events.CraftStatus c v s d base have) input reply is = refl
-asked_keeps_frames ds (events.Start u) input reply is = absurd (cc)
-asked_keeps_frames ds (events.Stop u) input reply is = absurd (cc)
+asked_keeps_frames : (ds : List Direction) (e : Event) (document : List ℕ) (input : Input) (reply : Reply) → asked document e ≡ Some input → directions_after ds e reply ≡ ds
+asked_keeps_frames ds (events.Rel s d payload) document input reply is = refl
+asked_keeps_frames ds (events.Prio s d prio expiry paths payload) document input reply is = refl
+asked_keeps_frames ds (events.Take d s) document input reply is = refl
+asked_keeps_frames ds (events.TakePrio d) document input reply is = refl
+asked_keeps_frames ds (events.Tick u now) document input reply is = refl
+asked_keeps_frames ds (events.Weight u v weight) document input reply is = refl
+asked_keeps_frames ds (events.Poll u v) document input reply is = absurd (cc)
+asked_keeps_frames ds (events.Pass u v number) document input reply is = refl
+asked_keeps_frames ds (events.Flip u v number back bit) document input reply is = refl
+asked_keeps_frames ds (events.Inject u v bytes) document input reply is = refl
+asked_keeps_frames ds (events.Craft c v key body) document input reply is = refl
+asked_keeps_frames ds (events.CraftStatus c v s d base have) document input reply is = refl
+asked_keeps_frames ds (events.CraftDocument c v key version weights) document input reply is = refl
+asked_keeps_frames ds (events.Publish u weights) document input reply is = refl
+asked_keeps_frames ds (events.Start u) document input reply is = absurd (cc)
+asked_keeps_frames ds (events.Stop u) document input reply is = absurd (cc)
 
-asked_crafts_none : (crafted : List Crafted) (e : Event) (input : Input) → asked e ≡ Some input → crafted_after crafted e ≡ crafted
-asked_crafts_none crafted (events.Rel s d payload) input is = refl
-asked_crafts_none crafted (events.Prio s d prio expiry paths payload) input is = refl
-asked_crafts_none crafted (events.Take d s) input is = refl
-asked_crafts_none crafted (events.TakePrio d) input is = refl
-asked_crafts_none crafted (events.Tick u now) input is = refl
-asked_crafts_none crafted (events.Weight u v weight) input is = refl
-asked_crafts_none crafted (events.Poll u v) input is = refl
-asked_crafts_none crafted (events.Pass u v number) input is = refl
-asked_crafts_none crafted (events.Flip u v number back bit) input is = refl
-asked_crafts_none crafted (events.Inject u v bytes) input is = refl
-asked_crafts_none crafted (events.CraftStatus c v s d base have) input is = refl
-asked_crafts_none crafted (events.Start u) input is = refl
-asked_crafts_none crafted (events.Stop u) input is = refl
-asked_crafts_none crafted (events.Craft c v key body) input is = absurd (cc)
+asked_crafts_none : (crafted : List Crafted) (e : Event) (document : List ℕ) (input : Input) → asked document e ≡ Some input → crafted_after crafted e ≡ crafted
+asked_crafts_none crafted (events.Rel s d payload) document input is = refl
+asked_crafts_none crafted (events.Prio s d prio expiry paths payload) document input is = refl
+asked_crafts_none crafted (events.Take d s) document input is = refl
+asked_crafts_none crafted (events.TakePrio d) document input is = refl
+asked_crafts_none crafted (events.Tick u now) document input is = refl
+asked_crafts_none crafted (events.Weight u v weight) document input is = refl
+asked_crafts_none crafted (events.Poll u v) document input is = refl
+asked_crafts_none crafted (events.Pass u v number) document input is = refl
+asked_crafts_none crafted (events.Flip u v number back bit) document input is = refl
+asked_crafts_none crafted (events.Inject u v bytes) document input is = refl
+asked_crafts_none crafted (events.CraftStatus c v s d base have) document input is = refl
+asked_crafts_none crafted (events.CraftDocument c v key version weights) document input is = absurd (cc)
+asked_crafts_none crafted (events.Publish u weights) document input is = refl
+asked_crafts_none crafted (events.Start u) document input is = refl
+asked_crafts_none crafted (events.Stop u) document input is = refl
+asked_crafts_none crafted (events.Craft c v key body) document input is = absurd (cc)
 
-no_tag : (x : Setting) (w : World) (n : NodeState) (e : Event) (input : Input) → asked e ≡ Some input → has_forged_tag (arts_of x) x w n input ≡ false
-no_tag x w n (events.Rel s d payload) input is = subst (λ (i : Input). has_forged_tag (arts_of x) x w n i ≡ false) (same_Some (SendRel d payload) input is) refl
-no_tag x w n (events.Prio s d prio expiry paths payload) input is = subst (λ (i : Input). has_forged_tag (arts_of x) x w n i ≡ false) (same_Some (SendPrio (record { dst = d; prio = prio; expiry = expiry; paths = paths; payload = payload })) input is) refl
-no_tag x w n (events.Take d s) input is = subst (λ (i : Input). has_forged_tag (arts_of x) x w n i ≡ false) (same_Some (TakeRel s) input is) refl
-no_tag x w n (events.TakePrio d) input is = subst (λ (i : Input). has_forged_tag (arts_of x) x w n i ≡ false) (same_Some TakePrio input is) refl
-no_tag x w n (events.Tick u now) input is = subst (λ (i : Input). has_forged_tag (arts_of x) x w n i ≡ false) (same_Some (Tick now) input is) refl
-no_tag x w n (events.Weight u v weight) input is = subst (λ (i : Input). has_forged_tag (arts_of x) x w n i ≡ false) (same_Some (SetWeight v weight) input is) refl
-no_tag x w n (events.Poll u v) input is = absurd (cc)
-no_tag x w n (events.Pass u v number) input is = absurd (cc)
-no_tag x w n (events.Flip u v number back bit) input is = absurd (cc)
-no_tag x w n (events.Inject u v bytes) input is = absurd (cc)
-no_tag x w n (events.Craft c v key body) input is = absurd (cc)
-no_tag x w n (events.CraftStatus c v s d base have) input is = absurd (cc)
-no_tag x w n (events.Start u) input is = absurd (cc)
-no_tag x w n (events.Stop u) input is = absurd (cc)
+no_tag : (x : Setting) (w : World) (n : NodeState) (e : Event) (document : List ℕ) (input : Input) → asked document e ≡ Some input → has_forged_tag (arts_of x) x w n input ≡ false
+no_tag x w n (events.Rel s d payload) document input is = subst (λ (i : Input). has_forged_tag (arts_of x) x w n i ≡ false) (same_Some (SendRel d payload) input is) refl
+no_tag x w n (events.Prio s d prio expiry paths payload) document input is = subst (λ (i : Input). has_forged_tag (arts_of x) x w n i ≡ false) (same_Some (SendPrio (record { dst = d; prio = prio; expiry = expiry; paths = paths; payload = payload })) input is) refl
+no_tag x w n (events.Take d s) document input is = subst (λ (i : Input). has_forged_tag (arts_of x) x w n i ≡ false) (same_Some (TakeRel s) input is) refl
+no_tag x w n (events.TakePrio d) document input is = subst (λ (i : Input). has_forged_tag (arts_of x) x w n i ≡ false) (same_Some TakePrio input is) refl
+no_tag x w n (events.Tick u now) document input is = subst (λ (i : Input). has_forged_tag (arts_of x) x w n i ≡ false) (same_Some (Tick now) input is) refl
+no_tag x w n (events.Weight u v weight) document input is = subst (λ (i : Input). has_forged_tag (arts_of x) x w n i ≡ false) (same_Some (SetWeight v weight) input is) refl
+no_tag x w n (events.Poll u v) document input is = absurd (cc)
+no_tag x w n (events.Pass u v number) document input is = absurd (cc)
+no_tag x w n (events.Flip u v number back bit) document input is = absurd (cc)
+no_tag x w n (events.Inject u v bytes) document input is = absurd (cc)
+no_tag x w n (events.Craft c v key body) document input is = absurd (cc)
+no_tag x w n (events.CraftStatus c v s d base have) document input is = absurd (cc)
+no_tag x w n (events.CraftDocument c v key version weights) document input is = absurd (cc)
+no_tag x w n (events.Publish u weights) document input is = subst (λ (i : Input). has_forged_tag (arts_of x) x w n i ≡ false) (same_Some (Publish document) input is) refl
+no_tag x w n (events.Start u) document input is = absurd (cc)
+no_tag x w n (events.Stop u) document input is = absurd (cc)
 
 nothing_forged : (x : Setting) (es : List Event) (js : List Entry) (w : World) (n : NodeState) (input : Input) (output : Output)
-    → has_forged_tag (arts_of x) x w n input ≡ false → output.answered ≡ [] → forged (arts_of x) x es js w n input output ≡ None
-nothing_forged x es js w n input output untagged none = rw (untagged, none) refl
+    → has_forged_tag (arts_of x) x w n input ≡ false → output.answered ≡ [] → output.adopted ≡ None → forged (arts_of x) x es js w n input output ≡ None
+nothing_forged x es js w n input output untagged none nothing = rw (untagged, none, nothing) refl
 
 -- ---- a move in the world in which the node acts is a turn
 
@@ -130,28 +142,32 @@ stepped_there : (s : Scenario) (es : List Event) (js : List Entry) (w : World) (
 stepped_there s es js w e st u n after input output at step =
     subst (λ (f : Fixed). NodeStep (format_of f) n input output after) (each s es js w e st u n at).fixed step
 
-pub asked_is_told : (s : Scenario) (es : List Event) (js : List Entry) (w : World) (after : List NodeState) (e : Event) (entry : Entry)
-    → Stands s es js w e → AskedAmong (ready (setting_of s) w e).nodes e entry after
-    → IsTold (setting_of s) es js w e entry (record (ready (setting_of s) w e) { nodes = after })
-asked_is_told s es js w after e entry st a =
+pub asked_is_told : (s : Scenario) (es : List Event) (js : List Entry) (w : World) (after : List NodeState) (e : Event) (document : List ℕ) (entry : Entry)
+    → Stands s es js w e → IsHanded (setting_of s) (ready (setting_of s) w e).published e document
+    → AskedAmong (ready (setting_of s) w e).nodes e document entry after
+    → IsTold (setting_of s) es js w e entry
+    (record (ready (setting_of s) w e) { nodes = after; published = with_list (ready (setting_of s) w e).published (list_in e) })
+asked_is_told s es js w after e document entry st handed a =
     let v = ready (setting_of s) w e in
+    let last = with_list v.published (list_in e) in
     let input = a.gave.input in
     let output = a.gave.gave.output in
-    moved_is_told (setting_of s) es js w (record v { nodes = after }) e entry (record {
+    moved_is_told (setting_of s) es js w (record v { nodes = after; published = last }) e entry (record {
       move = record {
         node = a.old;
         is_there = a.is_there;
         input = input;
-        reaches = asked_reaches (setting_of s) es v a.old e input a.gave.asks;
+        reaches = asked_reaches (setting_of s) es v a.old e document input handed a.gave.asks;
         output = output;
         after = a.new;
         step = stepped_there s es js w e st (acting e) a.old a.new input output a.is_there a.gave.gave.step;
-        journal = subst (λ (k : ℕ). Says (setting_of s) k output entry) (sym (asked_is_no_poll v e input a.gave.asks)) (a.gave.gave.tells s);
+        journal = subst (λ (k : ℕ). Says (setting_of s) k output entry) (sym (asked_is_no_poll v e document input a.gave.asks)) (a.gave.gave.tells s);
         world = same_parts v.keys after (with_node v.nodes (acting e) a.new) v.directions (directions_after v.directions e output.reply) v.crafted
-            (crafted_after v.crafted e) a.nodes_are (sym (asked_keeps_frames v.directions e input output.reply a.gave.asks))
-            (sym (asked_crafts_none v.crafted e input a.gave.asks));
+            (crafted_after v.crafted e) last last a.nodes_are (sym (asked_keeps_frames v.directions e document input output.reply a.gave.asks))
+            (sym (asked_crafts_none v.crafted e document input a.gave.asks)) refl;
       };
-      unforged = nothing_forged (setting_of s) es js v a.old input output (no_tag (setting_of s) v a.old e input a.gave.asks) a.gave.gave.no_object;
+      unforged = nothing_forged (setting_of s) es js v a.old input output (no_tag (setting_of s) v a.old e document input a.gave.asks) a.gave.gave.no_object
+          a.gave.gave.none_adopted;
     })
 
 -- ---- a poll
@@ -173,7 +189,7 @@ polled_is_told s es js w after kept e u v entry st is p =
         step = stepped_there s es js w e st u p.old p.new (Poll v) (replied (Frame p.bytes)) p.is_there p.step;
         journal = p.tells s;
         world = same_parts there.keys after (with_node there.nodes u p.new) kept (with_frame there.directions u v (Some p.bytes)) there.crafted there.crafted
-            p.nodes_are p.kept_are refl;
+            there.published there.published p.nodes_are p.kept_are refl refl;
       };
       unforged = refl;
     }))
@@ -186,6 +202,8 @@ arrival_is_no_poll w (events.Flip u v number back bit) is = refl
 arrival_is_no_poll w (events.Inject u v bytes) is = refl
 arrival_is_no_poll w (events.Craft c v key body) is = refl
 arrival_is_no_poll w (events.CraftStatus c v s d base have) is = refl
+arrival_is_no_poll w (events.CraftDocument c v key version weights) is = refl
+arrival_is_no_poll w (events.Publish u weights) is = absurd is
 arrival_is_no_poll w (events.Rel s d payload) is = absurd is
 arrival_is_no_poll w (events.Prio s d prio expiry paths payload) is = absurd is
 arrival_is_no_poll w (events.Take d s) is = absurd is
@@ -202,6 +220,8 @@ arrival_keeps_frames ds (events.Flip u v number back bit) reply is = refl
 arrival_keeps_frames ds (events.Inject u v bytes) reply is = refl
 arrival_keeps_frames ds (events.Craft c v key body) reply is = refl
 arrival_keeps_frames ds (events.CraftStatus c v s d base have) reply is = refl
+arrival_keeps_frames ds (events.CraftDocument c v key version weights) reply is = refl
+arrival_keeps_frames ds (events.Publish u weights) reply is = absurd is
 arrival_keeps_frames ds (events.Rel s d payload) reply is = absurd is
 arrival_keeps_frames ds (events.Prio s d prio expiry paths payload) reply is = absurd is
 arrival_keeps_frames ds (events.Take d s) reply is = absurd is
@@ -212,15 +232,41 @@ arrival_keeps_frames ds (events.Poll u v) reply is = absurd is
 arrival_keeps_frames ds (events.Start u) reply is = absurd is
 arrival_keeps_frames ds (events.Stop u) reply is = absurd is
 
+arrival_publishes_none : (e : Event) → IsArrival e → list_in e ≡ None
+arrival_publishes_none (events.Pass u v number) is = refl
+arrival_publishes_none (events.Flip u v number back bit) is = refl
+arrival_publishes_none (events.Inject u v bytes) is = refl
+arrival_publishes_none (events.Craft c v key body) is = refl
+arrival_publishes_none (events.CraftStatus c v s d base have) is = refl
+arrival_publishes_none (events.CraftDocument c v key version weights) is = refl
+arrival_publishes_none (events.Publish u weights) is = absurd is
+arrival_publishes_none (events.Rel s d payload) is = refl
+arrival_publishes_none (events.Prio s d prio expiry paths payload) is = refl
+arrival_publishes_none (events.Take d s) is = refl
+arrival_publishes_none (events.TakePrio d) is = refl
+arrival_publishes_none (events.Tick u now) is = refl
+arrival_publishes_none (events.Weight u v weight) is = refl
+arrival_publishes_none (events.Poll u v) is = refl
+arrival_publishes_none (events.Start u) is = refl
+arrival_publishes_none (events.Stop u) is = refl
+
+arrival_publishes : (last : Published) (e : Event) → IsArrival e → last ≡ with_list last (list_in e)
+arrival_publishes last e is = sym (ap (with_list last) (arrival_publishes_none e is))
+
 -- what comes to a node comes to it after it reserved
-same_world : (x : Setting) (w v : World) (n : NodeState) (e : Event) → v.directions ≡ w.directions → v.crafted ≡ w.crafted
+same_world : (x : Setting) (w v : World) (n : NodeState) (e : Event) → v.directions ≡ w.directions → v.crafted ≡ w.crafted → v.published ≡ w.published
     → input_of (arts_of x) x v n e ≡ input_of (arts_of x) x w n e
-same_world x w v n e ds crafted = go e
+same_world x w v n e ds crafted published = go e
   where
     go : (f : Event) → input_of (arts_of x) x v n f ≡ input_of (arts_of x) x w n f
     go (events.Pass a b k) = ap (λ (rows : List Direction). option_map (Datagram a) (frame_in rows a b k)) ds
     go (events.Flip a b k back bit) = ap (λ (rows : List Direction). option_map (λ bytes. Datagram a (flipped back bit bytes)) (frame_in rows a b k)) ds
     go (events.Craft c d key object) = ap (λ (rows : List Crafted). input_of (arts_of x) x (record w { crafted = rows }) n (events.Craft c d key object)) crafted
+    go (events.CraftDocument c d key version weights) =
+        ap (λ (rows : List Crafted). input_of (arts_of x) x (record w { crafted = rows; published = v.published }) n (events.CraftDocument c d key version weights))
+        crafted
+        ∙ ap (λ (last : Published). input_of (arts_of x) x (record w { published = last }) n (events.CraftDocument c d key version weights)) published
+    go (events.Publish a weights) = ap (λ (last : Published). input_of (arts_of x) x (record w { published = last }) n (events.Publish a weights)) published
     go (events.CraftStatus c d a b base have) = refl
     go (events.Inject a b bytes) = refl
     go (events.Rel a b payload) = refl
@@ -238,6 +284,8 @@ same_input x w b upto (events.Pass a c k) = refl
 same_input x w b upto (events.Flip a c k back bit) = refl
 same_input x w b upto (events.Craft c d key object) = refl
 same_input x w b upto (events.CraftStatus c d a k base have) = refl
+same_input x w b upto (events.CraftDocument c d key version weights) = refl
+same_input x w b upto (events.Publish a weights) = refl
 same_input x w b upto (events.Inject a c bytes) = refl
 same_input x w b upto (events.Rel a c payload) = refl
 same_input x w b upto (events.Prio a c prio expiry paths payload) = refl
@@ -253,7 +301,7 @@ comes_there : (x : Setting) (w : World) (e : Event) (bytes : List ℕ) → Comes
     → input_of (arts_of x) x (ready x w e) n e ≡ Some (Datagram (sender e) bytes)
 comes_there x w e bytes comes n at =
     let was = was_there x w e (acting e) n at in
-    same_world x w (ready x w e) n e (ready_frames x w e) (ready_crafts x w e) ∙ by was.before was.readied ∙ comes was.before was.is_there
+    same_world x w (ready x w e) n e (ready_frames x w e) (ready_crafts x w e) (ready_published x w e) ∙ by was.before was.readied ∙ comes was.before was.is_there
   where
     by : (b : NodeState) → Readied x w b n → input_of (arts_of x) x w n e ≡ input_of (arts_of x) x w b e
     by b (As_was same) = ap (λ (m : NodeState). input_of (arts_of x) x w m e) same
@@ -281,10 +329,11 @@ gone_there x w e = go x.epochs (node_in w.nodes (acting e)) refl
 pub arrived_comes_to : (s : Scenario) (es : List Event) (js : List Entry) (w : World) (after : List NodeState) (e : Event) (bytes : List ℕ) (done : Done)
     → IsArrival e → Comes (setting_of s) w e (cames.Datagram bytes)
     → Arrives s es js (ready (setting_of s) w e).nodes (ready (setting_of s) w e).directions (sender e) (acting e) bytes done after
-    → ComesTo (setting_of s) es js w e done (world_of (ready (setting_of s) w e).keys after (ready (setting_of s) w e).directions (crafted_after w.crafted e))
+    → ComesTo (setting_of s) es js w e done (world_of (ready (setting_of s) w e).keys after (ready (setting_of s) w e).directions (crafted_after w.crafted e)
+    (ready (setting_of s) w e).published)
 arrived_comes_to s es js w after e bytes (dones.Told entry) is comes h =
     let v = ready (setting_of s) w e in
-    moved_is_told (setting_of s) es js w (world_of v.keys after v.directions (crafted_after w.crafted e)) e entry (record {
+    moved_is_told (setting_of s) es js w (world_of v.keys after v.directions (crafted_after w.crafted e) v.published) e entry (record {
       move = record {
         node = h.old;
         is_there = h.is_there;
@@ -295,16 +344,17 @@ arrived_comes_to s es js w after e bytes (dones.Told entry) is comes h =
         step = h.step;
         journal = subst (λ (k : ℕ). Says (setting_of s) k h.output entry) (sym (arrival_is_no_poll v e is)) h.says;
         world = same_parts v.keys after (with_node v.nodes (acting e) h.new) v.directions (directions_after v.directions e h.output.reply)
-            (crafted_after w.crafted e) (crafted_after v.crafted e) h.nodes_are (sym (arrival_keeps_frames v.directions e h.output.reply is))
-            (ap (λ (rows : List Crafted). crafted_after rows e) (sym (ready_crafts (setting_of s) w e)));
+            (crafted_after w.crafted e) (crafted_after v.crafted e) v.published (with_list v.published (list_in e)) h.nodes_are
+            (sym (arrival_keeps_frames v.directions e h.output.reply is)) (ap (λ (rows : List Crafted). crafted_after rows e) (sym (ready_crafts (setting_of s) w e)))
+            (arrival_publishes v.published e is);
       };
-      unforged = h.unforged v.keys v.crafted;
+      unforged = h.unforged v.keys v.crafted v.published;
     })
 arrived_comes_to s es js w after e bytes (dones.Forged what told) is comes (h, same) =
     let v = ready (setting_of s) w e in (
       record {
         entry = h.entry;
-        new = world_of v.keys (with_node v.nodes (acting e) h.new) v.directions (crafted_after v.crafted e);
+        new = world_of v.keys (with_node v.nodes (acting e) h.new) v.directions (crafted_after v.crafted e) v.published;
         turn = runs.Moves (record {
           node = h.old;
           is_there = h.is_there;
@@ -314,10 +364,12 @@ arrived_comes_to s es js w after e bytes (dones.Forged what told) is comes (h, s
           after = h.new;
           step = h.step;
           journal = subst (λ (k : ℕ). Says (setting_of s) k h.output h.entry) (sym (arrival_is_no_poll v e is)) h.says;
-          world = ap (λ (rows : List Direction). world_of v.keys (with_node v.nodes (acting e) h.new) rows (crafted_after v.crafted e))
-              (sym (arrival_keeps_frames v.directions e h.output.reply is));
+          world = ap (λ (rows : List Direction). world_of v.keys (with_node v.nodes (acting e) h.new) rows (crafted_after v.crafted e) v.published)
+              (sym (arrival_keeps_frames v.directions e h.output.reply is))
+              ∙ ap (λ (last : Published). world_of v.keys (with_node v.nodes (acting e) h.new) (directions_after v.directions e h.output.reply)
+              (crafted_after v.crafted e) last) (arrival_publishes v.published e is);
         });
-        is = h.found v.keys v.crafted;
+        is = h.found v.keys v.crafted v.published;
       },
       (same, record { nodes = h.nodes_are ∙ gone_there (setting_of s) w e; frames = ready_frames (setting_of s) w e }),
     )
@@ -353,26 +405,33 @@ missed_is_told s es js w new e entry st other down =
 -- ---- the same of the scene, whose node reserves indexes and then acts
 
 module _ (s : Scenario) (es : List Event) (js : List Entry) (old : Scene) (e : Event) where
-  pub asked_here : (there new : Scene) (entry : Entry) → Stands s es js (world_in old) e → world_in there ≡ ready (setting_of s) (world_in old) e
-      → AskedAmong there.nodes e entry new.nodes → new.keys ≡ there.keys → new.directions ≡ there.directions → new.crafters ≡ there.crafters
+  -- the last version in the scene is that of the world where it acts
+  pub asked_here : (there new : Scene) (document : List ℕ) (entry : Entry) → Stands s es js (world_in old) e → world_in there ≡ ready (setting_of s) (world_in old) e
+      → IsHanded (setting_of s) there.published e document → AskedAmong there.nodes e document entry new.nodes
+      → new.keys ≡ there.keys → new.directions ≡ there.directions → new.crafters ≡ there.crafters → new.published ≡ with_list there.published (list_in e)
       → IsTold (setting_of s) es js (world_in old) e entry (world_in new)
-  asked_here there new entry st made asked keys directions crafters =
+  asked_here there new document entry st made handed asked keys directions crafters published =
       let nodes_are = ap (λ (w : World). w.nodes) made in
+      let last_is : there.published ≡ (ready (setting_of s) (world_in old) e).published = ap (λ (w : World). w.published) made in
       let keys_are = keys ∙ ap (λ (w : World). w.keys) made in
       let frames_are = directions ∙ ap (λ (w : World). w.directions) made in
       let crafts_are = ap (λ (c : Crafters). c.keys) crafters ∙ ap (λ (w : World). w.crafted) made in
-      rw (keys_are, frames_are, crafts_are) (asked_is_told s es js (world_in old) new.nodes e entry st (subst (λ (ns : List NodeState). AskedAmong ns e entry new.nodes) nodes_are asked))
+      let published_is = published ∙ ap (λ (last : Published). with_list last (list_in e)) last_is in
+      rw (keys_are, frames_are, crafts_are, published_is) (asked_is_told s es js (world_in old) new.nodes e document entry st
+      (subst (λ (last : Published). IsHanded (setting_of s) last e document) last_is handed)
+      (subst (λ (ns : List NodeState). AskedAmong ns e document entry new.nodes) nodes_are asked))
 
   pub polled_here : (there new : Scene) (u v : NodeId) (entry : Entry) → Stands s es js (world_in old) e → e ≡ events.Poll u v
       → world_in there ≡ ready (setting_of s) (world_in old) e
       → IsPolled there.nodes there.directions u v entry new.nodes new.directions → new.keys ≡ there.keys → new.crafters ≡ there.crafters
-      → IsTold (setting_of s) es js (world_in old) e entry (world_in new)
-  polled_here there new u v entry st is made polled keys crafters =
+      → new.published ≡ there.published → IsTold (setting_of s) es js (world_in old) e entry (world_in new)
+  polled_here there new u v entry st is made polled keys crafters published =
       let v_is = ap (λ (w : World). w.nodes) made in
       let frames_are = ap (λ (w : World). w.directions) made in
       let keys_are = keys ∙ ap (λ (w : World). w.keys) made in
       let crafts_are = ap (λ (c : Crafters). c.keys) crafters ∙ ap (λ (w : World). w.crafted) made in
-      rw (keys_are, crafts_are) (polled_is_told s es js (world_in old) new.nodes new.directions e u v entry st is (rw (v_is, frames_are) at polled))
+      let published_is = published ∙ ap (λ (w : World). w.published) made in
+      rw (keys_are, crafts_are, published_is) (polled_is_told s es js (world_in old) new.nodes new.directions e u v entry st is (rw (v_is, frames_are) at polled))
 
   -- after want of memory
   pub undone_here : (there new : Scene) → world_in there ≡ ready (setting_of s) (world_in old) e → new.nodes ≡ there.nodes → new.directions ≡ there.directions
@@ -402,9 +461,9 @@ module _ (s : Scenario) (es : List Event) (js : List Entry) (old : Scene) (e : E
   pub arrived_here : (brought there new : Scene) (bytes : List ℕ) (done : Done) → IsArrival e → Comes (setting_of s) (world_in old) e (cames.Datagram bytes)
       → brought ≡ with_crafted old (crafted_after old.crafters.keys e) → world_in there ≡ ready (setting_of s) (world_in brought) e
       → Arrives s es js there.nodes there.directions (sender e) (acting e) bytes done new.nodes
-      → new.keys ≡ there.keys → new.directions ≡ there.directions → new.crafters ≡ there.crafters
+      → new.keys ≡ there.keys → new.directions ≡ there.directions → new.crafters ≡ there.crafters → new.published ≡ there.published
       → ComesTo (setting_of s) es js (world_in old) e done (world_in new)
-  arrived_here brought there new bytes done is comes came made arrives keys directions crafters =
+  arrived_here brought there new bytes done is comes came made arrives keys directions crafters published =
       let crafted = crafted_after old.crafters.keys e in
       let v = ready (setting_of s) (world_in old) e in
       let is_there = there_is brought there crafted came made in
@@ -412,7 +471,8 @@ module _ (s : Scenario) (es : List Event) (js : List Entry) (old : Scene) (e : E
       let frames_are : there.directions ≡ v.directions = ap (λ (w : World). w.directions) is_there in
       let keys_are : new.keys ≡ v.keys = keys ∙ ap (λ (w : World). w.keys) is_there in
       let crafts_are : new.crafters.keys ≡ crafted = ap (λ (c : Crafters). c.keys) crafters ∙ ap (λ (w : World). w.crafted) is_there in
-      rw (keys_are, directions, frames_are, crafts_are)
+      let published_is : new.published ≡ v.published = published ∙ ap (λ (w : World). w.published) is_there in
+      rw (keys_are, directions, frames_are, crafts_are, published_is)
       (arrived_comes_to s es js (world_in old) new.nodes e bytes done is comes (rw (nodes_are, frames_are) at arrives))
 
   pub spent_here : (new : Scene) (count : ℕ) (entry : Entry) → comes_to_nobody (world_in old) e ≡ false → IsSpent (setting_of s) (world_in old) e count

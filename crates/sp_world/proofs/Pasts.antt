@@ -17,7 +17,9 @@ use Rattle.sp_rules.specs.Masks.{greatest_id}
 use Rattle.sp_rules.specs.Node.{NodeState}
 use Rattle.sp_runs.specs.Worlds.{Direction, World, at_start}
 use Rattle.sp_runs.specs.declared.what.What.{What}
+use Rattle.sp_schedule_events.specs.Documents.{none_published}
 use Rattle.sp_schedule_events.specs.declared.event.Event.{Event}
+use Rattle.sp_schedule_events.specs.declared.published.Published.{Published}
 use Rattle.sp_schedule_events.specs.declared.scenario.Scenario.{Scenario}
 use Rattle.sp_world.specs.Boots.{Home, IsHome}
 use Rattle.sp_world.specs.Kept.{IsKept}
@@ -137,10 +139,10 @@ files_are s header = go s.graph.nodes header.graph.nodes.0
         ap (λ (k : ℕ). replicate k first_numbers) same
 
 -- with these nodes
-pub at_first_plain : (s : Scenario) (keys : List Numbers) (nodes : List NodeState) (ds : List Direction) (c : Crafters) → IsHeader s
-    → keys ≡ replicate s.graph.nodes first_numbers → nodes ≡ (at_start (setting_of s)).nodes → ds ≡ [] → c ≡ no_crafts s
-    → record { keys = keys; nodes = nodes; directions = ds; crafted = c.keys } ≡ at_start (setting_of s)
-at_first_plain s keys nodes ds c header files booted none fresh = rw (files ∙ files_are s header, booted, none, fresh) refl
+pub at_first_plain : (s : Scenario) (keys : List Numbers) (nodes : List NodeState) (ds : List Direction) (c : Crafters) (last : Published) → IsHeader s
+    → keys ≡ replicate s.graph.nodes first_numbers → nodes ≡ (at_start (setting_of s)).nodes → ds ≡ [] → c ≡ no_crafts s → last ≡ none_published
+    → record { keys = keys; nodes = nodes; directions = ds; crafted = c.keys; published = last } ≡ at_start (setting_of s)
+at_first_plain s keys nodes ds c last header files booted none fresh first = rw (files ∙ files_are s header, booted, none, fresh, first) refl
 
 -- with epochs none has started
 pub at_first_stopped : (s : Scenario) (nodes : List NodeState) → s.epochs ≡ true → nodes ≡ [] → nodes ≡ (at_start (setting_of s)).nodes

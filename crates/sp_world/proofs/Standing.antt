@@ -1,5 +1,5 @@
 -- What holds of a run with one more event in its range: the node that acts is there and may be called, and the frame that is to come was made.
-use Rattle.std.proofs.Common.{◌≡◌, ◌+◌, ◌<◌, ◌≤◌, ◌^◌, ◌∙◌, Bool, true, false, List, length, None, Some, refl, sym, ap, subst, arith}
+use Rattle.std.proofs.Common.{◌≡◌, ◌+◌, ◌<◌, ◌≤◌, ◌^◌, ◌∙◌, ℕ, Bool, true, false, List, length, None, Some, refl, sym, ap, subst, arith}
 use Rattle.std.specs.Prelude.{◌&&◌, ◌||◌, IsTrue, not}
 use Rattle.std.specs.List.{list_any}
 use Rattle.std.proofs.lemmas.List.Sums.{count_by-le-length}
@@ -10,7 +10,7 @@ use Rattle.sp_node_format.specs.Format.{format_of}
 use Rattle.sp_node_format.specs.PolledFrames.{most_signature}
 use Rattle.sp_rules.specs.Node.{NodeState}
 use Rattle.sp_rules.specs.Parts.{Fixed}
-use Rattle.sp_rules.specs.Steps.{Input, NodeStep}
+use Rattle.sp_rules.specs.Steps.{Input, NodeStep, Publish}
 use Rattle.sp_runs.specs.Inputs.{acting, input_of}
 use Rattle.sp_runs.specs.Lives.{IsOther, comes_to_nobody, is_missing, ready}
 use Rattle.sp_runs.specs.Runs.{AreFields, is_hop, is_poll, polls}
@@ -36,8 +36,9 @@ use Rattle.laws_runs_format.proofs.ReadBack.{format_carries}
 use Rattle.sp_epoch.specs.Numbers.{IsOneOf}
 use Rattle.sp_schedule_events.specs.Lives.{is_started}
 use Rattle.sp_world.specs.Arrivals.{CanHear}
+use Rattle.sp_world.specs.Documents.{IsHanded}
 use Rattle.sp_world.specs.Scenes.{AreFiled, CanBegin, HasFile, Scene, world_in}
-use Rattle.sp_world.specs.Stands.{ComesToOne, IsArrival, IsAtFirst, Stands, sender}
+use Rattle.sp_world.specs.Stands.{ComesToOne, IsArrival, IsOfFormat, Stands, sender}
 use Rattle.sp_world_steps.specs.Asks.{asked}
 use Rattle.sp_world_steps.specs.Members.{CanAsk, CanCall}
 
@@ -56,6 +57,8 @@ actor_is_correct x es (events.Flip u v number back bit) range = range.1
 actor_is_correct x es (events.Inject u v bytes) range = range.0
 actor_is_correct x es (events.Craft c v key body) range = range.0
 actor_is_correct x es (events.CraftStatus c v s d base have) range = range.0
+actor_is_correct x es (events.Publish u weights) range = range.0
+actor_is_correct x es (events.CraftDocument c v key version weights) range = range.0
 actor_is_correct x es (events.Start u) range = range.0
 actor_is_correct x es (events.Stop u) range = range
 
@@ -66,6 +69,8 @@ sender_is_near x es (events.Flip u v number back bit) is range = range.2
 sender_is_near x es (events.Inject u v bytes) is range = range.1
 sender_is_near x es (events.Craft c v key body) is range = range.1
 sender_is_near x es (events.CraftStatus c v s d base have) is range = range.1
+sender_is_near x es (events.CraftDocument c v key version weights) is range = range.1
+sender_is_near x es (events.Publish u weights) is range = absurd is
 sender_is_near x es (events.Rel s d payload) is range = absurd is
 sender_is_near x es (events.Prio s d prio expiry paths payload) is range = absurd is
 sender_is_near x es (events.Take d s) is range = absurd is
@@ -76,40 +81,44 @@ sender_is_near x es (events.Poll u v) is range = absurd is
 sender_is_near x es (events.Start u) is range = absurd is
 sender_is_near x es (events.Stop u) is range = absurd is
 
--- what is asked is what reaches the node
-pub asked_reaches : (x : Setting) (es : List Event) (w : World) (n : NodeState) (e : Event) (input : Input) → asked e ≡ Some input
-    → input_of (arts_of x) x w n e ≡ Some input
-asked_reaches x es w n (events.Rel s d payload) input is = is
-asked_reaches x es w n (events.Prio s d prio expiry paths payload) input is = is
-asked_reaches x es w n (events.Take d s) input is = is
-asked_reaches x es w n (events.TakePrio d) input is = is
-asked_reaches x es w n (events.Tick u now) input is = is
-asked_reaches x es w n (events.Weight u v weight) input is = is
-asked_reaches x es w n (events.Poll u v) input is = absurd (cc)
-asked_reaches x es w n (events.Pass u v number) input is = absurd (cc)
-asked_reaches x es w n (events.Flip u v number back bit) input is = absurd (cc)
-asked_reaches x es w n (events.Inject u v bytes) input is = absurd (cc)
-asked_reaches x es w n (events.Craft c v key body) input is = absurd (cc)
-asked_reaches x es w n (events.CraftStatus c v s d base have) input is = absurd (cc)
-asked_reaches x es w n (events.Start u) input is = absurd (cc)
-asked_reaches x es w n (events.Stop u) input is = absurd (cc)
+-- what is asked is what reaches the node, where the administrator hands out this document
+pub asked_reaches : (x : Setting) (es : List Event) (w : World) (n : NodeState) (e : Event) (document : List ℕ) (input : Input)
+    → IsHanded x w.published e document → asked document e ≡ Some input → input_of (arts_of x) x w n e ≡ Some input
+asked_reaches x es w n (events.Rel s d payload) document input handed is = is
+asked_reaches x es w n (events.Prio s d prio expiry paths payload) document input handed is = is
+asked_reaches x es w n (events.Take d s) document input handed is = is
+asked_reaches x es w n (events.TakePrio d) document input handed is = is
+asked_reaches x es w n (events.Tick u now) document input handed is = is
+asked_reaches x es w n (events.Weight u v weight) document input handed is = is
+asked_reaches x es w n (events.Poll u v) document input handed is = absurd (cc)
+asked_reaches x es w n (events.Pass u v number) document input handed is = absurd (cc)
+asked_reaches x es w n (events.Flip u v number back bit) document input handed is = absurd (cc)
+asked_reaches x es w n (events.Inject u v bytes) document input handed is = absurd (cc)
+asked_reaches x es w n (events.Craft c v key body) document input handed is = absurd (cc)
+asked_reaches x es w n (events.CraftStatus c v s d base have) document input handed is = absurd (cc)
+asked_reaches x es w n (events.CraftDocument c v key version weights) document input handed is = absurd (cc)
+asked_reaches x es w n (events.Publish u weights) document input handed is = ap (λ (bytes : List ℕ). Some (Publish bytes)) (sym handed) ∙ is
+asked_reaches x es w n (events.Start u) document input handed is = absurd (cc)
+asked_reaches x es w n (events.Stop u) document input handed is = absurd (cc)
 
 -- something is asked by each event that brings nothing, and is no poll, no start and no stop
-pub asks : (e : Event) → IsOther e → (IsArrival e → ⊥) → ((u v : NodeId) → e ≡ events.Poll u v → ⊥) → asked e ≡ None → ⊥
-asks (events.Rel s d payload) other call poll none = absurd (cc)
-asks (events.Prio s d prio expiry paths payload) other call poll none = absurd (cc)
-asks (events.Take d s) other call poll none = absurd (cc)
-asks (events.TakePrio d) other call poll none = absurd (cc)
-asks (events.Tick u now) other call poll none = absurd (cc)
-asks (events.Weight u v weight) other call poll none = absurd (cc)
-asks (events.Poll u v) other call poll none = poll u v refl
-asks (events.Pass u v number) other call poll none = call tt
-asks (events.Flip u v number back bit) other call poll none = call tt
-asks (events.Inject u v bytes) other call poll none = call tt
-asks (events.Craft c v key body) other call poll none = call tt
-asks (events.CraftStatus c v s d base have) other call poll none = call tt
-asks (events.Start u) other call poll none = other
-asks (events.Stop u) other call poll none = other
+pub asks : (document : List ℕ) (e : Event) → IsOther e → (IsArrival e → ⊥) → ((u v : NodeId) → e ≡ events.Poll u v → ⊥) → asked document e ≡ None → ⊥
+asks document (events.Rel s d payload) other call poll none = absurd (cc)
+asks document (events.Prio s d prio expiry paths payload) other call poll none = absurd (cc)
+asks document (events.Take d s) other call poll none = absurd (cc)
+asks document (events.TakePrio d) other call poll none = absurd (cc)
+asks document (events.Tick u now) other call poll none = absurd (cc)
+asks document (events.Weight u v weight) other call poll none = absurd (cc)
+asks document (events.Poll u v) other call poll none = poll u v refl
+asks document (events.Pass u v number) other call poll none = call tt
+asks document (events.Flip u v number back bit) other call poll none = call tt
+asks document (events.Inject u v bytes) other call poll none = call tt
+asks document (events.Craft c v key body) other call poll none = call tt
+asks document (events.CraftStatus c v s d base have) other call poll none = call tt
+asks document (events.CraftDocument c v key version weights) other call poll none = call tt
+asks document (events.Publish u weights) other call poll none = absurd (cc)
+asks document (events.Start u) other call poll none = other
+asks document (events.Stop u) other call poll none = other
 
 pub not_off : (runs missing : Bool) → (not runs || missing) ≡ false → runs ≡ true
 not_off true missing e = refl
@@ -171,20 +180,22 @@ module _ (s : Scenario) (es : List Event) (js : List Entry) (w : World) (e : Eve
     pub ready_actor : (n : NodeState) × (node_in (ready (setting_of s) w e).nodes (acting e) ≡ Some n)
     ready_actor = there_found (acting e) (ready (setting_of s) w e).nodes (ready_any (setting_of s) w e (acting e) ∙ runs)
 
-    pub can_ask : (asked e ≡ None → ⊥) → CanAsk (ready (setting_of s) w e).nodes e
-    can_ask asks = record {
+    pub can_ask : (document : List ℕ) → IsHanded (setting_of s) (ready (setting_of s) w e).published e document → (asked document e ≡ None → ⊥)
+        → CanAsk (ready (setting_of s) w e).nodes e document
+    can_ask document handed asks = record {
       node = ready_actor.0;
       is_there = ready_actor.1;
       may = record {
         setting = setting_of s;
         before = es;
         fields = st.range.fields;
+        format = ap (λ (f : Fixed). f.topology.format) (each (acting e) ready_actor.0 ready_actor.1).fixed;
         asks = asks;
         words = λ input is. record {
           setting = setting_of s;
           words = λ output after step.
               each_reply_has_words (arts_of (setting_of s)) (setting_of s) es js w fits (format_carries s.format) st.clean few_calls e ready_actor.0 after input output st.range ready_actor.1
-              (asked_reaches (setting_of s) es (ready (setting_of s) w e) ready_actor.0 e input is)
+              (asked_reaches (setting_of s) es (ready (setting_of s) w e) ready_actor.0 e document input handed is)
               (subst (λ (f : Fixed). NodeStep (format_of f) ready_actor.0 input output after) (each (acting e) ready_actor.0 ready_actor.1).fixed step) 0;
         };
       };
@@ -203,14 +214,13 @@ module _ (s : Scenario) (es : List Event) (js : List Entry) (w : World) (e : Eve
           long = ap (λ (f : Fixed). f.signature_len) fixed;
         }
 
-    pub at_first : IsAtFirst s.format w.nodes (acting e)
-    at_first =
+    pub of_format : IsOfFormat s.format w.nodes (acting e)
+    of_format =
         let fixed = (only_correct_nodes_run (arts_of (setting_of s)) (setting_of s) es js w fits (format_carries s.format) st.clean (acting e) actor.0 actor.1).1 in
         record {
           node = actor.0;
           is_there = actor.1;
           me = ap (λ (f : Fixed). f.me) fixed;
-          version = ap (λ (f : Fixed). f.topology.version) fixed;
           of_format = ap (λ (f : Fixed). f.topology.format) fixed;
         }
 

@@ -15,10 +15,12 @@ use Rattle.sp_keystate.specs.declared.numbers.Numbers.{Numbers}
 use Rattle.sp_rules.specs.Node.{NodeState, extended, start_effects}
 use Rattle.laws_runs_format.specs.Arts.{arts_of}
 use Rattle.sp_runs.specs.Inputs.{acting}
-use Rattle.sp_runs.specs.Lives.{IsDown, IsStop, Life, comes_to_nobody, is_short, ready, reserved, reserved_if}
+use Rattle.sp_runs.specs.Lives.{IsDown, IsStop, Life, comes_to_nobody, directions_missed, is_short, ready, reserved, reserved_if}
 use Rattle.sp_runs.specs.Scenarios.{setting_of}
 use Rattle.sp_runs.specs.Settings.{fixed_at, node_at_start}
 use Rattle.sp_runs.specs.Worlds.{Crafted, Direction, World, node_in, with_frame, with_node, without_node}
+use Rattle.sp_schedule_events.specs.Documents.{list_in, with_list}
+use Rattle.sp_schedule_events.specs.declared.published.Published.{Published}
 use Rattle.sp_schedule_events.specs.declared.event.Event.{Event}
 use Rattle.sp_schedule_events.specs.declared.event.Event.TheVariants as events
 use Rattle.sp_schedule_events.specs.declared.scenario.Scenario.{Scenario}
@@ -38,17 +40,18 @@ may_start s keys u start next =
 pub is_started : (s : Scenario) (old new : Scene) (u : NodeId) (next taken : Started) (n : NodeState) (entry : Entry)
     → IsNext (setting_of s).total u old.keys (Ok next) → Starts (setting_of s).total u old.keys new.keys (Ok taken)
     → n ≡ node_at_start (arts_of (setting_of s)) (setting_of s) u next → new.nodes ≡ old.nodes ++ n ∷ [] → new.directions ≡ old.directions → new.crafters ≡ old.crafters
+    → new.published ≡ old.published
     → entry.reply ≡ replies.Started taken.boot taken.index
     → entry.effects ≡ start_effects (arts_of (setting_of s)) (fixed_at (setting_of s) u next.boot)
     → Life (arts_of (setting_of s)) (setting_of s) (world_in old) (events.Start u) entry (world_in new)
-is_started s old new u next taken n entry given took is nodes frames crafters reply effects =
+is_started s old new u next taken n entry given took is nodes frames crafters published reply effects =
     let arts = arts_of (setting_of s) in
     let x = setting_of s in
     inl (record {
       left = given.0;
       reply = reply ∙ ap (λ (k : Started). replies.Started k.boot k.index) took.1;
       effects = effects ∙ ap (λ (k : Started). start_effects arts (fixed_at x u k.boot)) given.1;
-      world = rw (took.2, nodes, frames, crafters, is, given.1) refl;
+      world = rw (took.2, nodes, frames, crafters, published, is, given.1) refl;
     })
 
 pub is_exhausted : (s : Scenario) (old : Scene) (u : NodeId) (bound : ℕ) (entry : Entry) → IsNext (setting_of s).total u old.keys (Err (Exhausted bound))
@@ -69,11 +72,11 @@ not_refused s keys after u next Memory given refused = refused
 pub is_stopped : (s : Scenario) (old kept new : Scene) (u : NodeId) (entry : Entry)
     → ((event : Event) → acting event ≡ u → world_in kept ≡ ready (setting_of s) (world_in old) event)
     → new.nodes ≡ without_node kept.nodes u → new.keys ≡ kept.keys → new.directions ≡ kept.directions → new.crafters ≡ kept.crafters
-    → entry.reply ≡ replies.Stopped → entry.effects ≡ [] → IsStop (setting_of s) (world_in old) u entry (world_in new)
-is_stopped s old kept new u entry made nodes keys directions crafters reply effects = record {
+    → new.published ≡ kept.published → entry.reply ≡ replies.Stopped → entry.effects ≡ [] → IsStop (setting_of s) (world_in old) u entry (world_in new)
+is_stopped s old kept new u entry made nodes keys directions crafters published reply effects = record {
   reply = reply;
   effects = effects;
-  world = rw (nodes, keys, directions, crafters) (ap (λ (w : World). record w { nodes = without_node w.nodes u }) (made (events.Stop u) refl));
+  world = rw (nodes, keys, directions, crafters, published) (ap (λ (w : World). record w { nodes = without_node w.nodes u }) (made (events.Stop u) refl));
 }
 
 pub poll_is_down : (old : World) (u v : NodeId) (entry : Entry) (ds : List Direction) → comes_to_nobody old (events.Poll u v) ≡ true
@@ -86,11 +89,42 @@ poll_is_down old u v entry ds nobody reply effects missed = record {
   world = ap (λ (d : List Direction). record old { directions = d }) missed;
 }
 
+-- another event publishes at most
+pub other_is_down : (old : World) (e : Event) (entry : Entry) (last : Published) → comes_to_nobody old e ≡ true → ((u v : NodeId) → e ≡ events.Poll u v → ⊥)
+    → entry.reply ≡ replies.Down → entry.effects ≡ [] → last ≡ with_list old.published (list_in e)
+    → IsDown old e entry (record old { published = last })
+other_is_down old e entry last nobody apart reply effects made = record {
+  nobody = nobody;
+  reply = reply;
+  effects = effects;
+  world =
+      ap (λ (p : Published). record old { published = p }) made
+      ∙ ap (λ (ds : List Direction). record old { directions = ds; published = with_list old.published (list_in e) }) (none_missed e apart);
+}
+  where
+    none_missed : (f : Event) → ((u v : NodeId) → f ≡ events.Poll u v → ⊥) → old.directions ≡ directions_missed old.directions f
+    none_missed (events.Poll u v) apart = absurd (apart u v refl)
+    none_missed (events.Rel a b payload) apart = refl
+    none_missed (events.Prio a b prio expiry paths payload) apart = refl
+    none_missed (events.Take a b) apart = refl
+    none_missed (events.TakePrio a) apart = refl
+    none_missed (events.Tick a now) apart = refl
+    none_missed (events.Weight a b weight) apart = refl
+    none_missed (events.Pass a b number) apart = refl
+    none_missed (events.Flip a b number back bit) apart = refl
+    none_missed (events.Inject a b bytes) apart = refl
+    none_missed (events.Craft c v key object) apart = refl
+    none_missed (events.CraftStatus c v a b base have) apart = refl
+    none_missed (events.Publish a weights) apart = refl
+    none_missed (events.CraftDocument c v key version weights) apart = refl
+    none_missed (events.Start a) apart = refl
+    none_missed (events.Stop a) apart = refl
+
 -- ---- a reserve
 
-module _ (s : Scenario) (keys : List Numbers) (nodes : List NodeState) (ds : List Direction) (crafted : List Crafted) (u : NodeId) where
+module _ (s : Scenario) (keys : List Numbers) (nodes : List NodeState) (ds : List Direction) (crafted : List Crafted) (last : Published) (u : NodeId) where
   abbrev w : World
-  w = record { keys = keys; nodes = nodes; directions = ds; crafted = crafted }
+  w = record { keys = keys; nodes = nodes; directions = ds; crafted = crafted; published = last }
 
   pub no_epochs : (event : Event) → s.epochs ≡ false → ready (setting_of s) w event ≡ w
   no_epochs event off = rw off refl
@@ -117,7 +151,7 @@ module _ (s : Scenario) (keys : List Numbers) (nodes : List NodeState) (ds : Lis
 
   pub is_reserved : (event : Event) (n : NodeState) (upto : ℕ) (after_keys : List Numbers) (after : List NodeState) → s.epochs ≡ true → acting event ≡ u
       → node_in nodes u ≡ Some n → is_short n ≡ true → Reserves (setting_of s).total u keys after_keys upto → ReservedAmong nodes u upto after
-      → record { keys = after_keys; nodes = after; directions = ds; crafted = crafted } ≡ ready (setting_of s) w event
+      → record { keys = after_keys; nodes = after; directions = ds; crafted = crafted; published = last } ≡ ready (setting_of s) w event
   is_reserved event n upto after_keys after on acts at few keyed among =
       let x = setting_of s in
       let me : n.fixed.me ≡ u = node_is nodes u n at in

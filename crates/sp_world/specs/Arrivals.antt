@@ -11,6 +11,7 @@ use Rattle.sp_runs.specs.Scenarios.{setting_of}
 use Rattle.sp_runs.specs.Worlds.{Crafted, Direction, node_in, with_node, without_node}
 use Rattle.sp_runs.specs.declared.what.What.{What}
 use Rattle.sp_schedule_events.specs.declared.event.Event.{Event}
+use Rattle.sp_schedule_events.specs.declared.published.Published.{Published}
 use Rattle.sp_schedule_events.specs.declared.scenario.Scenario.{Scenario}
 use Rattle.sp_world.specs.declared.acts.Done.{Done}
 use Rattle.sp_world.specs.declared.acts.Done.TheVariants as dones
@@ -35,8 +36,8 @@ pub record IsHeard (s : Scenario) (es : List Event) (js : List Entry) (nodes : L
   pub is_there : node_in nodes v ≡ Some old
   pub step : NodeStep (arts_of (setting_of s)) old (Datagram u bytes) output new
   pub says : Says (setting_of s) 0 output entry
-  pub unforged : (keys : List Numbers) (crafted : List Crafted)
-      → forged (arts_of (setting_of s)) (setting_of s) es js (world_of keys nodes directions crafted) old (Datagram u bytes) output ≡ None
+  pub unforged : (keys : List Numbers) (crafted : List Crafted) (last : Published)
+      → forged (arts_of (setting_of s)) (setting_of s) es js (world_of keys nodes directions crafted last) old (Datagram u bytes) output ≡ None
   pub nodes_are : after ≡ with_node nodes v new
 
 -- v took it, this of it is forged, and v is gone
@@ -49,8 +50,8 @@ pub record IsFound (s : Scenario) (es : List Event) (js : List Entry) (nodes : L
   pub is_there : node_in nodes v ≡ Some old
   pub step : NodeStep (arts_of (setting_of s)) old (Datagram u bytes) output new
   pub says : Says (setting_of s) 0 output entry
-  pub found : (keys : List Numbers) (crafted : List Crafted)
-      → forged (arts_of (setting_of s)) (setting_of s) es js (world_of keys nodes directions crafted) old (Datagram u bytes) output ≡ Some what
+  pub found : (keys : List Numbers) (crafted : List Crafted) (last : Published)
+      → forged (arts_of (setting_of s)) (setting_of s) es js (world_of keys nodes directions crafted last) old (Datagram u bytes) output ≡ Some what
   pub nodes_are : after ≡ without_node nodes v
 
 abbrev pub Arrives : Scenario → List Event → List Entry → List NodeState → List Direction → (u v : NodeId) → List ℕ → Done → List NodeState → Type 0

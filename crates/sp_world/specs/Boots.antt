@@ -1,32 +1,40 @@
--- What starts of a scenario's nodes need: their public keys, and the key of each seed, whose upper tree was hashed once.
+-- What starts of a scenario's nodes need: the key of each seed, whose upper tree was hashed once, the administrator, and the document of the first version.
 use Rattle.std.specs.Prelude.{ℕ, ◌≡◌, ◌≤◌, ◌<◌, List, filter, map, true}
 use Rattle.std.specs.List.{range_with_len}
+use Rattle.sp_adversary.specs.Administrators.{Administrator}
+use Rattle.sp_adversary.specs.Documents.{administrator_of, public_of}
 use Rattle.sp_base.specs.declared.id.EdgeId.{EdgeId}
 use Rattle.sp_base.specs.declared.id.NodeId.{NodeId}
 use Rattle.sp_epoch.specs.declared.started.Started.{Started}
 use Rattle.sp_hss.specs.SeedKey.{SeedKey}
 use Rattle.sp_node_state.specs.declared.boot.NodeConfig.{NodeConfig}
 use Rattle.sp_rules.specs.Node.{NodeState}
-use Rattle.sp_runs.specs.Scenarios.{edge_key, node_seed, setting_of, topology_of}
+use Rattle.sp_rules.specs.Topologies.{weights_in}
+use Rattle.sp_runs.specs.Scenarios.{document_of, edge_key, node_seed, setting_of, topology_of}
 use Rattle.sp_runs.specs.Settings.{is_correct, node_at_boot}
 use Rattle.sp_schedule_events.specs.declared.scenario.Scenario.{Scenario}
 use Rattle.sp_sign.specs.Heights.{param_of}
 use Rattle.sp_sign.specs.NodeSigner.{NodeSigner}
 use Rattle.sp_topology.specs.Neighbours.{neighbours_from}
-use Rattle.sp_topology.specs.declared.topology.NodeKey.{NodeKey}
 
 -- the key of a node's seed
 abbrev pub seed_key : Scenario → ℕ → SeedKey
 seed_key s u = record { height = param_of s.height; seed = node_seed s.seed u }
 
 pub record Home : Type 0 where
-  pub keys : List NodeKey
   pub seeds : List SeedKey
+  pub administrator : Administrator
+  pub document : List ℕ
 
--- those of nodes 1 to N
+-- the document of the first version
+abbrev pub first_document : Scenario → List ℕ
+first_document s = document_of s 1 (weights_in s.graph.edges)
+
+-- those of nodes 1 to N, and of the scenario
 pub record IsHome (s : Scenario) (h : Home) : Type 0 where
-  pub keys : h.keys ≡ (topology_of s).nodes
   pub seeds : h.seeds ≡ map (seed_key s) (range_with_len 1 s.graph.nodes)
+  pub administrator : h.administrator ≡ administrator_of s
+  pub document : h.document ≡ first_document s
 
 -- ---- a start
 
@@ -50,7 +58,15 @@ keyed_edges s u = map (λ n. (n.1, edge_key s.seed n.1.0)) (neighbours_from u.0 
 
 -- a node as it is configured
 abbrev pub config_of : Scenario → NodeId → NodeConfig
-config_of s u = record { me = u; topology = topology_of s; limits = s.limits; keys = keyed_edges s u; epochs = s.epochs }
+config_of s u = record {
+  me = u;
+  topology = topology_of s;
+  document = first_document s;
+  limits = s.limits;
+  keys = keyed_edges s u;
+  admin = public_of (administrator_of s);
+  epochs = s.epochs;
+}
 
 -- the correct ones among these before the first event, without epochs
 abbrev pub first_of : Scenario → List NodeId → List NodeState

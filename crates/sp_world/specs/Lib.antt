@@ -4,4 +4,5 @@ pub mod Stands
 pub mod Arrivals
 pub mod Boots
 pub mod Scenes
+pub mod Documents
 pub mod Kept

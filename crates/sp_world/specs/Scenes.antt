@@ -8,19 +8,21 @@ use Rattle.sp_rules.specs.Node.{NodeState}
 use Rattle.sp_runs.specs.Scenarios.{IsHeader, setting_of}
 use Rattle.sp_runs.specs.Settings.{is_correct}
 use Rattle.sp_runs.specs.Worlds.{Crafted, Direction, World, node_in}
+use Rattle.sp_schedule_events.specs.declared.published.Published.{Published}
 use Rattle.sp_schedule_events.specs.declared.scenario.Scenario.{Scenario}
 use Rattle.sp_world_steps.specs.Polls.{world_of}
 
--- the key files, the nodes, the frames, and the signers for crafted objects
+-- the key files, the nodes, the frames, the signers for crafted objects, and the last version that was published
 pub record Scene : Type 0 where
   pub keys : List Numbers
   pub nodes : List NodeState
   pub directions : List Direction
   pub crafters : Crafters
+  pub published : Published
 
 -- the world that it is
 abbrev pub world_in : Scene → World
-world_in c = world_of c.keys c.nodes c.directions c.crafters.keys
+world_in c = world_of c.keys c.nodes c.directions c.crafters.keys c.published
 
 -- the crafting signers are those of the scenario
 abbrev pub IsOf : Scenario → Scene → Type 0

@@ -52,6 +52,7 @@ IsArrival (events.Flip u v number back bit) = Unit {0}
 IsArrival (events.Inject u v bytes) = Unit {0}
 IsArrival (events.Craft c v key body) = Unit {0}
 IsArrival (events.CraftStatus c v s d base have) = Unit {0}
+IsArrival (events.CraftDocument c v key version weights) = Unit {0}
 IsArrival _ = ⊥
 
 -- the neighbour from whose address they come
@@ -61,6 +62,7 @@ sender (events.Flip u v number back bit) = u
 sender (events.Inject u v bytes) = u
 sender (events.Craft c v key body) = c
 sender (events.CraftStatus c v s d base have) = c
+sender (events.CraftDocument c v key version weights) = c
 sender e = acting e
 
 -- the node is there
@@ -68,12 +70,11 @@ pub record IsThere (nodes : List NodeState) (v : NodeId) : Type 0 where
   pub node : NodeState
   pub is_there : node_in nodes v ≡ Some node
 
--- the node is there, under the first version of a topology of this format
-pub record IsAtFirst (format : ℕ) (nodes : List NodeState) (v : NodeId) : Type 0 where
+-- the node is there, under a topology of this format
+pub record IsOfFormat (format : ℕ) (nodes : List NodeState) (v : NodeId) : Type 0 where
   pub node : NodeState
   pub is_there : node_in nodes v ≡ Some node
   pub me : node.fixed.me ≡ v
-  pub version : node.fixed.topology.version ≡ 1
   pub of_format : node.fixed.topology.format ≡ format
 
 -- an edge of the graph joins the two
@@ -84,7 +85,7 @@ pub record IsEdgeOf (s : Scenario) (c v : NodeId) : Type 0 where
 
 -- a frame of c for v may be crafted: v tags under the key of their edge
 pub record CanCraft (s : Scenario) (nodes : List NodeState) (c v : NodeId) : Type 0 where
-  pub first : IsAtFirst s.format nodes v
+  pub first : IsOfFormat s.format nodes v
   pub edge : IsEdgeOf s c v
   pub keyed : (link_in first.node c).key ≡ edge_key s.seed edge.edge
 

@@ -9,6 +9,7 @@ ghost use Rattle.sp_world.specs.Stands.{ComesTo, ComesToOne, IsArrival, IsTold, 
 
 use crate::arrivals::arrive;
 use crate::bytes::{Came, bring, sender};
+use crate::documents::hand_out;
 use crate::home::Home;
 use crate::lives::{make_ready, miss, start, stop};
 use crate::scene::Scene;
@@ -51,12 +52,20 @@ pub fn act(
     match event {
         Event::Start { u } => Ok(Done::Told(start(alloc, known.scenario, home, scene, *u)?)),
         Event::Stop { u } => Ok(Done::Told(stop(alloc, known.scenario, scene, *u))),
-        _ => reach(alloc, known, scene, event),
+        _ => reach(alloc, known, home, scene, event),
     }
 }
 
 /// Does an event that is no start and no stop.
-fn reach(alloc: Global, known: &Known<'_>, scene: &mut Scene, event: &Event) -> Result<Done, Memory>
+#[tactic(auto, using(crate::proofs::Publishing::few_versions))]
+fn reach(
+    alloc: Global,
+    known: &Known<'_>,
+    home: &Home,
+    scene: &mut Scene,
+    event: &Event,
+) -> Result<Done, Memory>
+    requires home { IsHome known.now.scenario.now home.now }
     requires other { IsOther event.now }
     requires stands { Stands known.now.scenario.now known.now.events.now known.now.journal.now (world_in scene.old) event.now }
     requires crafters { IsOf known.now.scenario.now scene.old }
@@ -74,19 +83,22 @@ fn reach(alloc: Global, known: &Known<'_>, scene: &mut Scene, event: &Event) -> 
         | Event::Flip { .. }
         | Event::Inject { .. }
         | Event::Craft { .. }
-        | Event::CraftStatus { .. } => arrival(alloc, known, scene, event),
-        _ => Ok(Done::Told(asked(alloc, known, scene, event)?)),
+        | Event::CraftStatus { .. }
+        | Event::CraftDocument { .. } => arrival(alloc, known, home, scene, event),
+        _ => Ok(Done::Told(asked(alloc, known, home, scene, event)?)),
     }
 }
 
-/// A client or the clock asks something of the node that acts, or it is polled.
+/// A client, the clock or the administrator asks something of the node that acts, or it is polled.
 #[tactic(auto, using(crate::proofs::Rules::came))]
 fn asked(
     alloc: Global,
     known: &Known<'_>,
+    home: &Home,
     scene: &mut Scene,
     event: &Event,
 ) -> Result<Entry, Memory>
+    requires home { IsHome known.now.scenario.now home.now }
     requires comes { ComesToOne known.now.scenario.now known.now.events.now known.now.journal.now (world_in scene.old) event.now }
     requires call { IsArrival event.now → ⊥ }
     ensures told { IfOk result (λ entry. IsTold (setting_of known.now.scenario.now) known.now.events.now known.now.journal.now
@@ -97,7 +109,16 @@ fn asked(
     make_ready(known.scenario, scene, event);
     match event {
         Event::Poll { u, v } => scene.directions.poll(alloc, &mut scene.nodes, *u, *v),
-        _ => ask(alloc, &mut scene.nodes, event.acting(), event),
+        _ => {
+            let document = hand_out(alloc, known.scenario, home, &mut scene.published, event)?;
+            ask(
+                alloc,
+                &mut scene.nodes,
+                event.acting(),
+                event,
+                document.as_slice(),
+            )
+        }
     }
 }
 
@@ -106,9 +127,11 @@ fn asked(
 fn arrival(
     alloc: Global,
     known: &Known<'_>,
+    home: &Home,
     scene: &mut Scene,
     event: &Event,
 ) -> Result<Done, Memory>
+    requires home { IsHome known.now.scenario.now home.now }
     requires arrival { IsArrival event.now }
     requires comes { ComesToOne known.now.scenario.now known.now.events.now known.now.journal.now (world_in scene.old) event.now }
     requires crafters { IsOf known.now.scenario.now scene.old }
@@ -118,7 +141,7 @@ fn arrival(
     ensures crafters { IsOf known.now.scenario.now scene.new }
     ensures as_before { OnErr result (IsUndone (setting_of known.now.scenario.now) (world_in scene.old) event.now (world_in scene.new)) }
 {
-    match bring(alloc, known, scene, event)? {
+    match bring(alloc, known, home, scene, event)? {
         Came::Datagram(bytes) => {
             make_ready(known.scenario, scene, event);
             let (u, v) = (sender(event), event.acting());

@@ -7,7 +7,7 @@ ghost use Rattle.sp_frame.specs.declared.sections.TheConstants.{MOST_OBJECTS};
 
 use crate::acts::Done;
 use sp_base::{Memory, NodeId};
-use sp_forgery::{Known, MAX_MESSAGE_BYTES, judge};
+use sp_forgery::{Known, MAX_MESSAGE_BYTES, document_of, judge};
 use sp_frame::MOST_OBJECTS;
 use sp_journal::ItemWord;
 use sp_world_steps::{Directions, Member, arrived, forget, hear};
@@ -22,15 +22,17 @@ struct Room {
 }
 
 impl Room {
-    fn new(alloc: Global) -> Result<Room, Memory>
+    /// For a datagram of this length.
+    fn new(alloc: Global, len: usize) -> Result<Room, Memory>
         ensures words { IfOk result (λ room. (room.words.items ≡ []) × (MOST_OBJECTS ≤ vec_capacity room.words)) }
-        ensures kept { IfOk result (λ room. (room.kept.items ≡ []) × (MAX_MESSAGE_BYTES ≤ vec_capacity room.kept)) }
-        ensures told { IfOk result (λ room. (room.told.items ≡ []) × (MAX_MESSAGE_BYTES ≤ vec_capacity room.told)) }
+        ensures kept { IfOk result (λ room. (room.kept.items ≡ []) × (MAX_MESSAGE_BYTES ≤ vec_capacity room.kept) × (len ≤ vec_capacity room.kept)) }
+        ensures told { IfOk result (λ room. (room.told.items ≡ []) × (MAX_MESSAGE_BYTES ≤ vec_capacity room.told) × (len ≤ vec_capacity room.told)) }
     {
+        let most = MAX_MESSAGE_BYTES.max(len);
         Ok(Room {
             words: Vec::with_capacity(alloc, MOST_OBJECTS)?,
-            kept: Vec::with_capacity(alloc, MAX_MESSAGE_BYTES)?,
-            told: Vec::with_capacity(alloc, MAX_MESSAGE_BYTES)?,
+            kept: Vec::with_capacity(alloc, most)?,
+            told: Vec::with_capacity(alloc, most)?,
         })
     }
 }
@@ -53,9 +55,10 @@ pub fn arrive(
         nodes.old.items directions.now u v bytes.now done nodes.new.items) }
     ensures as_before { OnErr result (nodes.new.items ≡ nodes.old.items) }
 {
-    let Room { words, kept, told } = Room::new(alloc)?;
+    let Room { words, kept, told } = Room::new(alloc, bytes.len())?;
+    let brought = document_of(alloc, known, bytes)?;
     let step = hear(alloc, nodes, u, v, bytes)?;
-    match judge(known, directions, u, v, bytes, &step) {
+    match judge(known, directions, u, v, bytes, &brought, &step) {
         Some(found) => {
             let (what, told) = (found.copied(kept), found.copied(told));
             forget(nodes, v);

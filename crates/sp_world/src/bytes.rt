@@ -3,10 +3,12 @@ ghost use Rattle.std.specs.Prelude.{ℕ, ◌≡◌, ◌≤◌, List, IfOk, None 
 ghost use Rattle.sp_runs.specs.Inputs.{flipped};
 ghost use Rattle.sp_runs.specs.Scenarios.{setting_of};
 ghost use Rattle.sp_runs.specs.Worlds.{frame_in};
+ghost use Rattle.sp_world.specs.Boots.{IsHome};
 ghost use Rattle.sp_world.specs.Scenes.{IsOf, with_crafted, world_in};
 ghost use Rattle.sp_world.specs.Stands.{Comes, ComesToOne, IsArrival, crafted_by, sender};
 
-use crate::crafts::{CraftedReport, crafted, status};
+use crate::crafts::{CraftedReport, CraftedVersion, crafted, document, status};
+use crate::home::Home;
 use crate::scene::Scene;
 use sp_adversary::flipped;
 use sp_base::{Bytes, Flow, Memory, NodeId};
@@ -30,7 +32,8 @@ pub fn sender(event: &Event) -> NodeId
 {
     match event {
         Event::Pass { u, .. } | Event::Flip { u, .. } | Event::Inject { u, .. } => *u,
-        Event::Craft { c, .. } | Event::CraftStatus { c, .. } => *c,
+        Event::Craft { c, .. } | Event::CraftStatus { c, .. } | Event::CraftDocument { c, .. } =>
+            *c,
         _ => unreachable!(),
     }
 }
@@ -40,9 +43,11 @@ pub fn sender(event: &Event) -> NodeId
 pub fn bring(
     alloc: Global,
     known: &Known<'_>,
+    home: &Home,
     scene: &mut Scene,
     event: &Event,
 ) -> Result<Came, Memory>
+    requires home { IsHome known.now.scenario.now home.now }
     requires arrival { IsArrival event.now }
     requires comes { ComesToOne known.now.scenario.now known.now.events.now known.now.journal.now (world_in scene.old) event.now }
     requires crafters { IsOf known.now.scenario.now scene.old }
@@ -82,6 +87,20 @@ pub fn bring(
             let nodes = scene.nodes.as_slice();
             let bytes = status(alloc, known.scenario, nodes, *c, *v, report)?;
             Ok(Came::Datagram(bytes))
+        }
+        Event::CraftDocument {
+            c,
+            v,
+            key,
+            version,
+            weights,
+        } => {
+            let version = CraftedVersion {
+                key: *key,
+                version: *version,
+                weights,
+            };
+            document(alloc, known.scenario, home, scene, *c, *v, version)
         }
         _ => unreachable!(),
     }

@@ -10,16 +10,20 @@ ghost use Rattle.sp_runs.specs.Scenarios.{edge_key, setting_of};
 ghost use Rattle.sp_runs.specs.Worlds.{node_in};
 ghost use Rattle.sp_schedule_crafts.specs.Objects.{body_of};
 ghost use Rattle.sp_schedule_events.specs.declared.event.Event.TheVariants as events;
+ghost use Rattle.sp_world.specs.Boots.{IsHome};
+ghost use Rattle.sp_world.specs.Documents.{CanCraftDocument};
 ghost use Rattle.sp_world.specs.Scenes.{IsOf, with_crafted, world_in};
-ghost use Rattle.sp_world.specs.Stands.{CanCraft, Comes, IsAtFirst, IsEdgeOf, IsThere, crafted_by};
+ghost use Rattle.sp_world.specs.Stands.{CanCraft, Comes, IsOfFormat, IsEdgeOf, IsThere, crafted_by};
 
 use crate::bytes::Came;
+use crate::documents::weights_of;
+use crate::home::Home;
 use crate::scene::Scene;
 use sp_adversary::{
-    Crafted, EndBoots, crafted_head, dated, edge_between, edge_key, ends_of, object_frame,
-    status_frame,
+    Crafted, EndBoots, crafted_head, dated, document_frame, edge_between, edge_key, ends_of,
+    object_frame, status_frame,
 };
-use sp_base::{Bytes, Flow, Memory, NodeId};
+use sp_base::{Bytes, Flow, Listed, Memory, NodeId};
 use sp_frame::Head;
 use sp_msg::Body;
 use sp_schedule_crafts::CraftedObject;
@@ -27,15 +31,20 @@ use sp_schedule_events::Scenario;
 use sp_world_steps::{Member, member_of};
 use std::alloc::Global;
 
-/// The version of the topology that all nodes run under.
-const VERSION: u32 = 1;
-
 /// What a crafted report says: its flow, its base, and what it has.
 #[derive(Clone, Copy, Debug)]
 pub struct CraftedReport {
     pub flow: Flow,
     pub base: u64,
     pub have: u64,
+}
+
+/// What a crafted document says: its version and its weights, or else the last ones, and whose key signs it, the administrator's where it is 0.
+#[derive(Clone, Copy, Debug)]
+pub struct CraftedVersion<'a> {
+    pub key: u8,
+    pub version: u32,
+    pub weights: &'a Option<Listed<u32>>,
 }
 
 /// A frame of `c` for `v` with one message, which is signed with the next index of this key, or that it has none left. The message names the boots
@@ -68,6 +77,52 @@ pub fn crafted(
         Crafted::Spent { total } => Ok(Came::Spent { total }),
     }
 }
+
+/// A frame of `c` for `v` with a document. The administrator signs one of any version with the index before it. Else it is signed with the next index of the
+/// key, or that has none left. Only want of memory refuses, and then the nodes and the frames are as before.
+#[tactic(auto, using(crate::proofs::Rules::crafted_documents))]
+pub fn document(
+    alloc: Global,
+    scenario: &Scenario,
+    home: &Home,
+    scene: &mut Scene,
+    c: NodeId,
+    v: NodeId,
+    what: CraftedVersion<'_>,
+) -> Result<Came, Memory>
+    requires home { IsHome scenario.now home.now }
+    requires can { CanCraft scenario.now scene.old.nodes c v }
+    requires document { CanCraftDocument scenario.now scene.old.published what.key what.version what.weights.now }
+    requires crafters { IsOf scenario.now scene.old }
+    ensures comes { IfOk result (λ came. Comes (setting_of scenario.now) (world_in scene.old)
+        (events.CraftDocument c v what.entry.key what.entry.version what.entry.weights.now) came) }
+    ensures scene { IfOk result (λ came. scene.new ≡ with_crafted scene.old
+        (crafted_by scene.old.crafters.keys (events.CraftDocument c v what.entry.key what.entry.version what.entry.weights.now) came)) }
+    ensures crafters { IsOf scenario.now scene.new }
+    ensures as_before { OnErr result ((scene.new.nodes ≡ scene.old.nodes) × (scene.new.directions ≡ scene.old.directions)) }
+{
+    let head = head_for(scenario, &scene.nodes, c, v);
+    let tag_key = key_for(scenario, c, v);
+    let weights = weights_of(what.weights, &scene.published);
+    if what.key == 0 {
+        let document = home.document(alloc, scenario, what.version, weights)?;
+        let bytes = document_frame(alloc, &head, &tag_key, document.as_slice())?;
+        return Ok(Came::Datagram(bytes));
+    }
+    let unsigned = home.unsigned(alloc, scenario, what.version, weights)?;
+    let key = NodeId(what.key);
+    match scene
+        .crafters
+        .craft_document(alloc, key, unsigned.as_slice())?
+    {
+        Crafted::Signed(document) => {
+            let bytes = document_frame(alloc, &head, &tag_key, document.as_slice())?;
+            Ok(Came::Datagram(bytes))
+        }
+        Crafted::Spent { total } => Ok(Came::Spent { total }),
+    }
+}
+
 /// The message that the object is, with the boots that `v` holds of its ends.
 #[tactic(auto, using(crate::proofs::Crafting::said_is))]
 fn said(alloc: Global, nodes: &[Member], v: NodeId, object: &CraftedObject) -> Result<Body, Memory>
@@ -119,7 +174,7 @@ pub fn status(
 /// The head of the next frame of `c` for `v`.
 #[tactic(auto, using(crate::proofs::Crafting::head_is))]
 fn head_for(scenario: &Scenario, nodes: &[Member], c: NodeId, v: NodeId) -> Head
-    requires { IsAtFirst scenario.now.format nodes.now v }
+    requires { IsOfFormat scenario.now.format nodes.now v }
     ensures head { (n : NodeState) → node_in nodes.now v ≡ There n → result ≡ crafted_head n c }
     ensures format { result.format ≡ scenario.now.format }
 {
@@ -127,7 +182,14 @@ fn head_for(scenario: &Scenario, nodes: &[Member], c: NodeId, v: NodeId) -> Head
         unreachable!()
     };
     let (_, counter) = member.node().kept_pair(c);
-    crafted_head(c, v, member.boot(), counter, VERSION, scenario.format)
+    crafted_head(
+        c,
+        v,
+        member.boot(),
+        counter,
+        member.node().version(),
+        scenario.format,
+    )
 }
 
 /// The key of the edge between the two.

@@ -1,18 +1,22 @@
 // What starts of a scenario's nodes need. Each key is hashed once.
 ghost use Rattle.std.specs.Prelude.{◌≡◌, ◌≤◌, ◌∷◌, ◌++◌, [], IfOk, IsTrue, OnOk, false, length, map};
 ghost use Rattle.sp_base.specs.declared.limits.TheConstants.{MAX_EDGES_2};
-ghost use Rattle.sp_hss.specs.KeyTree.{signature_len, total};
+ghost use Rattle.sp_adversary.specs.Documents.{administrator_of, version_by};
+ghost use Rattle.sp_hss.specs.KeyTree.{total};
 ghost use Rattle.sp_rules.specs.Node.{start_effects};
 ghost use Rattle.laws_runs_format.specs.Arts.{arts_of};
-ghost use Rattle.sp_runs.specs.Scenarios.{IsHeader, edge_key, node_seed, setting_of, topology_of};
+ghost use Rattle.sp_runs.specs.Scenarios.{IsHeader, document_of, edge_key, node_seed, setting_of, unsigned_of};
 ghost use Rattle.sp_runs.specs.Settings.{fixed_at, is_correct, node_at_start};
 ghost use Rattle.sp_runs.specs.Worlds.{at_start};
 ghost use Rattle.sp_sign.specs.Heights.{param_of};
+ghost use Rattle.sp_rules.specs.Topologies.{weights_in};
 ghost use Rattle.sp_topology.specs.Neighbours.{neighbours_from};
+ghost use Rattle.sp_topology.specs.Ranges.{IsTopology};
+ghost use Rattle.sp_world.specs.Documents.{CanSign};
 ghost use Rattle.sp_world.specs.Boots.{CanStart, IsHome, config_of, first_of, own_signer, seed_key};
 
-use sp_adversary::{edge_key, node_seed};
-use sp_base::{EdgeId, Listed, Memory, NodeId, push};
+use sp_adversary::{Administrator, edge_key, node_seed};
+use sp_base::{Bytes, EdgeId, Listed, Memory, NodeId, push};
 use sp_epoch::Started;
 use sp_forgery::is_correct;
 use sp_hss::{LmsParam, SeedKey, Signer};
@@ -20,29 +24,20 @@ use sp_node::{Node, NodeConfig};
 use sp_rules::Step;
 use sp_schedule_events::Scenario;
 use sp_sign::{NodeSigner, param_of};
-use sp_topology::{Edge, LmsHeight, NodeKey, Topology};
+use sp_topology::{Edge, LmsHeight, NodeKey};
 use sp_world_steps::Member;
 use std::alloc::Global;
 use std::marker::Model;
 
-/// The version of the topology that all nodes run under.
-const VERSION: u32 = 1;
+/// The version that each start begins with.
+const FIRST_VERSION: u32 = 1;
 
-/// The bytes of a signature of this height.
-pub fn signature_len(height: LmsHeight) -> usize
-    ensures { result ≡ signature_len (param_of height) }
-{
-    match height {
-        LmsHeight::Five => 4_756,
-        LmsHeight::Ten => 5_076,
-    }
-}
-
-/// The public keys of nodes 1 to N, and the keys of their seeds.
+/// The keys of the seeds of nodes 1 to N, the administrator, and the document of the first version.
 #[derive(Drop)]
 pub struct Home {
-    keys: Vec<NodeKey>,
     seeds: Vec<SeedKey>,
+    administrator: Administrator,
+    document: Bytes,
 }
 
 impl Model for Home {
@@ -50,12 +45,14 @@ impl Model for Home {
 
     ghost Value = { boots.Home };
 
-    ghost view = { λ h. record { keys = h.keys.items; seeds = h.seeds.items } };
+    ghost view = { λ h. record { seeds = h.seeds.items; administrator = h.administrator; document = h.document } };
 }
 
 impl Home {
-    /// What starts of this scenario's nodes need. It costs a tree for each node. Only want of memory refuses.
+    /// What starts of this scenario's nodes need. It costs a tree for each node and two for the administrator. Only want of memory refuses.
+    #[tactic(auto, using(crate::proofs::Booting::first_most, crate::proofs::Booting::first_is_signed))]
     pub fn make(alloc: Global, scenario: &Scenario) -> Result<Home, Memory>
+        requires { IsHeader scenario.now }
         ensures { IfOk result (IsHome scenario.now) }
     {
         let mut keys = Vec::new(alloc);
@@ -68,7 +65,14 @@ impl Home {
             push(&mut seeds, seed)?;
             push(&mut keys, NodeKey { id, key })?;
         }
-        Ok(Home { keys, seeds })
+        let administrator = Administrator::new(alloc, scenario, &keys)?;
+        let weights = weights_in(alloc, scenario.graph.edges.as_slice())?;
+        let document = administrator.document(alloc, FIRST_VERSION, &weights)?;
+        Ok(Home {
+            seeds,
+            administrator,
+            document,
+        })
     }
 
     /// A correct node as it starts with this boot and these indexes, and what its start causes. Only want of memory refuses.
@@ -89,7 +93,7 @@ impl Home {
             ≡ start_effects (arts_of (setting_of scenario.now)) (fixed_at (setting_of scenario.now) u start.boot)) }
     {
         let signer = self.signer(alloc, scenario, u, start)?;
-        let config = config_of(alloc, scenario, &self.keys, u)?;
+        let config = self.config(alloc, scenario, u)?;
         match Node::boot(alloc, config, signer, start.boot) {
             Ok(Step { reply, effects }) => Ok(Step {
                 reply: Member::new(u, start.boot, reply),
@@ -118,6 +122,57 @@ impl Home {
             Ok(signer) => Ok(NodeSigner::new(u, signer)),
             Err(_) => Err(Memory),
         }
+    }
+
+    /// The node as it is configured.
+    #[tactic(auto, using(crate::proofs::Booting::few_edges))]
+    fn config(&self, alloc: Global, scenario: &Scenario, me: NodeId) -> Result<NodeConfig, Memory>
+        requires header { IsHeader scenario.now }
+        requires home { IsHome scenario.now self.now }
+        ensures { IfOk result (λ config. config ≡ config_of scenario.now me) }
+    {
+        let edges = scenario.graph.edges.as_slice();
+        Ok(NodeConfig {
+            me,
+            topology: self.administrator.topology(alloc)?,
+            document: Bytes::copy(alloc, self.document.as_slice())?,
+            limits: scenario.limits,
+            keys: Listed::from_vec(edge_keys(alloc, &scenario.seed, edges, me)?),
+            admin: self.administrator.public(),
+            epochs: scenario.epochs,
+        })
+    }
+
+    /// The document of a version with these weights.
+    #[tactic(auto, using(crate::proofs::Booting::can_sign, crate::proofs::Booting::is_signed))]
+    pub fn document(
+        &self,
+        alloc: Global,
+        _scenario: &Scenario,
+        version: u32,
+        weights: &[u32],
+    ) -> Result<Bytes, Memory>
+        requires home { IsHome _scenario.now self.now }
+        requires can { CanSign _scenario.now version weights.now }
+        ensures { IfOk result (λ bytes. bytes ≡ document_of _scenario.now version weights.now) }
+    {
+        self.administrator.document(alloc, version, weights)
+    }
+
+    /// What is signed of it.
+    #[tactic(auto, using(crate::proofs::Booting::can_write, crate::proofs::Booting::is_written))]
+    pub fn unsigned(
+        &self,
+        alloc: Global,
+        _scenario: &Scenario,
+        version: u32,
+        weights: &[u32],
+    ) -> Result<Bytes, Memory>
+        requires home { IsHome _scenario.now self.now }
+        requires can { IsTopology (version_by (administrator_of _scenario.now) version weights.now) }
+        ensures { IfOk result (λ bytes. bytes ≡ unsigned_of _scenario.now version weights.now) }
+    {
+        self.administrator.unsigned(alloc, version, weights)
     }
 
     /// The key of a correct node's seed.
@@ -201,32 +256,12 @@ fn seed_key(
     }
 }
 
-/// The node as it is configured.
-#[tactic(auto, using(crate::proofs::Booting::few_edges))]
-fn config_of(
-    alloc: Global,
-    scenario: &Scenario,
-    keys: &[NodeKey],
-    me: NodeId,
-) -> Result<NodeConfig, Memory>
-    requires header { IsHeader scenario.now }
-    requires keys { keys.now ≡ (topology_of scenario.now).nodes }
-    ensures { IfOk result (λ config. config ≡ config_of scenario.now me) }
+/// The weight of each edge.
+fn weights_in(alloc: Global, edges: &[Edge]) -> Result<Vec<u32>, Memory>
+    ensures { IfOk result (λ weights. weights.items ≡ weights_in edges.now) }
 {
-    let edges = scenario.graph.edges.as_slice();
-    Ok(NodeConfig {
-        me,
-        topology: Topology {
-            format: scenario.format,
-            version: VERSION,
-            height: scenario.height,
-            nodes: Listed::from_vec(Vec::from_slice(alloc, keys)?),
-            edges: Listed::from_vec(Vec::from_slice(alloc, edges)?),
-        },
-        limits: scenario.limits,
-        keys: Listed::from_vec(edge_keys(alloc, &scenario.seed, edges, me)?),
-        epochs: scenario.epochs,
-    })
+    let weights = edges.iter().map(|edge| edge.weight).collect(alloc)?;
+    Ok(weights)
 }
 
 /// The edges of a node with their keys.

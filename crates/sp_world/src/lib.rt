@@ -8,6 +8,7 @@ mod acts;
 mod arrivals;
 mod bytes;
 mod crafts;
+mod documents;
 mod home;
 mod lives;
 mod refused;

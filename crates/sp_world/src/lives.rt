@@ -1,5 +1,5 @@
 // What runs with epochs have beside the steps of nodes: a node reserves indexes before it acts, starts and stops; and what comes to nobody.
-ghost use Rattle.std.specs.Prelude.{◌≡◌, true, IfOk, OnErr};
+ghost use Rattle.std.specs.Prelude.{◌≡◌, ◌+◌, ◌<◌, ◌^◌, true, IfOk, OnErr};
 ghost use Rattle.laws_runs_format.specs.Arts.{arts_of};
 ghost use Rattle.sp_schedule_events.specs.declared.event.Event as event;
 ghost use Rattle.sp_runs.specs.Inputs.{acting};
@@ -16,7 +16,7 @@ use sp_epoch::EpochRefused;
 use sp_journal::{Entry, Reply};
 use sp_node_words::{quiet, told};
 use sp_rules::Step;
-use sp_schedule_events::{Event, Scenario};
+use sp_schedule_events::{Event, Scenario, add_list, list_in};
 use sp_world_steps::{forget, member_of, reserve};
 use std::alloc::Global;
 
@@ -100,16 +100,22 @@ fn reserve_for(scenario: &Scenario, scene: &mut Scene, u: NodeId)
     }
 }
 
-/// An event comes to nobody. A poll still counts in the numbers of its direction. After want of memory nothing has changed.
-#[tactic(auto, using(crate::proofs::Starting::poll_is_down))]
+/// An event comes to nobody. A poll still counts in the numbers of its direction, and what is published takes its version. After want of memory nothing has
+/// changed.
+#[tactic(auto, using(crate::proofs::Starting::poll_is_down, crate::proofs::Starting::other_is_down))]
 pub fn miss(alloc: Global, scene: &mut Scene, event: &Event) -> Result<Entry, Memory>
     requires nobody { comes_to_nobody (world_in scene.old) event.now ≡ true }
+    requires few { scene.old.published.version + 1 < 2 ^ 32 }
     ensures down { IfOk result (λ entry. IsDown (world_in scene.old) event.now entry (world_in scene.new)) }
     ensures crafters { scene.new.crafters ≡ scene.old.crafters }
     ensures as_before { OnErr result (scene.new ≡ scene.old) }
 {
-    if let Event::Poll { u, v } = event {
-        scene.directions.miss(alloc, *u, *v)?;
+    match event {
+        Event::Poll { u, v } => scene.directions.miss(alloc, *u, *v)?,
+        _ => {
+            let list = list_in(alloc, event)?;
+            add_list(&mut scene.published, list);
+        }
     }
     Ok(quiet(alloc, Reply::Down))
 }

@@ -7,17 +7,18 @@ ghost use Rattle.sp_world.specs.Scenes.{world_in};
 
 use sp_adversary::Crafters;
 use sp_epoch::KeyStates;
-use sp_schedule_events::Event;
+use sp_schedule_events::{Event, Published};
 use sp_world_steps::{Directions, Member, member_of};
 use std::marker::Model;
 
-/// The key files of all nodes, the correct nodes that run, all frames, and the signers for crafted objects.
+/// The key files of all nodes, the correct nodes that run, all frames, the signers for crafted objects, and the last version that was published.
 #[derive(Drop)]
 pub struct Scene {
     pub keys: KeyStates,
     pub nodes: Vec<Member>,
     pub directions: Directions,
     pub crafters: Crafters,
+    pub published: Published,
 }
 
 impl Model for Scene {
@@ -25,7 +26,7 @@ impl Model for Scene {
 
     ghost Value = { scenes.Scene };
 
-    ghost view = { λ c. record { keys = c.keys; nodes = c.nodes.items; directions = c.directions; crafters = c.crafters } };
+    ghost view = { λ c. record { keys = c.keys; nodes = c.nodes.items; directions = c.directions; crafters = c.crafters; published = c.published } };
 }
 
 impl Scene {

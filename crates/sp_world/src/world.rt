@@ -10,15 +10,15 @@ ghost use Rattle.sp_world.specs.Past.{GoesOn, IsPast, IsRefused, at_first};
 
 use crate::WorldRefused;
 use crate::acts::{Done, act};
-use crate::home::{Home, signature_len};
+use crate::home::Home;
 use crate::scene::Scene;
-use sp_adversary::Crafters;
+use sp_adversary::{Crafters, signature_len};
 use sp_base::{Memory, NodeId, push_in_room};
 use sp_epoch::KeyStates;
 use sp_forgery::{Hints, Known};
 use sp_journal::Entry;
 use sp_node::Node;
-use sp_schedule_events::{Event, Scenario};
+use sp_schedule_events::{Event, Scenario, none_published};
 use sp_world_steps::{Directions, member_of};
 use std::alloc::Global;
 use std::marker::Model;
@@ -198,6 +198,7 @@ fn first_scene(alloc: Global, scenario: &Scenario, home: &Home) -> Result<Scene,
         nodes,
         directions: Directions::new(alloc),
         crafters: Crafters::new(alloc, scenario),
+        published: none_published(),
     })
 }
 

@@ -50,8 +50,10 @@ found_any (m ∷ nodes) u n is = go (is_me u m) refl (found_any nodes u n) is
 no_place : (nodes : List NodeState) (u : NodeId) (n : NodeState) → node_in nodes u ≡ Some n → position (is_me u) nodes ≡ None → ⊥
 no_place nodes u n is none = let place = place_of_any (is_me u) nodes (found_any nodes u n is) in let same : Some place.0 ≡ None = sym place.1 ∙ none in cc
 
-pub asked_has_place : (nodes : List NodeState) (u : NodeId) (event : Event) → CanAsk nodes event → u ≡ acting event → position (is_me u) nodes ≡ None → ⊥
-asked_has_place nodes u event can acts none = no_place nodes (acting event) can.node can.is_there (subst (λ (v : NodeId). position (is_me v) nodes ≡ None) acts none)
+pub asked_has_place : (nodes : List NodeState) (u : NodeId) (event : Event) (document : List ℕ) → CanAsk nodes event document → u ≡ acting event
+    → position (is_me u) nodes ≡ None → ⊥
+asked_has_place nodes u event document can acts none =
+    no_place nodes (acting event) can.node can.is_there (subst (λ (v : NodeId). position (is_me v) nodes ≡ None) acts none)
 
 pub called_has_place : (nodes : List NodeState) (u v : NodeId) → CanCall nodes u v → position (is_me u) nodes ≡ None → ⊥
 called_has_place nodes u v can none = no_place nodes u can.node can.is_there none
@@ -73,10 +75,10 @@ set_at nodes u place new at = sym (replace_where-position (is_me u) new nodes pl
 pub same_among : (nodes : List NodeState) (place : ℕ) (old new : NodeState) → old ≡ get_or nodes place old → new ≡ old → set nodes place new ≡ nodes
 same_among nodes place old new is same = ap (set nodes place) (same ∙ is) ∙ set-get_or nodes place old
 
-pub asked_at : (nodes : List NodeState) (u : NodeId) (place : ℕ) (event : Event) (entry : Entry) (old new : NodeState)
-    → u ≡ acting event → position (is_me u) nodes ≡ Some place → old ≡ get_or nodes place old → GaveAnswer old event entry new
-    → AskedAmong nodes event entry (set nodes place new)
-asked_at nodes u place event entry old new acts at is gave = record {
+pub asked_at : (nodes : List NodeState) (u : NodeId) (place : ℕ) (event : Event) (document : List ℕ) (entry : Entry) (old new : NodeState)
+    → u ≡ acting event → position (is_me u) nodes ≡ Some place → old ≡ get_or nodes place old → GaveAnswer old event document entry new
+    → AskedAmong nodes event document entry (set nodes place new)
+asked_at nodes u place event document entry old new acts at is gave = record {
   old = old;
   new = new;
   is_there = rw (← acts) (found_at nodes u place old at is);
@@ -106,11 +108,11 @@ heard_at nodes u v place bytes step old new at is took = record {
   nodes_are = set_at nodes v place new at;
 }
 
-pub may_ask_at : (nodes : List NodeState) (u : NodeId) (place : ℕ) (event : Event) (old : NodeState) → CanAsk nodes event → u ≡ acting event
-    → position (is_me u) nodes ≡ Some place → old ≡ get_or nodes place old → MayAsk old event
-may_ask_at nodes u place event old can acts at is =
+pub may_ask_at : (nodes : List NodeState) (u : NodeId) (place : ℕ) (event : Event) (document : List ℕ) (old : NodeState) → CanAsk nodes event document
+    → u ≡ acting event → position (is_me u) nodes ≡ Some place → old ≡ get_or nodes place old → MayAsk old event document
+may_ask_at nodes u place event document old can acts at is =
     let there : node_in nodes (acting event) ≡ Some old = subst (λ (v : NodeId). node_in nodes v ≡ Some old) acts (found_at nodes u place old at is) in
-    subst (λ (n : NodeState). MayAsk n event) (same_Some can.node old (sym can.is_there ∙ there)) can.may
+    subst (λ (n : NodeState). MayAsk n event document) (same_Some can.node old (sym can.is_there ∙ there)) can.may
 
 -- the node there answers
 pub answers_at : (nodes : List NodeState) (u v : NodeId) (place : ℕ) (old : NodeState) → CanCall nodes u v

@@ -21,12 +21,16 @@ use Rattle.sp_frame.specs.declared.kind.Kind.TheVariants as kinds
 use Rattle.sp_frame.specs.declared.refused.SectionRefused.{SectionRefused}
 use Rattle.sp_msg.specs.Bodies.{HasGoodFieldsIn}
 use Rattle.sp_msg.specs.declared.kept.Kept.{Kept}
+use Rattle.sp_node.proofs.Arrived.{none_beside}
 use Rattle.sp_node_format.specs.Format.{format_in, format_of}
-use Rattle.sp_rules.specs.Arrivals.{arrival_at, handled, parts_met, pieces_in, pieces_where, reply_at, sections_in}
+use Rattle.sp_rules.specs.Arrivals.{arrival_at, before_document, document_at, handled, heeded, parts_met, pieces_beside, pieces_in, pieces_where, reply_at}
+use Rattle.sp_rules.specs.Arrivals.{sections_in}
+use Rattle.sp_rules.specs.Arts.{Arts}
+use Rattle.sp_rules.specs.Handle.{handle_all}
 use Rattle.sp_rules.specs.Node.{NodeState, call_refusal}
 use Rattle.sp_rules.specs.Parts.{Fixed}
 use Rattle.sp_rules.specs.Pieces.{AckPiece, EpochPiece, Piece, PrioAckPiece, RelPiece, WeightPiece, pieces_of, prio_piece, slot_pieces}
-use Rattle.sp_rules.specs.Steps.{Arrived, Output, Reply, arrived, refused_call}
+use Rattle.sp_rules.specs.Steps.{Arrived, Output, Reply, arrived, document_items, refused_call}
 use Rattle.sp_rules.specs.declared.answers.Item.{Item}
 use Rattle.sp_rules.specs.declared.node.LinkReply.{LinkReply}
 use Rattle.sp_rules.specs.declared.node.LinkReply.TheVariants as replies
@@ -149,10 +153,17 @@ heeded_are format len false s is = contents_are format len s None is tt
 part_are : (bytes : List ℕ) → AreBytes bytes → AreBytes (sections_part bytes)
 part_are bytes are = All-drop (λ (b : ℕ). b < 256) 33 (tagged_part bytes) (All-take (λ (b : ℕ). b < 256) (length bytes - 32) bytes are)
 
+-- also where none of them is handled beside a document
+beside_are : (format : ℕ) (document : Option (List ℕ)) (pieces : List Piece) → AreObjects format (objects_in pieces)
+    → AreObjects format (objects_in (pieces_beside document pieces))
+beside_are format None pieces h = h
+beside_are format (Some document) pieces h = none_are format
+
 sections_are : (format len : ℕ) (f : Fixed) (bytes : List ℕ) (r : Result Contents SectionRefused) → AreBytes bytes
     → sections_of_in format len (sections_part bytes) ≡ r → AreObjects format (objects_in (pieces_in f r))
 sections_are format len f bytes (Ok s) are is =
-    heeded_are format len f.epochs s (read_is_spelled format len (sections_part bytes) s (part_are bytes are) is).1
+    beside_are format s.document (pieces_of (heeded f s))
+    (heeded_are format len f.epochs s (read_is_spelled format len (sections_part bytes) s (part_are bytes are) is).1)
 sections_are format len f bytes (Err refused) are is = none_are format
 
 where_are : (format : ℕ) (pieces : List Piece) (reply : LinkReply) → AreObjects format (objects_in pieces)
@@ -168,6 +179,7 @@ where_are format pieces (replies.Learned boot) h = none_are format
 where_are format pieces (replies.Stale boot counter) h = none_are format
 where_are format pieces (replies.OtherTopology theirs) h = none_are format
 where_are format pieces (replies.Section refused) h = none_are format
+where_are format pieces replies.Withdrawn h = none_are format
 
 pub handled_are : (format : ℕ) (n : NodeState) (u : NodeId) (bytes : List ℕ) → AreBytes bytes
     → AreObjects format (map (λ a. a.0) (handled (format_in format) n u bytes).answered)
@@ -186,17 +198,38 @@ items_in _ = []
 
 items_are : (n new : NodeState) (u : NodeId) (bytes : List ℕ) (step : Step Taken) → call_refusal n u ≡ None → GaveTaken n u bytes step new
     → step.reply.items ≡ map (λ a. a.1) (handled (format_of n.fixed) n u bytes).answered
+    ++ document_items (format_of n.fixed) (before_document (format_of n.fixed) n u bytes) (document_at (format_of n.fixed) n u bytes)
 items_are n new u bytes step called gave = ap (λ (o : Output). items_in o.reply) (gave.0 ∙ ap (λ r. refused_call r (arrived (format_of n.fixed) n u bytes)) called)
 
 pub few_items : (n new : NodeState) (u : NodeId) (bytes : List ℕ) (step : Step Taken) → AreBytes bytes → call_refusal n u ≡ None → GaveTaken n u bytes step new
     → length step.reply.items ≤ MOST_OBJECTS
-few_items n new u bytes step are called gave =
-    let answered = (handled (format_of n.fixed) n u bytes).answered in
-    let few = (handled_are n.fixed.topology.format n u bytes are).few in
-    omega (
-      arith,
-      ap (λ (is : List Item). length is) (items_are n new u bytes step called gave),
-      few,
-      length-map answered (λ (a : Kept × Item). a.1),
-      length-map answered (λ (a : Kept × Item). a.0),
-    )
+few_items n new u bytes step are called gave = go (document_at arts n u bytes) refl
+  where
+    arts : Arts
+    arts = format_of n.fixed
+
+    answered : List (Kept × Item)
+    answered = (handled arts n u bytes).answered
+
+    go : (o : Option (List ℕ)) → document_at arts n u bytes ≡ o → length step.reply.items ≤ MOST_OBJECTS
+    go None is =
+        let few = (handled_are n.fixed.topology.format n u bytes are).few in
+        omega (
+          arith,
+          ap (λ (is : List Item). length is) (items_are n new u bytes step called gave),
+          ap (λ (d : Option (List ℕ)). length (map (λ (a : Kept × Item). a.1) answered ++ document_items arts (before_document arts n u bytes) d)) is,
+          length-append (map (λ (a : Kept × Item). a.1) answered) [],
+          few,
+          length-map answered (λ (a : Kept × Item). a.1),
+          length-map answered (λ (a : Kept × Item). a.0),
+        )
+    go (Some d) is =
+        let none = none_beside n.fixed (reply_at arts n u bytes) (sections_in arts n.fixed bytes) d is in
+        omega (
+          arith,
+          ap (λ (is : List Item). length is) (items_are n new u bytes step called gave),
+          ap (λ (o : Option (List ℕ)). length (map (λ (a : Kept × Item). a.1) answered ++ document_items arts (before_document arts n u bytes) o)) is,
+          length-append (map (λ (a : Kept × Item). a.1) answered) (document_items arts (before_document arts n u bytes) (Some d)),
+          length-map answered (λ (a : Kept × Item). a.1),
+          ap (λ (ps : List Piece). length (handle_all arts (arrival_at n u) (parts_met arts n u bytes) ps).answered) none,
+        )

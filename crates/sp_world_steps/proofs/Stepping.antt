@@ -6,19 +6,20 @@ use Rattle.sp_journal.specs.declared.entry.Entry.{Entry}
 use Rattle.sp_msg.specs.declared.effect.Why.TheVariants.{Taken as TakenAway}
 use Rattle.sp_msg.specs.declared.refused.SendRefused.{SendRefused}
 use Rattle.sp_msg.specs.declared.refused.SendRefused.TheVariants as sends
-use Rattle.sp_node.specs.Calls.{Datagrams, Polls, TakesPrio, Ticks}
+use Rattle.sp_node.specs.Calls.{Datagrams, Polls, Publishes, TakesPrio, Ticks, published}
 use Rattle.sp_node_format.specs.Format.{format_of}
 use Rattle.sp_node_state.specs.Sends.{Sends}
 use Rattle.sp_rules.specs.Node.{NodeState, call_refusal}
 use Rattle.sp_rules.specs.Polls.{frame_to}
 use Rattle.sp_rules.specs.PrioPeer.{gone}
-use Rattle.sp_rules.specs.Steps.{Frame, Input, Message, NodeStep, Output, Refused, TakePrio, arrived, refused_call, replied}
+use Rattle.sp_rules.specs.Steps.{Frame, Input, Message, NodeStep, Output, Publish, Refused, TakePrio, arrived, refused_call, replied}
+use Rattle.sp_rules.specs.declared.answers.DocumentAnswer.{DocumentAnswer}
 use Rattle.sp_rules.specs.declared.node.NodeRefused.{NodeRefused}
 use Rattle.sp_rules.specs.declared.node.NodeRefused.TheVariants as calls
 use Rattle.sp_rules.specs.declared.node.Step.{Step}
 use Rattle.sp_rules.specs.declared.store.Entry.{Entry as Stored}
 use Rattle.sp_node_words.specs.Words.{refused_word}
-use Rattle.sp_runs.specs.Journals.{body_word}
+use Rattle.sp_runs.specs.Journals.{body_word, replaced_word}
 use Rattle.sp_world_steps.specs.Gave.{Gave, HasWords}
 
 -- after want of memory a node is as before
@@ -46,6 +47,7 @@ refused_gave input old new refused entry step word effects = record {
   step = step;
   tells = λ s. record { reply = word; effects = effects };
   no_object = refl;
+  none_adopted = refl;
 }
 
 pub gave_by_send : (input : Input) (refusal : Option SendRefused) (old new : NodeState) (refused : SendRefused) (entry : Entry)
@@ -78,8 +80,16 @@ memory_by_datagram old u bytes new calls.Memory called gave = gave.1
 pub memory_by_tick : (old : NodeState) (now : ℕ) (new : NodeState) (refused : NodeRefused) → Ticks old now (Err refused) new → new ≡ old
 memory_by_tick old now new refused gave = gave.1
 
+pub memory_by_publish : (old : NodeState) (document : List ℕ) (new : NodeState) (refused : NodeRefused) → Publishes old document (Err refused) new → new ≡ old
+memory_by_publish old document new refused gave = gave.1
+
+-- the answer to a document has its word
+pub words_by_publish : (old : NodeState) (document : List ℕ) (step : Step DocumentAnswer) (new : NodeState) → HasWords old (Publish document)
+    → Publishes old document (Ok step) new → replaced_word step.reply ≡ None → ⊥
+words_by_publish old document step new has gave = has.words (published step) new gave
+
 -- what is taken of a priority inbox is a priority message
 pub words_by_take_prio : (old : NodeState) (entry : Stored) (new : NodeState) → HasWords old TakePrio → TakesPrio old (Some entry) new
     → body_word entry.kept.body ≡ None → ⊥
 words_by_take_prio old entry new has gave =
-    has.words (record { reply = Message (Some entry); effects = gone 0 TakenAway (Some entry); answered = [] }) new gave
+    has.words (record { reply = Message (Some entry); effects = gone 0 TakenAway (Some entry); answered = []; adopted = None }) new gave

@@ -3,9 +3,9 @@ use Rattle.std.specs.Prelude.{ℕ, ◌≡◌, List, [], None}
 use Rattle.sp_base.specs.declared.id.NodeId.{NodeId}
 use Rattle.sp_journal.specs.declared.entry.Entry.{Entry}
 use Rattle.sp_node_format.specs.Format.{format_of}
-use Rattle.sp_rules.specs.Arrivals.{handled}
+use Rattle.sp_node.specs.Calls.{taken_in}
 use Rattle.sp_rules.specs.Node.{NodeState}
-use Rattle.sp_rules.specs.Steps.{Arrived, Datagram, Input, NodeStep, Output}
+use Rattle.sp_rules.specs.Steps.{Datagram, Input, NodeStep, Output}
 use Rattle.sp_rules.specs.declared.node.Step.{Step}
 use Rattle.sp_rules.specs.declared.node.Taken.{Taken}
 use Rattle.sp_runs.specs.Journals.{Says, reply_word}
@@ -22,17 +22,17 @@ pub record HasWords (n : NodeState) (input : Input) : Type 0 where
 abbrev pub Tells : ℕ → Output → Entry → Type 0
 Tells number output entry = (s : Scenario) → Says (setting_of s) number output entry
 
--- a call that no object came with: a step of the node, and its entry
+-- a call that no frame came with: a step of the node, and its entry
 pub record Gave (old : NodeState) (input : Input) (entry : Entry) (new : NodeState) : Type 0 where
   pub output : Output
   pub step : NodeStep (format_of old.fixed) old input output new
   pub tells : Tells 0 output entry
   pub no_object : output.answered ≡ []
+  pub none_adopted : output.adopted ≡ None
 
 -- the output of an arrival
 abbrev pub taken : NodeState → NodeId → List ℕ → Step Taken → Output
-taken old u bytes step =
-    record { reply = Arrived step.reply.link step.reply.items; effects = step.effects.list; answered = (handled (format_of old.fixed) old u bytes).answered }
+taken old u bytes step = taken_in old u bytes step
 
 -- an arrival: a step of the node
 abbrev pub GaveTaken : NodeState → NodeId → List ℕ → Step Taken → NodeState → Type 0

@@ -22,10 +22,10 @@ pub record IsMember (n : NodeState) (id : NodeId) (boot : ℕ) : Type 0 where
 -- ---- before
 
 -- the node that acts is there, and this may be asked of it
-pub record CanAsk (nodes : List NodeState) (event : Event) : Type 0 where
+pub record CanAsk (nodes : List NodeState) (event : Event) (document : List ℕ) : Type 0 where
   pub node : NodeState
   pub is_there : node_in nodes (acting event) ≡ Some node
-  pub may : MayAsk node event
+  pub may : MayAsk node event document
 
 -- the node is there, answers this neighbour, and its signatures are those of this format
 pub record CanCall (nodes : List NodeState) (u neighbour : NodeId) : Type 0 where
@@ -44,11 +44,11 @@ pub record CanReserve (nodes : List NodeState) (u : NodeId) (upto : ℕ) : Type 
 -- ---- after. All other nodes stay as they are
 
 -- something was asked of the node that acts
-pub record AskedAmong (nodes : List NodeState) (event : Event) (entry : Entry) (after : List NodeState) : Type 0 where
+pub record AskedAmong (nodes : List NodeState) (event : Event) (document : List ℕ) (entry : Entry) (after : List NodeState) : Type 0 where
   pub old : NodeState
   pub new : NodeState
   pub is_there : node_in nodes (acting event) ≡ Some old
-  pub gave : GaveAnswer old event entry new
+  pub gave : GaveAnswer old event document entry new
   pub nodes_are : after ≡ with_node nodes (acting event) new
 
 -- u made its next frame for v

@@ -7,12 +7,14 @@ use Rattle.sp_node_format.specs.Format.{format_of}
 use Rattle.sp_rules.specs.Node.{NodeState}
 use Rattle.sp_rules.specs.Steps.{Frame, NodeStep, Poll, replied}
 use Rattle.sp_runs.specs.Worlds.{Crafted, Direction, World, frames_in, node_in, with_frame, with_node}
+use Rattle.sp_schedule_events.specs.declared.published.Published.{Published}
 use Rattle.sp_world_steps.specs.Gave.{Tells}
 use Rattle.sp_world_steps.specs.Members.{PolledAmong}
 
--- the key files, the nodes, the frames, and what was crafted
-abbrev pub world_of : List Numbers → List NodeState → List Direction → List Crafted → World
-world_of keys nodes directions crafted = record { keys = keys; nodes = nodes; directions = directions; crafted = crafted }
+-- the key files, the nodes, the frames, and what was crafted and published
+abbrev pub world_of : List Numbers → List NodeState → List Direction → List Crafted → Published → World
+world_of keys nodes directions crafted published =
+    record { keys = keys; nodes = nodes; directions = directions; crafted = crafted; published = published }
 
 -- u made its next frame for v, which is told by its number after the places of this direction, and kept behind them
 pub record IsFramed (nodes : List NodeState) (u v : NodeId) (frames : List (Option (List ℕ))) (entry : Entry) (after : List NodeState)

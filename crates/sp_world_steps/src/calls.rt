@@ -1,5 +1,5 @@
 // Each call of a node, with the entry that tells it.
-ghost use Rattle.std.specs.Prelude.{◌≡◌, ◌≢◌, ◌≤◌, Err, IfErr, IfOk, None as Nothing, OnErr, Option, Some as There, length};
+ghost use Rattle.std.specs.Prelude.{◌≡◌, ◌≢◌, ◌≤◌, Err, IfErr, IfOk, None as Nothing, OnErr, Option, Some as There, length, true};
 ghost use Rattle.sp_base.specs.declared.limits.TheConstants.{MAX_PAYLOAD_BYTES, MAX_PRIORITY, MAX_WEIGHT};
 ghost use Rattle.sp_msg.specs.declared.refused.SendRefused as sends;
 ghost use Rattle.sp_frame.specs.declared.frame.TheConstants.{MAX_FRAME_BYTES};
@@ -9,9 +9,10 @@ ghost use Rattle.sp_node_state.specs.Sends.{Sends};
 ghost use Rattle.sp_paths.specs.declared.limits.TheConstants.{MAX_PATHS};
 ghost use Rattle.sp_rules.specs.Messages.{as_send};
 ghost use Rattle.sp_rules.specs.Node.{NodeState, call_refusal};
-ghost use Rattle.sp_rules.specs.Steps.{Frame, Input, NodeStep, Poll, SendPrio, SendRel, SetWeight, TakePrio, TakeRel, Tick, replied};
+ghost use Rattle.sp_rules.specs.Parts.{changes};
+ghost use Rattle.sp_rules.specs.Steps.{Frame, Input, NodeStep, Poll, Publish, SendPrio, SendRel, SetWeight, TakePrio, TakeRel, Tick, replied};
 ghost use Rattle.sp_node_words.specs.Words.{refused_word};
-ghost use Rattle.sp_runs.specs.Journals.{body_word};
+ghost use Rattle.sp_runs.specs.Journals.{body_word, replaced_word};
 ghost use Rattle.sp_frame.specs.declared.sections.TheConstants.{MOST_OBJECTS};
 ghost use Rattle.sp_world_steps.specs.Gave.{Gave, GaveTaken, HasWords};
 
@@ -20,7 +21,7 @@ use sp_journal::{Entry, Reply};
 use sp_msg::{Body, Effect, Kept, Prio, SendRefused, Why};
 use sp_node::Node;
 use sp_node_words::{quiet, refused_word, tick_word, told};
-use sp_rules::{PrioSend, Step, Taken};
+use sp_rules::{DocumentAnswer, PrioSend, Step, Taken};
 use std::alloc::Global;
 
 /// The entry of a send.
@@ -148,6 +149,33 @@ pub fn tick(alloc: Global, node: &mut Node, now: u64) -> Result<Entry, Memory>
     match node.tick(alloc, now) {
         Ok(Step { reply, effects }) => Ok(told(tick_word(reply), effects)),
         Err(_) => Err(Memory),
+    }
+}
+
+/// The administrator hands a document to the node.
+#[tactic(auto, using(sp_node::proofs::FixedStays::fixed_by_publish, crate::proofs::Stepping::memory_by_publish, crate::proofs::Stepping::words_by_publish))]
+pub fn publish(alloc: Global, node: &mut Node, document: &[u8]) -> Result<Entry, Memory>
+    requires format { changes node.old.state.fixed ≡ true }
+    requires words { HasWords node.old.state (Publish document.now) }
+    ensures gave { IfOk result (λ entry. Gave node.old.state (Publish document.now) entry node.new.state) }
+    ensures as_before { OnErr result (node.new.state ≡ node.old.state) }
+    ensures fixed { node.new.state.fixed ≡ node.old.state.fixed }
+{
+    match node.replace(alloc, document) {
+        Ok(Step { reply, effects }) => Ok(told(replaced_word(reply), effects)),
+        Err(_) => Err(Memory),
+    }
+}
+
+/// The words of the answer to a document that is handed to a node.
+fn replaced_word(answer: DocumentAnswer) -> Reply
+    requires { replaced_word answer ≡ Nothing → ⊥ }
+    ensures { replaced_word answer ≡ There result }
+{
+    match answer {
+        DocumentAnswer::Adopted { version } => Reply::Adopted { version },
+        DocumentAnswer::Old { .. } => Reply::DocumentOld,
+        _ => unreachable!(),
     }
 }
 

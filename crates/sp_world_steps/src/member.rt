@@ -11,7 +11,7 @@ ghost use Rattle.sp_runs.specs.Lives.{is_short};
 ghost use Rattle.sp_world_steps.specs.Asks.{GaveAnswer, MayAsk};
 ghost use Rattle.sp_world_steps.specs.Gave.{GaveTaken};
 
-use crate::calls::{datagram, poll, prio, rel, take, take_prio, tick, weight};
+use crate::calls::{datagram, poll, prio, publish, rel, take, take_prio, tick, weight};
 use sp_base::{Bytes, Memory, NodeId};
 use sp_journal::Entry;
 use sp_keystate::LEAST_LEFT;
@@ -95,14 +95,14 @@ impl Member {
         self.node.extend(upto);
     }
 
-    /// A client or the clock asks something.
-    pub fn ask(&mut self, alloc: Global, event: &Event) -> Result<Entry, Memory>
-        requires { MayAsk self.old event.now }
-        ensures answered { IfOk result (λ entry. GaveAnswer self.old event.now entry self.new) }
+    /// A client, the clock or the administrator asks something.
+    pub fn ask(&mut self, alloc: Global, event: &Event, document: &[u8]) -> Result<Entry, Memory>
+        requires { MayAsk self.old event.now document.now }
+        ensures answered { IfOk result (λ entry. GaveAnswer self.old event.now document.now entry self.new) }
         ensures as_before { OnErr result (self.new ≡ self.old) }
         ensures fixed { self.new.fixed ≡ self.old.fixed }
     {
-        call_for(alloc, &mut self.node, event)
+        call_for(alloc, &mut self.node, event, document)
     }
 
     /// The next frame to a neighbour.
@@ -134,10 +134,10 @@ impl Member {
     }
 }
 
-/// A client or the clock asks something of a node.
-fn call_for(alloc: Global, node: &mut Node, event: &Event) -> Result<Entry, Memory>
-    requires { MayAsk node.old.state event.now }
-    ensures answered { IfOk result (λ entry. GaveAnswer node.old.state event.now entry node.new.state) }
+/// A client, the clock or the administrator asks something of a node.
+fn call_for(alloc: Global, node: &mut Node, event: &Event, document: &[u8]) -> Result<Entry, Memory>
+    requires { MayAsk node.old.state event.now document.now }
+    ensures answered { IfOk result (λ entry. GaveAnswer node.old.state event.now document.now entry node.new.state) }
     ensures as_before { OnErr result (node.new.state ≡ node.old.state) }
     ensures fixed { node.new.state.fixed ≡ node.old.state.fixed }
 {
@@ -168,6 +168,7 @@ fn call_for(alloc: Global, node: &mut Node, event: &Event) -> Result<Entry, Memo
             weight: least,
             ..
         } => weight(alloc, node, *v, *least),
+        Event::Publish { .. } => publish(alloc, node, document),
         _ => unreachable!(),
     }
 }

@@ -34,24 +34,25 @@ pub fn member_of(nodes: &[Member], u: NodeId) -> Option<&Member>
     nodes.iter().find(|member| member.id().0 == u.0)
 }
 
-/// A client or the clock asks something of the node `u`, which acts.
+/// A client, the clock or the administrator asks something of the node `u`, which acts. A node that is handed a document is handed this one.
 #[tactic(auto, using(crate::proofs::Rules::asked))]
 pub fn ask(
     alloc: Global,
     nodes: &mut Vec<Member>,
     u: NodeId,
     event: &Event,
+    document: &[u8],
 ) -> Result<Entry, Memory>
     requires acts { u ≡ acting event.now }
-    requires can { CanAsk nodes.old.items event.now }
-    ensures asked { IfOk result (λ entry. AskedAmong nodes.old.items event.now entry nodes.new.items) }
+    requires can { CanAsk nodes.old.items event.now document.now }
+    ensures asked { IfOk result (λ entry. AskedAmong nodes.old.items event.now document.now entry nodes.new.items) }
     ensures as_before { OnErr result (nodes.new.items ≡ nodes.old.items) }
 {
     let Some(place) = place_of(nodes, u) else {
         unreachable!()
     };
     let member = &mut nodes[place];
-    member.ask(alloc, event)
+    member.ask(alloc, event, document)
 }
 
 /// The node `u` makes its next frame for its neighbour `v`.

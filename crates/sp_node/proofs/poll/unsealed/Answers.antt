@@ -1,41 +1,12 @@
-use Rattle.std.proofs.Common.{ℕ, ◌∙◌, None, sym, subst, ap, map}
-use Rattle.sp_frame.specs.Writing.{AreWritable}
-use Rattle.sp_frame.specs.declared.kind.Kind.TheVariants as kinds
-use Rattle.sp_frame.specs.declared.writing.OutSections.{OutSections}
-use Rattle.sp_rules.specs.Lives as lives
-use Rattle.sp_rules.specs.Parts.{Parts, place_of}
-use Rattle.sp_rules.specs.Polls.{as_message}
-use Rattle.sp_rules.specs.Prio.{next_prios}
-use Rattle.sp_rules.specs.Weights.{next}
-use Rattle.sp_node.proofs.Written.{writable_all, writable_later, writable_one, writable_slot}
+use Rattle.std.proofs.Common.{sym, ◌∙◌, subst}
+use Rattle.sp_frame.specs.Ranges.{IsContentsIn}
+use Rattle.sp_rules.specs.Node.{NodeState}
+use Rattle.sp_rules.specs.Polls.{contents_to}
+use Rattle.sp_node.proofs.Kept.{contents_kept}
 use Rattle.sp_node.proofs.poll.unsealed.Goals as goal
 
-pub write-requires : goal.write-requires
-write-requires c =
-    let format : ℕ = c.args.fixed.now.topology.format in
-    let len : ℕ = c.args.fixed.now.signature_len in
-    let sections : OutSections = record {
-      weight = c.next-weight.result;
-      prio_ack = c.heard_of.result;
-      prios = c.messages_for.result;
-      slot = c.slot_for.result;
-      paths = None;
-      probe = None;
-      epoch = c.next-epoch.result;
-    } in
-    subst (λ (format : ℕ). AreWritable format sections) (sym c.requires.format) (record {
-      weight = writable_one format c.next-weight.result _ kinds.Weight len
-          (c.next-weight.ensures
-          ∙ ap (λ (k : ℕ). next c.core.inside.weights k) c.place_of-at.ensures
-          ∙ ap (λ (p : Parts). next p.weights (place_of c.args.fixed.now c.args.v)) c.core.view_is)
-          c.requires.contents.weights;
-      prios = writable_all format c.messages_for.result _ len
-          (c.messages_for.ensures ∙ ap (λ (p : Parts). map as_message (next_prios p.prio c.args.v.0)) c.core.view_is) c.requires.contents.prios;
-      slot = writable_slot format c.slot_for.result _ len c.slot_for.ensures c.requires.contents.slot;
-      paths = tt;
-      epoch = writable_later format c.next-epoch.result _ kinds.Epoch len
-          (c.next-epoch.ensures
-          ∙ ap (λ (k : ℕ). lives.next c.core.inside.lives c.core.inside.origins k) c.place_of-at.ensures
-          ∙ ap (λ (p : Parts). lives.next p.lives p.origins (place_of c.args.fixed.now c.args.v)) c.core.view_is)
-          c.requires.contents.epoch;
-    })
+pub in_turn-requires-clause-contents : goal.in_turn-requires-clause-contents
+in_turn-requires-clause-contents c =
+    subst (λ (n : NodeState). IsContentsIn n.fixed.topology.format n.fixed.signature_len (contents_to n.fixed n.parts c.args.v)) (sym c.state.view_is)
+    (contents_kept c.args.state.now c.args.v c.requires.kept (sym c.is_behind.ensures ∙ c.if-is_behind.false)
+    (sym c.is_shut_to.ensures ∙ c.if-is_shut_to.false))

@@ -1,4 +1,5 @@
-use Rattle.std.proofs.Common.{◌≡◌, ◌≤◌, ◌∙◌, ℕ, true, sym, ap, subst}
+use Rattle.std.proofs.Common.{◌≡◌, ◌≤◌, ◌∙◌, ℕ, List, true, sym, ap, subst}
+use Rattle.std.specs.List.{All}
 use Rattle.sp_base.specs.declared.limits.TheConstants.{MAX_WEIGHT}
 use Rattle.sp_node_state.proofs.Ends.{ends_of}
 use Rattle.sp_node_state.proofs.InEffect.{effective_small}
@@ -24,7 +25,8 @@ pub choose-requires-clause-small : goal.choose-requires-clause-small
 choose-requires-clause-small c =
     let n = c.args.state.now in
     subst (λ (n : NodeState). (edge : ℕ) → effective n.parts.weights edge ≤ MAX_WEIGHT) (sym c.state.view_is)
-    (effective_small n.fixed.topology (sizes n) n.signer.index n.parts.weights c.requires.kept.fixed.topology.ranges (sym c.requires.kept.fixed.edges) c.requires.kept.parts.weights)
+    (effective_small (sizes n) n.signer.index n.parts.weights
+    (subst (λ (least : List ℕ). All (λ weight. weight ≤ MAX_WEIGHT) least) (sym c.requires.obeys.least) c.requires.kept.live.weights) c.requires.kept.parts.weights)
 
 pub choose-requires-clause-from : goal.choose-requires-clause-from
 choose-requires-clause-from c =

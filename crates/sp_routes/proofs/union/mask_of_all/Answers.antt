@@ -7,15 +7,10 @@ use Rattle.sp_rules.specs.Masks.{is_used}
 use Rattle.sp_routes.proofs.JoinedLemmas.{mask_is}
 use Rattle.sp_routes.proofs.union.mask_of_all.Goals as goal
 
-pub mask_of_joined-requires-clause-few : goal.mask_of_joined-requires-clause-few
-mask_of_joined-requires-clause-few c = rw c.as_slice.ensures c.requires.few
-
 pub returns : goal.returns
 returns c =
-    let g = c.args.graph.now in
     let paths = c.args.paths.now in
-    mask_is c.join_paths.new.flags g.edges paths (bits c.mask_of_joined.result)
-    (λ k d inside. let is = c.requires.edges k d inside in (omega (arith, is.1, is.2, c.requires.nodes.1), omega (arith, is.2, c.requires.nodes.1)))
+    mask_is c.join_paths.new.flags c.args.edges.now paths (bits c.mask_of_joined.result) c.requires.ends
     (λ e has. c.join_paths.ensures.adds e has
     ∙ ap (λ (b : Bool). b || is_used paths (Some e)) (get_or-replicate FLAGS (flag_place e.low e.high) false false (omega (arith, has.0, has.1))))
-    (rw c.as_slice.ensures at c.mask_of_joined.ensures)
+    c.mask_of_joined.ensures

@@ -1,8 +1,9 @@
-use Rattle.std.proofs.Common.{Some, ap, map, refl, sym, subst, ◌∙◌, ◌∷◌, List, ℕ}
+use Rattle.std.proofs.Common.{Option, Some, ap, map, refl, sym, subst, ◌∙◌, ◌∷◌, List, ℕ}
 use Rattle.sp_lines.specs.Answers.{Reads}
-use Rattle.sp_schedule_events.specs.EventLines.{read_event}
+use Rattle.sp_schedule_events.specs.EventLines.{read_event, read_for}
+use Rattle.sp_schedule_events.specs.Table.{Form}
 use Rattle.sp_schedule_events.specs.declared.line_of.LineName.TheVariants as lines
-use Rattle.sp_schedule_events.proofs.NameLemmas.{is_named, read_named, started, stopped}
+use Rattle.sp_schedule_events.proofs.NameLemmas.{handed, is_named, read_named, started, stopped, unnamed}
 use Rattle.sp_schedule_events.proofs.lines.event_named.Goals as goal
 
 pub returns-in-Rel : goal.returns-in-Rel
@@ -71,3 +72,14 @@ returns-in-Stop c =
     subst (λ (x : List ℕ). Reads c.stop.result (read_event c.args.line.now.scenario.now c.args.line.now.before.now (x ∷ map (λ w. w.now) c.args.words.now)))
     (sym (is_named c.args.name.now lines.Stop (sym c.line_named.ensures ∙ c.in-Some.is ∙ ap Some c.in-Stop.is)))
     (subst (Reads c.stop.result) (sym (stopped c.args.line.now.scenario.now c.args.line.now.before.now (map (λ w. w.now) c.args.words.now))) c.stop.ensures)
+
+pub returns-in-Publish : goal.returns-in-Publish
+returns-in-Publish c =
+    subst (λ (x : List ℕ). Reads c.publish.result (read_event c.args.line.now.scenario.now c.args.line.now.before.now (x ∷ map (λ w. w.now) c.args.words.now)))
+    (sym (is_named c.args.name.now lines.Publish (sym c.line_named.ensures ∙ c.in-Some.is ∙ ap Some c.in-Publish.is)))
+    (subst (Reads c.publish.result) (sym (handed c.args.line.now.scenario.now c.args.line.now.before.now (map (λ w. w.now) c.args.words.now))) c.publish.ensures)
+
+pub returns-in_default : goal.returns-in_default
+returns-in_default c =
+    ap (λ (found : Option Form). read_for c.args.line.now.scenario.now c.args.line.now.before.now found (c.args.name.now ∷ map (λ w. w.now) c.args.words.now))
+    (unnamed c.args.line.now.scenario.now c.args.name.now (map (λ w. w.now) c.args.words.now) (sym c.line_named.ensures ∙ c.in_default.is))

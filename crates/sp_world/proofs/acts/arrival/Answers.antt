@@ -25,7 +25,7 @@ arrive-requires-clause-can c =
     let old = c.args.scene.now in
     let e = c.args.event.now in
     let i = c.scene.inside in
-    let there : Scene = record { keys = i.keys; nodes = i.nodes.items; directions = i.directions; crafters = i.crafters } in
+    let there : Scene = record { keys = i.keys; nodes = i.nodes.items; directions = i.directions; crafters = i.crafters; published = i.published } in
     let came = c.in_ok-bytes.ensures.scene ∙ ap (λ (came : Came). with_crafted old (crafted_by old.crafters.keys e came)) c.in-Datagram.is in
     rw (c.acting-v.ensures, c.sender-u.ensures)
     (hears_there k.scenario.now k.events.now k.journal.now old e c.bring.new.scene there (crafted_after old.crafters.keys e) k.signature_len c.requires.comes
@@ -39,7 +39,7 @@ returns-in-Datagram-clause-done c =
     let old = c.args.scene.now in
     let e = c.args.event.now in
     let i = c.scene.inside in
-    let there : Scene = record { keys = i.keys; nodes = i.nodes.items; directions = i.directions; crafters = i.crafters } in
+    let there : Scene = record { keys = i.keys; nodes = i.nodes.items; directions = i.directions; crafters = i.crafters; published = i.published } in
     let new : Scene = record there { nodes = c.arrive.new.nodes.items } in
     let came = c.in_ok-bytes.ensures.scene ∙ ap (λ (came : Came). with_crafted old (crafted_by old.crafters.keys e came)) c.in-Datagram.is in
     let comes = subst (λ (came : Came). Comes (setting_of s) (world_in old) e came) c.in-Datagram.is c.in_ok-bytes.ensures.comes in
@@ -47,7 +47,7 @@ returns-in-Datagram-clause-done c =
     IfOk-weaker c.arrive.result _ _
     (λ done arrives. arrived_here s k.events.now k.journal.now old e c.bring.new.scene there new c.in-Datagram.bytes done c.requires.arrival comes came
     (ap world_in c.scene.view_is ∙ c.make_ready.ensures.ready)
-    (rw (c.acting-v.ensures, c.sender-u.ensures, bytes_are) at arrives) refl refl refl)
+    (rw (c.acting-v.ensures, c.sender-u.ensures, bytes_are) at arrives) refl refl refl refl)
     c.arrive.ensures.arrives
 
 -- src/acts.rt:106:1

@@ -3,7 +3,8 @@ use Rattle.sp_rules.specs.Node.{NodeState}
 use Rattle.sp_runs.specs.Worlds.{frame_in}
 use Rattle.sp_world.specs.Scenes.{Scene, world_in}
 use Rattle.sp_world.specs.Stands.{CanCraft}
-use Rattle.sp_world.proofs.Coming.{craft_may, frame_is_long, said_good, status_may}
+use Rattle.sp_world.proofs.Coming.{craft_may, frame_is_long, said_good, status_may, version_may}
+use Rattle.sp_world.proofs.Publishing.{document_may}
 use Rattle.sp_world.proofs.bytes.bring.Goals as goal
 
 -- src/bytes.rt:64:32
@@ -39,3 +40,15 @@ status-requires c =
           subst (λ (ns : List NodeState). CanCraft k.scenario.now ns r.c r.v) (sym nodes_are)
           (status_may k.scenario.now k.events.now k.journal.now (world_in c.args.scene.now) c.args.event.now r.c r.v r.s r.d r.base r.have c.requires.comes r.is);
     }
+
+pub document-requires-clause-can : goal.document-requires-clause-can
+document-requires-clause-can c =
+    let k = c.args.known.now in
+    let m = c.in-CraftDocument in
+    version_may k.scenario.now k.events.now k.journal.now (world_in c.args.scene.now) c.args.event.now m.c m.v m.key m.version m.weights c.requires.comes m.is
+
+pub document-requires-clause-document : goal.document-requires-clause-document
+document-requires-clause-document c =
+    let k = c.args.known.now in
+    let m = c.in-CraftDocument in
+    document_may k.scenario.now k.events.now k.journal.now (world_in c.args.scene.now) c.args.event.now m.c m.v m.key m.version m.weights c.requires.comes m.is

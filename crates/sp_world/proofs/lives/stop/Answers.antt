@@ -12,4 +12,5 @@ returns-clause-stop c =
     (ap (λ (v : Scene). v.keys) c.scene.view_is)
     (ap (λ (v : Scene). v.directions) c.scene.view_is)
     (ap (λ (v : Scene). v.crafters) c.scene.view_is)
+    (ap (λ (v : Scene). v.published) c.scene.view_is)
     c.quiet.ensures.reply c.quiet.ensures.effects

@@ -11,8 +11,8 @@ invariant_of-self c =
     let update = c.in-Weight.update in
     let rows = set inside.rows.items c.in-Some.row (Some c.args.kept) in
     let at : row_in inside.edges.items update.edge.0 update.origin.0 ≡ Some c.in-Some.row = sym (rw c.as_slice.ensures.value at c.in-Some.ensures.row) in
-    let is : c.effective_by.result ≡ effective_by inside.edges.items rows update.edge.0 =
+    let is : c.effective_by.result ≡ effective_by inside.least.items rows update.edge.0 =
     rw (c.as_slice-in-Some.ensures.value, c.as_slice-in-Some-2.ensures.value) at c.effective_by.ensures in
     let has = row_in_is inside.edges.items update.edge.0 update.origin.0 c.in-Some.row at in
-    sound_with inside.edges.items inside.rows.items inside.active.items inside.in_effect.items
+    sound_with inside.edges.items inside.least.items inside.rows.items inside.active.items inside.in_effect.items
     update.edge.0 c.in-Some.row c.effective_by.result c.args.kept c.requires.range has is c.self.invariant

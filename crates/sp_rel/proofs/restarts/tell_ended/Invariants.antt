@@ -1,8 +1,0 @@
-use Rattle.std.proofs.Common.{◌≡◌, take}
-use Rattle.std.specs.List.{flat_map}
-use Rattle.sp_rel.specs.Restarts.{ended_row}
-use Rattle.sp_rules.specs.Told.{told}
-use Rattle.sp_rel.proofs.restarts.tell_ended.Given as goal
-
-abbrev pub invariant-rows : goal.invariant-rows
-invariant-rows l = l.effects ≡ told l.fn.effects (flat_map (ended_row l.node) (take l.row-index l.rows))
