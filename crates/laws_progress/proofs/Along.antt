@@ -27,6 +27,7 @@ slots W Next Hop at place bound least s d facts = record {
   among = facts.among;
   place = place;
   Holds = λ w u. is_on (at.actives w u) place ≡ true;
+  Serves = λ w u v. at.knows w u v ≡ true;
   Heard = λ w z u v. IsHeard W at place bound d w z u v;
   one_polled = facts.one_polled;
   none_polled = facts.none_polled;
@@ -35,6 +36,7 @@ slots W Next Hop at place bound least s d facts = record {
   within = λ w u v hop. facts.within w u;
   active = λ w u v hop on. on;
   holds_on = λ w x e u v hop next on. facts.stays_active w x e u next on;
+  serves_on = λ w x e u v hop next known. facts.known w x e u v hop next known;
   heard = facts.heard;
 }
 
@@ -43,10 +45,10 @@ swept : (W : Type 0) (Next : W → Event → W → Type 0) (Hop : NodeId → Nod
     → (facts : Facts W Next Hop at place bound least s d) → (u v : NodeId) → Hop u v
     → (es : List Event) (w y : W) → Goes W Next w es y → are_passed u v (at.polled w u v) es ≡ true
     → 1 ≤ least → least ≤ polls es u v
-    → is_on (at.actives w u) place ≡ true → sweeps.Served (slots W Next Hop at place bound least s d facts) u v w y
-swept W Next Hop at place bound least s d facts u v hop es w y g passes one enough on =
+    → is_on (at.actives w u) place ≡ true → at.knows w u v ≡ true → sweeps.Served (slots W Next Hop at place bound least s d facts) u v w y
+swept W Next Hop at place bound least s d facts u v hop es w y g passes one enough on knows =
     let few = facts.few in
-    sweeps.swept (slots W Next Hop at place bound least s d facts) u v hop es w y g passes (omega (arith, one, enough)) (omega (arith, few, enough)) on
+    sweeps.swept (slots W Next Hop at place bound least s d facts) u v hop es w y g passes (omega (arith, one, enough)) (omega (arith, few, enough)) on knows
 
 -- one frame at least
 some_heard : (W : Type 0) (Next : W → Event → W → Type 0) (Hop : NodeId → NodeId → Type 0) (at : Sight W) (place bound least : ℕ) (s d : NodeId)
@@ -157,7 +159,7 @@ went_back : (W : Type 0) (Next : W → Event → W → Type 0) (Hop : NodeId →
     → at.knows w v u ≡ true → Back W at place u v w y
 went_back W Next Hop at place bound least s d facts u v hop pho es w y g passes one enough knows = elim (cases_Bool (is_on (at.actives w v) place)) [
   | inl on ↦
-      let t = swept W Next Hop at place bound least s d facts v u pho es w y g passes one enough on in
+      let t = swept W Next Hop at place bound least s d facts v u pho es w y g passes one enough on knows in
       let it = t.it in
       let k = stays W Next (λ x. at.knows x v u) (λ p q e n. facts.known p q e v u pho n) it.before w it.made it.first knows in
       let b0 = rises W Next (λ x. at.base x v) (λ p q e n. facts.base_rises p q e v n) it.before w it.made it.first in
@@ -184,7 +186,7 @@ went_forth : (W : Type 0) (Next : W → Event → W → Type 0) (Hop : NodeId �
     → (at.base w u ≤ at.base y v) × (min have_u (have_v + 1) ≤ at.have y v)
 went_forth W Next Hop at place bound least s d facts u v have_u have_v hop inner es w y g passes one enough knows has view room = elim (cases_Bool (is_on (at.actives w u) place)) [
   | inl on ↦
-      let t = swept W Next Hop at place bound least s d facts u v hop es w y g passes one enough on in
+      let t = swept W Next Hop at place bound least s d facts u v hop es w y g passes one enough on knows in
       let it = t.it in
       let k = stays W Next (λ x. at.knows x u v) (λ p q e n. facts.known p q e u v hop n) it.before w it.made it.first knows in
       let b0 = rises W Next (λ x. at.base x u) (λ p q e n. facts.base_rises p q e u n) it.before w it.made it.first in

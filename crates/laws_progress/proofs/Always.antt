@@ -1,9 +1,9 @@
 -- What holds of the frames and views between two watched nodes in every state, whichever nodes start and stop.
 use Rattle.laws_progress.proofs.Begins.{begins, fresh_start, lifted}
 use Rattle.laws_progress.proofs.Changes.{Acted, Away, Born, Course, Rests, Steps, Unmoved, course, flow_later, lit, same_read, dark}
-use Rattle.laws_progress.proofs.Hears.{SameHere, TakenAt, hearing}
+use Rattle.laws_progress.proofs.Hears.{Met, SameHere, hearing}
 use Rattle.laws_progress.proofs.HopLemmas.{hops_hold}
-use Rattle.laws_progress.proofs.Hops.{Told, HopHolds, IsDeaf, IsHearing, Lasting}
+use Rattle.laws_progress.proofs.Hops.{HopHolds, IsDeaf, IsHearing, Lasting, SameView, Told}
 use Rattle.laws_progress.proofs.KnownRuns.{first_none}
 use Rattle.laws_progress.proofs.Made.{frames_count}
 use Rattle.laws_progress.proofs.MakesNow.{makes}
@@ -69,16 +69,14 @@ module _ (arts : Arts) (x : Setting) (all : List Event) (era : Era) (flow : Flow
         ne_eqb _ _ (λ same. omega (arith, same, boot, some))
 
     pub hearing_of : (hop : IsBetween x era u v) → (a : Acted arts x all era w y e v) → (first : in_life era v a.node ≡ true) → (second : in_life era v a.after ≡ true)
-        → (k : ℕ) (it : TakenAt arts x all era w u v a.node a.after k)
+        → (k : ℕ) → Met arts x all era flow w u v a.node a.after k
         → IsHearing (Watched arts x all era) (sight arts x all era flow) (wires arts x all era flow) w y u v (k + 1)
-    hearing_of hop a first second k it =
+    hearing_of hop a first second k met =
+        let it = met.it in
         let node_same = same_read x w.at.world a.before a.node (heard_of era v u) (λ upto. refl) a.readied in
-        let view_same = same_read x w.at.world a.before a.node (view_at x era flow v u) (λ upto. refl) a.readied in
         let was = heard_at w a.before a.there in
         let is = heard_at y a.after a.left in
-        let view_was = viewed_at w a.before a.there in
         let view_is = viewed_at y a.after a.left in
-        let told = told_is arts x all era flow fits reads is_era w y e u v hop a first second k it in
         let before = heard_before arts x all era flow fits reads is_era w y e u v hop a first second k it in
         let after = heard_after arts x all era flow fits reads is_era w y e u v hop a first second k it in
         let within = slice_get_within (frames_in w.at.world.directions u v) k (Some it.bytes) it.arrived.there in
@@ -87,17 +85,27 @@ module _ (arts : Arts) (x : Setting) (all : List Event) (era : Era) (flow : Flow
           after = omega (arith, was, node_same, before);
           made = omega (arith, count, within);
           seen = is ∙ after;
-          views = elim (views_after arts x all era flow fits reads is_era w y e u v hop a first second k it) [
-            | inl same ↦
-                let all_same : view_seen arts x all era flow y v u ≡ view_seen arts x all era flow w v u = view_is ∙ same ∙ view_same ∙ sym view_was in
-                inl (record { base = ap (λ (z : View). z.base) all_same; have = ap (λ (z : View). z.have) all_same })
-            | inr got ↦ inr (
-              ap (λ (g : Told). g.mine) told ∙ got.0,
-              ap (λ (z : View). z.base) view_is ∙ got.1 ∙ ap (λ (g : Told). g.base) (sym told),
-              ap (λ (z : View). z.have) view_is ∙ got.2 ∙ ap (λ (g : Told). g.have) (sym told),
-            )
+          views = elim met.left [
+            | inr over ↦ inl (stay over.view)
+            | inl handled ↦
+                let told = told_is arts x all era flow fits reads is_era w y e u v hop a first second k it handled in
+                elim (views_after arts x all era flow fits reads is_era w y e u v hop a first second k it handled) [
+                  | inl same ↦ inl (stay same)
+                  | inr got ↦ inr (
+                    ap (λ (g : Told). g.mine) told ∙ got.0,
+                    ap (λ (z : View). z.base) view_is ∙ got.1 ∙ ap (λ (g : Told). g.base) (sym told),
+                    ap (λ (z : View). z.have) view_is ∙ got.2 ∙ ap (λ (g : Told). g.have) (sym told),
+                  )
+                ]
           ];
         }
+      where
+        stay : view_at x era flow v u a.after ≡ view_at x era flow v u a.node → SameView (Watched arts x all era) (sight arts x all era flow) w y u v
+        stay same =
+            let view_same = same_read x w.at.world a.before a.node (view_at x era flow v u) (λ upto. refl) a.readied in
+            let all_same : view_seen arts x all era flow y v u ≡ view_seen arts x all era flow w v u =
+            viewed_at y a.after a.left ∙ same ∙ view_same ∙ sym (viewed_at w a.before a.there) in
+            record { base = ap (λ (z : View). z.base) all_same; have = ap (λ (z : View). z.have) all_same }
 
     pub deaf_here : (a : Acted arts x all era w y e v) → SameHere x era flow u v a.node a.after
         → IsDeaf (Watched arts x all era) (sight arts x all era flow) (wires arts x all era flow) w y u v

@@ -30,12 +30,11 @@ use Rattle.sp_schedule_events.specs.declared.event.Event.{Event}
 use Rattle.laws_runs.specs.Premises.{ComesThrough}
 use Rattle.laws_progress.proofs.States.{IsHop}
 use Rattle.laws_progress.proofs.Becomes.{readied_keeps}
-use Rattle.laws_progress.proofs.Framed.{Came, Framed, Learns, Taken, Too_late, came, framed}
+use Rattle.laws_progress.proofs.Framed.{Came, Framed, Learns, Taken, Too_late, came, framed, tagged_at}
+use Rattle.sp_rules.specs.Arrivals as arrivals
 use Rattle.laws_progress.proofs.Heads.{Placed, heads_are}
 use Rattle.laws_progress.proofs.Known.{is_made, tagged_fresh}
 use Rattle.laws_progress.proofs.Origins.{Origin, origin}
-use Rattle.laws_progress.proofs.Versions.{under_first}
-use Rattle.laws_progress.specs.Delivery.{TopologyStays}
 
 -- a datagram that isn't tagged leaves the link, and no piece of it is handled
 pub record Untold (arts : Arts) (n : NodeState) (u : NodeId) (bytes : List ℕ) : Type 0 where
@@ -76,26 +75,26 @@ untold arts n u bytes off = let g = go (arts.opened bytes) off in record { link 
 -- frame k + 1 of u came to v, which is n
 pub record Arrived (arts : Arts) (x : Setting) (es : List Event) (w : World) (u v : NodeId) (n : NodeState) (bytes : List ℕ) (k : ℕ) : Type 0 where
   pub there : slice_get (frames_in w.directions u v) k ≡ Some (Some bytes)
-  pub from : Origin arts x u v (k + 1) bytes
+  pub from : Origin arts x es u v (k + 1) bytes
   pub framed : Framed arts x u v from.node bytes
   pub placed : Placed x es w u v k (arts.head bytes)
   pub came : Came arts n u bytes
+  pub tagged : arrivals.is_tagged (arrivals.link_says arts (link_in n u) bytes) ≡ true
 
 pub frame_arrived : (arts : Arts) (x : Setting) (es : List Event) (js : List Entry) (w : World) → SettingFits arts x
     → ComesThrough x.topology.format arts x.signature_len → Clean arts x es js w
-    → TopologyStays es → (u v : NodeId) → IsHop x u v → (n : NodeState) → node_in w.nodes v ≡ Some n → (k : ℕ) (bytes : List ℕ)
+    → (u v : NodeId) → IsHop x u v → (n : NodeState) → node_in w.nodes v ≡ Some n → (k : ℕ) (bytes : List ℕ)
     → slice_get (frames_in w.directions u v) k ≡ Some (Some bytes) → Arrived arts x es w u v n bytes k
-frame_arrived arts x es js w fits reads run stays u v hop n at k bytes there =
-    let o = origin arts x es js w run stays u v k bytes there in
-    let f = framed arts x fits reads u v (k + 1) hop.joined bytes o in
+frame_arrived arts x es js w fits reads run u v hop n at k bytes there =
+    let o = origin arts x es js w run u v k bytes there in
+    let f = framed arts x fits reads es u v (k + 1) hop.joined bytes o in
     record {
       there = there;
       from = o;
       framed = f;
       placed = heads_are arts x es js w fits reads.carries reads.heads run u v hop.joined k bytes there;
-      came = came arts x es js w fits reads run stays u v hop n at o.node bytes f
-          ((under_first arts x o.events o.journal o.world fits reads.carries o.run o.stays u o.node o.there).0
-          ∙ sym (under_first arts x es js w fits reads.carries run stays v n at).0);
+      came = came arts x es js w fits reads run u v hop n at o.node bytes f;
+      tagged = tagged_at arts x es js w fits reads run u v hop n at o.node bytes f;
     }
 
 -- a node meets it the same where it reserved more indexes
@@ -104,13 +103,18 @@ extended_came arts b upto u bytes (Learns off left reply) = Learns off left repl
 extended_came arts b upto u bytes (Too_late on below left reply) = Too_late on below left reply
 extended_came arts b upto u bytes (Taken on above left reply) = Taken on above left reply
 
+pub extended_arrived : (arts : Arts) (x : Setting) (es : List Event) (w : World) (u v : NodeId) (b : NodeState) (upto : ℕ) (bytes : List ℕ) (k : ℕ)
+    → Arrived arts x es w u v b bytes k → Arrived arts x es w u v (extended b upto) bytes k
+extended_arrived arts x es w u v b upto bytes k h =
+    record { there = h.there; from = h.from; framed = h.framed; placed = h.placed; came = extended_came arts b upto u bytes h.came; tagged = h.tagged }
+
 -- what comes to a node of the world in which it acts, it meets as it was
 pub arrives : (arts : Arts) (x : Setting) (es : List Event) (js : List Entry) (w : World) (e : Event) → SettingFits arts x
     → ComesThrough x.topology.format arts x.signature_len → Clean arts x es js w
-    → TopologyStays es → (u v : NodeId) → IsHop x u v → (b n : NodeState) → node_in w.nodes v ≡ Some b → Readied x w b n → (bytes : List ℕ)
+    → (u v : NodeId) → IsHop x u v → (b n : NodeState) → node_in w.nodes v ≡ Some b → Readied x w b n → (bytes : List ℕ)
     → has_forged_tag arts x (ready x w e) n (Datagram u bytes) ≡ false
     → Untold arts n u bytes ⊎ ((k : ℕ) × Arrived arts x es w u v n bytes k)
-arrives arts x es js w e fits reads run stays u v hop b n at readied bytes none = elim (cases_Bool (is_tagged (reply_at arts n u bytes))) [
+arrives arts x es js w e fits reads run u v hop b n at readied bytes none = elim (cases_Bool (is_tagged (reply_at arts n u bytes))) [
   | inr off ↦ inl (untold arts n u bytes off)
   | inl on ↦
       let made = is_made arts x (ready x w e) n u bytes hop.first none on in
@@ -118,10 +122,10 @@ arrives arts x es js w e fits reads run stays u v hop b n at readied bytes none 
       let there : slice_get (frames_in w.directions u v) made.0 ≡ Some (Some bytes) =
       ap (λ ds. slice_get (frames_in ds u v) made.0) (sym (ready_frames x w e))
       ∙ ap (λ z. slice_get (frames_in (ready x w e).directions u z) made.0) (sym me) ∙ made.1 in
-      let a = frame_arrived arts x es js w fits reads run stays u v hop b at made.0 bytes there in
+      let a = frame_arrived arts x es js w fits reads run u v hop b at made.0 bytes there in
       inr (
         made.0,
         readied_keeps x w b n (λ m. Arrived arts x es w u v m bytes made.0)
-            (λ upto h. record { there = h.there; from = h.from; framed = h.framed; placed = h.placed; came = extended_came arts b upto u bytes h.came }) readied a,
+            (λ upto h. extended_arrived arts x es w u v b upto bytes made.0 h) readied a,
       )
 ]

@@ -1,5 +1,4 @@
 -- What one event makes of each node that runs after it: it stays as it was, it makes a step, or it has just started.
-use Rattle.laws_progress.proofs.Versions.{UnderFirst}
 use Rattle.std.proofs.Common.{◌≡◌, ◌⊎◌, ℕ, ◌==◌, true, false, List, [], ◌∷◌, ◌++◌, Some, None, refl, sym, ap, subst, ◌∙◌, inl, inr}
 use Rattle.std.specs.List.{list_any}
 use Rattle.std.proofs.lemmas.Bool.{cases_Bool, eqb-false, eqb-true, ne_eqb}
@@ -46,10 +45,6 @@ pub data Becomes (arts : Arts) (x : Setting) (old : World) (e : Event) (j : Entr
 pub readied_keeps : (x : Setting) (w : World) (b n : NodeState) (P : NodeState → Type 0) → ((upto : ℕ) → P b → P (extended b upto)) → Readied x w b n → P b → P n
 readied_keeps x w b n P more (As_was same) h = subst P (sym same) h
 readied_keeps x w b n P more (Extended on short same) h = subst P (sym same) (more _ h)
-
--- where nothing is published, a node acts under the version that it ran under
-pub keeps_version : (x : Setting) (w : World) (b n m : NodeState) → UnderFirst x b → Readied x w b n → UnderFirst x m → m.live.version ≡ n.live.version
-keeps_version x w b n m was readied is = is.0 ∙ sym (readied_keeps x w b n (λ q. q.live.version ≡ x.topology.version) (λ upto same. same) readied was.0)
 
 -- who it is, as it starts
 pub start_fixed : (arts : Arts) (x : Setting) (u : NodeId) (w : World) → x.epochs ≡ true

@@ -1,6 +1,8 @@
 -- Each state is led to from a start at which no frame was made, and none heard; and where it is watched, each on the way is.
 use Rattle.laws_node.proofs.Tables.{cond_either}
 use Rattle.laws_node.specs.Story.{journal}
+use Rattle.laws_progress.proofs.Adopting as adopting
+use Rattle.laws_node.specs.Withdrawals.{removed_now}
 use Rattle.laws_progress.proofs.Becomes.{Acts, Becomes, Begins, Remains, becomes, start_fixed}
 use Rattle.laws_progress.proofs.LastBoots.{last_boot, last_rises, running_boot, start_boot}
 use Rattle.laws_progress.proofs.Made.{FramesTurn, Leaves, Makes, Misses, frames_turn}
@@ -8,11 +10,11 @@ use Rattle.laws_progress.proofs.Places.{get_front}
 use Rattle.laws_progress.proofs.States.{Era, Leads, Watched, has_met, heard_of, in_era, knows_life, numbered, seen_at, sight, view_at, Follow, Follows, State}
 use Rattle.laws_runs.specs.Premises.{Carries}
 use Rattle.sp_rules.specs.Polls.{frame_to}
-use Rattle.sp_rules.specs.Rel.{View, is_peer, is_view, new_peer, no_view, pairs_of, peer_in, view_in}
+use Rattle.sp_rules.specs.Rel.{View, is_one_of, is_peer, is_view, new_peer, no_view, pairs_of, peer_in, view_in}
 use Rattle.sp_runs.specs.Runs.{polls, Clean, Starts, Turned}
 use Rattle.sp_runs.specs.Settings.{SettingFits, Setting, fixed_of, link_keys}
 use Rattle.sp_runs.specs.Worlds.{frames_in, World, at_start, node_in}
-use Rattle.std.proofs.Common.{Bool, arith, cond, false, true, ◌&&◌, ◌+◌, ◌≡◌, ℕ, List, [], ◌∷◌, ◌++◌, map, zip, Option, Some, None, refl, sym, ap, subst, ◌∙◌, inl, inr}
+use Rattle.std.proofs.Common.{◌∙◌, Bool, arith, cond, false, true, ◌&&◌, ◌+◌, ◌≡◌, ℕ, List, [], ◌∷◌, ◌++◌, map, zip, Option, Some, None, refl, sym, ap, subst, ◌∙◌, inl, inr}
 use Rattle.std.proofs.lemmas.Option.{slice_get_within}
 use Rattle.std.specs.Prelude.{slice_get}
 use Rattle.std.proofs.lemmas.Bool.{cases_Bool}
@@ -118,7 +120,17 @@ module _ (arts : Arts) (x : Setting) (all : List Event) (era : Era) (fits : Sett
   watched_before : (z : State arts x all) (e : Event) (y : Watched arts x all era) → Follows arts x all z e y.at → Watched arts x all era
   watched_before z e y (Follow j events journal range turn unforged) = record {
     at = z;
-    stays = y.stays;
+    most = λ u on n at life.
+        let later = still_there u on n at life in
+        let low = later.2.version in
+        let top = y.most u on later.0 later.1.0 later.1.1 in
+        omega (arith, low, top);
+    joined = λ u v on v_on n at life. elim (cases_Bool (is_one_of (removed_now n) v)) [
+      | inr off ↦ off
+      | inl gone ↦
+          let later = still_there u on n at life in
+          absurd (let f : true ≡ false = sym (later.2.removed v gone) ∙ y.joined u v on v_on later.0 later.1.0 later.1.1 in cc)
+    ];
     latest = λ v on. let up = last_rises arts x z.world e j y.at.world turn v in let top = y.latest v on in omega (arith, up, top);
     runs = λ v on last.
         let up = last_rises arts x z.world e j y.at.world turn v in
@@ -130,6 +142,22 @@ module _ (arts : Arts) (x : Setting) (all : List Event) (era : Era) (fits : Sett
         (λ later. omega (arith, later, boot, last, top));
     placed = λ u v on joined k bytes at life. y.placed u v on joined k bytes (kept_place arts z.world e y.at.world u v k bytes (frames_turn arts x z.world e j y.at.world turn u v) at) life;
   }
+    where
+      -- a node in its life is there after the event, in the same life
+      still_there : (u : NodeId) → era.on u ≡ true → (n : NodeState) → node_in z.world.nodes u ≡ Some n → n.fixed.boot ≡ era.life u
+          → (m : NodeState) × ((node_in y.at.world.nodes u ≡ Some m) × (m.fixed.boot ≡ era.life u)) × adopting.Follows n m
+      still_there u on n at life =
+          let first = running_boot arts x z.events z.journal z.world fits reads z.run u n at in
+          let up = last_rises arts x z.world e j y.at.world turn u in
+          let top = y.latest u on in
+          let last : last_boot x y.at.world u ≡ era.life u = omega (arith, first, life, up, top) in
+          let m = y.runs u on last in
+          let boot = running_boot arts x y.at.events y.at.journal y.at.world fits reads y.at.run u m.0 m.1 in (
+            m.0,
+            (m.1, boot ∙ last),
+            adopting.node_follows arts x z.events z.journal z.world y.at.world e j fits reads z.run u n m.0 at
+                (becomes arts x z.events z.journal z.world e j y.at.world fits reads z.run range turn unforged u m.0 m.1),
+          )
 
   before_is : (z : State arts x all) (e : Event) (y : Watched arts x all era) (step : Follows arts x all z e y.at) → (watched_before z e y step).at ≡ z
   unfolding watched_before

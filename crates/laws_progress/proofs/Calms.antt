@@ -1,11 +1,11 @@
 -- An interval in which no watched node starts or stops, and each holds the boots that count: each step in it.
 use Rattle.laws_runs.specs.Flows.{has_ended}
-use Rattle.laws_runs.specs.Signs.{Good}
-use Rattle.laws_progress.proofs.Versions.{always_served, not_ended}
+use Rattle.laws_progress.proofs.Versions.{Under, has_heard, served_there, still_heard}
+use Rattle.laws_progress.proofs.KeptVersions.{heard_rises}
 use Rattle.laws_progress.proofs.Becomes.{MovesNobody, readied_keeps}
-use Rattle.laws_progress.proofs.Changes.{Acted, Away, Born, Course, Rests, Steps, Unmoved, acted_first, acted_is, course, dark, era_is, holds_both, lit}
+use Rattle.laws_progress.proofs.Changes.{Acted, Away, Born, Course, Rests, Steps, Unmoved, acted_is, course, dark, era_is, holds_both, lit, not_over}
 use Rattle.laws_progress.proofs.Changes.{same_read}
-use Rattle.laws_progress.proofs.Hears.{boot_goes, top_now}
+use Rattle.laws_progress.proofs.Hears.{boot_goes, top_after, top_now}
 use Rattle.laws_progress.proofs.Lasts.{no_poll, step_last}
 use Rattle.laws_progress.proofs.LinkRuns.{idle_poll}
 use Rattle.laws_progress.proofs.MakesNow.{seen_flow}
@@ -14,7 +14,7 @@ use Rattle.laws_progress.proofs.Polls.{answered, between_back, poll_is, polled_r
 use Rattle.laws_progress.proofs.Room.{room_at, take_is}
 use Rattle.laws_progress.proofs.Rows.{RowsAre, peer_there, rows_are}
 use Rattle.laws_progress.proofs.Standing.{rel_of, seen_stands}
-use Rattle.laws_progress.proofs.States.{Era, IsBetween, IsEra, Leads, Watched, actives_of, flow_of, flow_seen, in_era, in_life, knows_life, sight, stays_at}
+use Rattle.laws_progress.proofs.States.{Era, IsBetween, IsEra, Leads, Watched, actives_of, flow_of, flow_seen, in_era, in_life, knows_life, knows_now, sight}
 use Rattle.laws_runs.proofs.FlowRuns.{flows_are_kept_over_lives}
 use Rattle.laws_runs.proofs.Lists.{both}
 use Rattle.laws_runs.specs.LifeFlows.{LifeFlowClaims, acknowledged_under}
@@ -27,6 +27,8 @@ use Rattle.sp_rules.specs.Arts.{Arts}
 use Rattle.sp_rules.specs.Flow.{FlowState, after_take, no_flow}
 use Rattle.sp_rules.specs.Lives.{held_boot}
 use Rattle.sp_rules.specs.Node.{NodeState, call_refusal, link_in}
+use Rattle.sp_rules.specs.Arrivals.{link_after, rises}
+use Rattle.std.proofs.lemmas.Bool.Decides.{nat_tests}
 use Rattle.sp_rules.specs.Rel.{RelState, flow_in, flow_to_me, next_place, peer_in, put_flow}
 use Rattle.sp_rules.specs.Weights.{next}
 use Rattle.sp_runs.specs.Inputs.{acting, input_of}
@@ -40,15 +42,20 @@ use Rattle.sp_schedule_events.specs.declared.event.Event.{Event}
 use Rattle.std.proofs.Common.{List, None, Some, ap, arith, false, inl, inr, length, map, refl, subst, sym, true, ℕ, ◌+◌, ◌-◌, ◌<◌, ◌==◌, ◌∙◌, ◌≡◌, ◌≤◌, ◌⊎◌, []}
 use Rattle.std.proofs.lemmas.Bool.{cases_Bool, eq-eqb, eqb-true}
 use Rattle.std.proofs.lemmas.Option.{same_Some}
-use Rattle.sp_rules.specs.Steps.{NodeStep, Output, Poll, TakeRel}
+use Rattle.sp_rules.specs.Steps.{Datagram, NodeStep, Output, Poll, TakeRel}
 use Rattle.sp_runs.specs.Runs as runs
 use Rattle.sp_schedule_events.specs.declared.event.Event.TheVariants as events
 
--- a watched node runs in its life, and holds the boots that count
+-- it runs under the version that counts, with its weights
+abbrev pub RunsAt : Era → NodeState → Type 0
+RunsAt era n = Under era.version era.weights n
+
+-- a watched node runs in its life under the version, and holds the boots that count
 pub record Up (arts : Arts) (x : Setting) (all : List Event) (era : Era) (flow : Flow) (w : Watched arts x all era) (v : NodeId) : Type 0 where
   pub node : NodeState
   pub there : node_in w.at.world.nodes v ≡ Some node
   pub counts : in_era era flow v node ≡ true
+  pub runs : RunsAt era node
 
 abbrev pub AreUp : (arts : Arts) (x : Setting) (all : List Event) (era : Era) (flow : Flow) → Watched arts x all era → Type 0
 AreUp arts x all era flow w = (v : NodeId) → era.on v ≡ true → Up arts x all era flow w v
@@ -79,9 +86,7 @@ module _ (arts : Arts) (x : Setting) (all : List Event) (era : Era) (flow : Flow
 
   -- the flow has not ended
   goes_on : (w : Watched arts x all era) (u : NodeId) (p : Up arts x all era flow w u) → has_ended p.node flow.src flow.dst ≡ false
-  goes_on w u p =
-      not_ended arts x w.at.events w.at.journal w.at.world fits reads.carries w.at.run (stays_at arts x all w.at w.stays) u p.node p.there flow.src
-      flow.dst
+  goes_on w u p = not_over arts x all era fits reads.carries flow is_era w u p.node p.there (era_is era flow u p.node p.counts).0
 
   under_up : {X : Type 0} (w : Watched arts x all era) (u : NodeId) (p : Up arts x all era flow w u) (says : ℕ → ℕ → X) → under p.node flow.src flow.dst says ≡ says era.sboot era.dboot
   under_up w u p says = let h = held_up w u p in ap (λ a. says a (held_boot p.node.parts.lives flow.dst)) h.0 ∙ ap (says era.sboot) h.1
@@ -158,6 +163,13 @@ module _ (arts : Arts) (x : Setting) (all : List Event) (era : Era) (flow : Flow
           second = in_life_of y u (calm.after u on) a.after a.left;
         })
 
+    -- under the version, before and after
+    pub moved_runs : (u : NodeId) → era.on u ≡ true → (m : Moved u) → RunsAt era m.act.node
+    moved_runs u on m =
+        let p = calm.before u on in
+        readied_keeps x w.at.world m.act.before m.act.node (RunsAt era) (λ upto h. h) m.act.readied
+        (subst (RunsAt era) (same_Some p.node m.act.before (sym p.there ∙ m.act.there)) p.runs)
+
     -- who acts in an event that moves a node
     pub mover : (u : NodeId) → era.on u ≡ true → acting e ≡ u → (MovesNobody w.at.world e → ⊥) → Moved u
     mover u on acts moves = elim (moves_or u on) [
@@ -170,11 +182,14 @@ module _ (arts : Arts) (x : Setting) (all : List Event) (era : Era) (flow : Flow
 
     -- ---- turns
 
-    pub serves : (u v : NodeId) (p : ℕ) → IsBetween x era u v → is_poll u v e ≡ true
+    pub serves : (u v : NodeId) (p : ℕ) → IsBetween x era u v → is_poll u v e ≡ true → (sight arts x all era flow).knows w u v ≡ true
         → next_after ((sight arts x all era flow).last w u v) ((sight arts x all era flow).actives w u) ≡ Some p → (sight arts x all era flow).last y u v ≡ Some p
-    serves u v p hop is next =
+    serves u v p hop is known next =
         let m = polls_now u v hop.first is in
         let a = m.act in
+        let heard : has_heard x era.version v a.node ≡ true =
+        same_read x w.at.world a.before a.node (has_heard x era.version v) (λ upto. refl) a.readied
+        ∙ (both (knows_life era u v a.before) (has_heard x era.version v a.before) (sym (lit false (knows_now x era u v) (node_in w.at.world.nodes u) a.before a.there) ∙ known)).1 in
         let poll = poll_is u v e is in
         let in_is : Some (Poll v) ≡ Some a.input = sym (ap (input_of arts x (ready x w.at.world e) a.node) poll) ∙ a.reaches in
         let input : a.input ≡ Poll v = cc in
@@ -182,9 +197,8 @@ module _ (arts : Arts) (x : Setting) (all : List Event) (era : Era) (flow : Flow
         let word = ap (λ (o : Output). reply_word x (runs.next_frame (ready x w.at.world e) e) o.reply) (sym step.0) ∙ a.journal.reply in
         let free = answered x (runs.next_frame (ready x w.at.world e) e) (call_refusal a.node v) _ a.entry.reply word in
         let rel = ap (λ (n : NodeState). n.parts.rel) step.1 ∙ polled_rel a.node v free
-        (always_served arts x fits (Good arts x w.at.events w.at.journal) u a.node (acted_is arts x all era fits reads.carries w y e u a)
-        (acted_first arts x all era fits reads.carries w y e u a) v hop.hop.joined) in
-        let rows : RowsAre x u a.node = readied_keeps x w.at.world a.before a.node (RowsAre x u) (λ upto h. record { peers = h.peers; links = h.links }) a.readied
+        (served_there x era.version era.weights u v hop.hop.joined hop.open_edge a.node (acted_is arts x all era fits reads.carries w y e u a).fixed (moved_runs u hop.first m) heard) in
+        let rows : RowsAre x u a.node = readied_keeps x w.at.world a.before a.node (RowsAre x u) (λ upto h. record { peers = h.peers; links = h.links; heard = h.heard }) a.readied
         (rows_are arts x w.at.events w.at.journal w.at.world fits reads.carries w.at.run u a.before a.there) in
         let there = peer_there x u v a.node rows hop.hop.joined in
         let last_is : (sight arts x all era flow).last w u v ≡ (peer_in a.node.parts.rel.peers v).last =
@@ -255,9 +269,9 @@ module _ (arts : Arts) (x : Setting) (all : List Event) (era : Era) (flow : Flow
     pub known : (u v : NodeId) → IsBetween x era u v → (sight arts x all era flow).knows w u v ≡ true → (sight arts x all era flow).knows y u v ≡ true
     known u v hop is = elim (moves_or u hop.first) [
       | inl q ↦
-          lit false (knows_life era u v) (node_in y.at.world.nodes u) q.now q.left
-          ∙ same_read x w.at.world q.before q.now (knows_life era u v) (λ upto. refl) q.readied
-          ∙ sym (lit false (knows_life era u v) (node_in w.at.world.nodes u) q.before q.there) ∙ is
+          lit false (knows_now x era u v) (node_in y.at.world.nodes u) q.now q.left
+          ∙ same_read x w.at.world q.before q.now (knows_now x era u v) (λ upto. refl) q.readied
+          ∙ sym (lit false (knows_now x era u v) (node_in w.at.world.nodes u) q.before q.there) ∙ is
       | inr m ↦
           let a = m.act in
           let first = (era_is era flow u a.node m.first).0 in
@@ -265,10 +279,20 @@ module _ (arts : Arts) (x : Setting) (all : List Event) (era : Era) (flow : Flow
           let hop_back = between_back x era u v hop in
           let up = boot_goes arts x all era flow fits reads is_era w y e v u hop_back a first second in
           let top = top_now arts x all era flow fits reads is_era w y e v u hop_back a first second in
-          let was : knows_life era u v a.node ≡ true =
-          same_read x w.at.world a.before a.node (knows_life era u v) (λ upto. refl) a.readied
-          ∙ sym (lit false (knows_life era u v) (node_in w.at.world.nodes u) a.before a.there) ∙ is in
-          let boot = eqb-true _ _ (both (in_life era u a.node) ((link_in a.node v).peer_boot == era.life v) was).1 in
+          let was : knows_now x era u v a.node ≡ true =
+          same_read x w.at.world a.before a.node (knows_now x era u v) (λ upto. refl) a.readied
+          ∙ sym (lit false (knows_now x era u v) (node_in w.at.world.nodes u) a.before a.there) ∙ is in
+          let parts = both (knows_life era u v a.node) (has_heard x era.version v a.node) was in
+          let boot = eqb-true _ _ (both (in_life era u a.node) ((link_in a.node v).peer_boot == era.life v) parts.0).1 in
           let now : ((link_in a.after v).peer_boot == era.life v) ≡ true = eq-eqb _ _ (let z : (link_in a.after v).peer_boot ≡ era.life v = omega (arith, up, top, boot) in z) in
-          lit false (knows_life era u v) (node_in y.at.world.nodes u) a.after a.left ∙ rw (second, now) refl
+          let kept = heard_rises arts a.node a.input a.output a.after v a.step (λ bytes came. quiet a first second hop_back bytes came boot) in
+          let heard : has_heard x era.version v a.after ≡ true = still_heard x era.version v a.node a.after kept parts.1 in
+          lit false (knows_now x era u v) (node_in y.at.world.nodes u) a.after a.left ∙ rw (second, now, heard) refl
     ]
+      where
+        quiet : (a : Acted arts x all era w y e u) → in_life era u a.node ≡ true → in_life era u a.after ≡ true → IsBetween x era v u → (bytes : List ℕ)
+            → a.input ≡ Datagram v bytes → (link_in a.node v).peer_boot ≡ era.life v → rises arts a.node v bytes ≡ false
+        quiet a first second back bytes came boot =
+            let top = top_after arts x all era flow fits reads is_era w y e v u back a first second bytes came in
+            let low : (link_after arts a.node v bytes).peer_boot ≤ (link_in a.node v).peer_boot = omega (arith, top, boot) in
+            grind (arith, nat_tests, low)

@@ -2,7 +2,8 @@
 use Rattle.laws_runs.proofs.KeyFiles.{key_files_stand}
 use Rattle.laws_runs.proofs.Signed.{signs}
 use Rattle.laws_runs.specs.Signs.{Good, NodeIs}
-use Rattle.std.proofs.Common.{◌≡◌, ◌≤◌, ◌⊎◌, ℕ, ◌==◌, ◌&&◌, true, false, List, Option, None, Some, refl, sym, ap, subst, ◌∙◌, inl, inr, arith}
+use Rattle.std.specs.Prelude.{◌||◌}
+use Rattle.std.proofs.Common.{ap₂, Bool, ◌≡◌, ◌≤◌, ◌⊎◌, ℕ, ◌==◌, ◌&&◌, true, false, List, Option, None, Some, refl, sym, ap, subst, ◌∙◌, inl, inr, arith}
 use Rattle.std.proofs.lemmas.Bool.{cases_Bool, eq-eqb, eqb-true}
 use Rattle.std.proofs.lemmas.Option.{same_Some}
 use Rattle.sp_base.specs.declared.id.Flow.{Flow}
@@ -12,7 +13,7 @@ use Rattle.sp_rules.specs.Flow.{FlowState, no_flow}
 use Rattle.sp_rules.specs.Lives.{held_boot}
 use Rattle.sp_rules.specs.Node.{NodeState, extended}
 use Rattle.sp_rules.specs.Parts.{Fixed}
-use Rattle.sp_rules.specs.Rel.{flow_in}
+use Rattle.sp_rules.specs.Rel.{flow_in, is_over}
 use Rattle.sp_rules.specs.Steps.{Input, NodeStep, Output}
 use Rattle.sp_runs.specs.Forgery.{has_forged_tag}
 use Rattle.sp_runs.specs.Inputs.{acting, input_of}
@@ -28,11 +29,10 @@ use Rattle.laws_runs.specs.Premises.{Carries}
 use Rattle.laws_runs.proofs.Lives.{step_stays}
 use Rattle.laws_runs.proofs.Ready.{Readied, readied_is}
 use Rattle.laws_runs.proofs.Running.{found_there}
-use Rattle.laws_progress.proofs.Becomes.{Acts, Becomes, Begins, MovesNobody, Remains, becomes, readied_keeps, keeps_version}
+use Rattle.laws_progress.proofs.Becomes.{Acts, Becomes, Begins, MovesNobody, Remains, becomes, readied_keeps}
 use Rattle.laws_progress.proofs.LastBoots.{held_below, last_boot, last_rises, running_boot, held_none}
 use Rattle.laws_progress.proofs.Rises.{Begins_anew, FlowLater, Goes_on, PartsGo, same_later, step_go}
-use Rattle.laws_progress.proofs.States.{Era, Follow, IsEra, Leads, Watched, flow_of, flow_seen, in_era, in_life, seen_at, stays_at}
-use Rattle.laws_progress.proofs.Versions.{UnderFirst, under_first}
+use Rattle.laws_progress.proofs.States.{Era, Follow, IsEra, Leads, Watched, flow_of, flow_seen, in_era, in_life, seen_at}
 
 -- ---- reading nodes
 
@@ -78,6 +78,16 @@ lit none read o n at = ap (seen_at none read) at
 pub same_read : {X : Type 0} (x : Setting) (w : World) (b n : NodeState) (read : NodeState → X) → ((upto : ℕ) → read (extended b upto) ≡ read b) → Readied x w b n → read n ≡ read b
 same_read x w b n read same is = readied_keeps x w b n (λ m. read m ≡ read b) (λ upto h. same upto) is refl
 
+-- the flow goes on at each watched node in its life
+pub not_over : (arts : Arts) (x : Setting) (all : List Event) (era : Era) → SettingFits arts x → Carries x.topology.format arts → (flow : Flow) → IsEra x flow era
+    → (z : Watched arts x all era) (u : NodeId) (n : NodeState) → node_in z.at.world.nodes u ≡ Some n → in_life era u n ≡ true
+    → is_over n.parts.rel.removed flow ≡ false
+not_over arts x all era fits reads flow is_era z u n at life =
+    let its = life_is era u n life in
+    let none = λ (v : NodeId) (on : era.on v ≡ true). z.joined u v its.0 on n at its.1 in
+    ap (λ gone. is_over gone flow) ((signs arts x z.at.events z.at.journal z.at.world fits reads z.at.run).nodes u n at).obeys.rel
+    ∙ ap₂ (λ (a b : Bool). a || b) (none flow.src is_era.source) (none flow.dst is_era.end)
+
 -- ---- one event
 
 -- a step of the node u
@@ -93,8 +103,6 @@ pub record Acted (arts : Arts) (x : Setting) (all : List Event) (era : Era) (w y
   pub output : Output
   pub after : NodeState
   pub step : NodeStep arts node input output after
-  -- under the version that it ran under
-  pub keeps : after.live.version ≡ node.live.version
   pub entry : Entry
   pub journal : Says x (next_frame (ready x w.at.world e) e) output entry
   pub unforged : has_forged_tag arts x (ready x w.at.world e) node input ≡ false
@@ -128,17 +136,11 @@ module _ (arts : Arts) (x : Setting) (all : List Event) (era : Era) (fits : Sett
       → NodeIs x (Good arts x z.at.events z.at.journal) u n
   node_is_of z u n at = (signs arts x z.at.events z.at.journal z.at.world fits reads z.at.run).nodes u n at
 
-  first_of : (z : Watched arts x all era) (u : NodeId) (n : NodeState) → node_in z.at.world.nodes u ≡ Some n → UnderFirst x n
-  first_of z u n at = under_first arts x z.at.events z.at.journal z.at.world fits reads z.at.run (stays_at arts x all z.at z.stays) u n at
-
   -- what a node is that acts
   pub acted_is : (u : NodeId) (a : Acted arts x all era w y e u) → NodeIs x (Good arts x w.at.events w.at.journal) u a.node
   acted_is u a =
       readied_is x (Good arts x w.at.events w.at.journal) w.at.events w.at.world u a.before a.node
       (key_files_stand arts x w.at.events w.at.journal w.at.world fits w.at.run) a.there a.readied (node_is_of w u a.before a.there)
-
-  pub acted_first : (u : NodeId) (a : Acted arts x all era w y e u) → UnderFirst x a.node
-  acted_first u a = readied_keeps x w.at.world a.before a.node (UnderFirst x) (λ upto on. on) a.readied (first_of w u a.before a.there)
 
   -- whoever is in its life goes on in it
   none_now : (j : Entry) → Turn arts x w.at.world e j y.at.world → (u : NodeId) → era.on u ≡ true → node_in y.at.world.nodes u ≡ None
@@ -178,7 +180,6 @@ module _ (arts : Arts) (x : Setting) (all : List Event) (era : Era) (fits : Sett
           output = mv.output;
           after = mv.after;
           step = mv.step;
-          keeps = keeps_version x w.at.world b mv.node mv.after (first_of w u b there) readied (subst (UnderFirst x) after (first_of y u m at));
           entry = j;
           journal = mv.journal;
           unforged = unforged;
@@ -265,4 +266,4 @@ module _ (arts : Arts) (x : Setting) (all : List Event) (era : Era) (fits : Sett
             let same = same_read x w.at.world a.before a.node (flow_of era flow u) (λ upto. refl) a.readied in
             subst (λ f. FlowLater f (flow_seen arts x all era flow y u)) (same ∙ sym was)
             (subst (FlowLater (flow_of era flow u a.node)) (sym is) (step_flow u a.node a.after a.left first second
-            (step_go flow arts a.node a.input a.output a.after a.step a.keeps)))
+            (step_go flow arts a.node a.input a.output a.after a.step (not_over arts x all era fits reads flow is_era y u a.after a.left second))))

@@ -59,7 +59,8 @@ pub record Facts (W : Type 0) (Next : W → Event → W → Type 0) (Hop : NodeI
   pub stays_active : (w x : W) (e : Event) (u : NodeId) → Next w e x → is_on (at.actives w u) place ≡ true → is_on (at.actives x u) place ≡ true
   pub one_polled : (w x : W) (e : Event) (u v : NodeId) → Hop u v → Next w e x → is_poll u v e ≡ true → at.polled x u v ≡ at.polled w u v + 1
   pub none_polled : (w x : W) (e : Event) (u v : NodeId) → Hop u v → Next w e x → is_poll u v e ≡ false → at.polled x u v ≡ at.polled w u v
-  pub serves : (w x : W) (e : Event) (u v : NodeId) (p : ℕ) → Hop u v → Next w e x → is_poll u v e ≡ true → next_after (at.last w u v) (at.actives w u) ≡ Some p → at.last x u v ≡ Some p
+  pub serves : (w x : W) (e : Event) (u v : NodeId) (p : ℕ) → Hop u v → Next w e x → is_poll u v e ≡ true → at.knows w u v ≡ true
+      → next_after (at.last w u v) (at.actives w u) ≡ Some p → at.last x u v ≡ Some p
   pub serves_none : (w x : W) (e : Event) (u v : NodeId) → Hop u v → Next w e x → is_poll u v e ≡ false → at.last x u v ≡ at.last w u v
   -- a client's take makes room at d
   pub makes_room : (w x : W) (e : Event) → Next w e x → is_take d s e ≡ true → at.have w d < at.taken x + bound

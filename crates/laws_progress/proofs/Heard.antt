@@ -1,7 +1,7 @@
 -- A frame that is passed before the next is made leaves at its end what it says.
 use Rattle.std.proofs.Common.{◌≡◌, ℕ, ◌+◌, ◌<◌, ◌≤◌, ◌⊎◌, true, false, List, [], ◌∷◌, min, max, refl, ap, ◌∙◌, inl, inr, arith}
 use Rattle.sp_base.specs.declared.id.NodeId.{NodeId}
-use Rattle.std.proofs.lemmas.Bool.{cases_Bool, cases_lt}
+use Rattle.std.proofs.lemmas.Bool.{cases_lt}
 use Rattle.sp_schedule_events.specs.declared.event.Event.{Event}
 use Rattle.sp_schedule_events.specs.declared.event.Event.TheVariants as events
 use Rattle.sp_runs.specs.Runs.{is_poll}
@@ -39,7 +39,7 @@ record Since (W : Type 0) (at : Sight W) (on : Wires W) (place bound : ℕ) (d :
   frame : on.told y u v n ≡ f
   taken : at.taken w ≤ at.taken y
   active : is_on (at.actives w v) place ≡ true → is_on (at.actives y v) place ≡ true
-  heard : (on.seen y v u < n) ⊎ ((on.seen y v u ≡ n) × (f.mine ≡ true → IsLeft W at place bound d w y u v f))
+  heard : (on.seen y v u < n) ⊎ ((on.seen y v u ≡ n) × (f.here ≡ true → f.mine ≡ true → IsLeft W at place bound d w y u v f))
 
 -- each frame that is there is fit
 fit : (W : Type 0) (Next : W → Event → W → Type 0) (Hop : NodeId → NodeId → Type 0) (at : Sight W) (on : Wires W) (place bound least : ℕ) (s d : NodeId) → Steady W Next Hop at on place bound least s d
@@ -80,7 +80,7 @@ since_step W Next Hop at on place bound least s d steady w x y e u v n f hop pos
       heard = elim (steady.hears x y e u v hop step) [
         | inl deaf ↦ let z = deaf.seen in elim h.heard [
           | inl before ↦ inl (omega (arith, z, before))
-          | inr there ↦ inr (z ∙ there.0, λ mine. later (there.1 mine))
+          | inr there ↦ inr (z ∙ there.0, λ here mine. later (there.1 here mine))
         ]
         | inr hearing ↦
             let k = hearing.0 in
@@ -95,11 +95,12 @@ since_step W Next Hop at on place bound least s d steady w x y e u v n f hop pos
                   let told : on.told x u v k ≡ f = ap (λ j. on.told x u v j) is ∙ h.frame in
                   inr (
                     z ∙ is,
-                    λ mine.
+                    λ here mine.
                         let holds = steady.holds x u v hop in
+                        let here_k : (on.told x u v k).here ≡ true = rw told here in
                         let mine_k : (on.told x u v k).mine ≡ true = rw told mine in
                         let behind = holds.frames k (omega (arith, is, pos)) made mine_k in
-                        let heeded : IsHeeded W at place bound d x y u v f = rw told at (hearing.2 mine_k (fit W Next Hop at on place bound least s d steady x y e u v step (on.told x u v k) behind)) in
+                        let heeded : IsHeeded W at place bound d x y u v f = rw told at (hearing.2 here_k mine_k (fit W Next Hop at on place bound least s d steady x y e u v step (on.told x u v k) behind)) in
                         record {
                           base = heeded.base;
                           have = heeded.have;
@@ -165,13 +166,13 @@ heard W Next Hop at on place bound least s d steady w x y z e p es u v hop step 
     let at_z = since_step W Next Hop at on place bound least s d steady w y z p u v n f hop pos pass (pass_no_poll u v u v n p is) at_y in
     let frame_y = at_y.frame in
     let known : at.knows w u v ≡ true → n ≤ on.seen z v u = λ k.
-    let echo : (on.told y u v n).echo ≡ true = rw frame_y (now.echo ∙ k) in
+    let echo : (on.told y u v n).echo ≡ true = rw frame_y (now.echo k) in
     steady.comes y z p u v n hop pass is pos echo in
     let left : at.knows w u v ≡ true → IsTurn W at place w u v → IsLeft W at place bound d w z u v f = λ k turn.
     let late = known k in
     elim at_z.heard [
       | inl not_yet ↦ absurd (omega (arith, late, not_yet))
-      | inr there ↦ there.1 (now.mine k turn)
+      | inr there ↦ there.1 now.here (now.mine k turn)
     ] in
     let have_up : at.have w v ≤ at.have z v =
     let a = steady.have_rises w x e v step in
@@ -180,10 +181,7 @@ heard W Next Hop at on place bound least s d steady w x y z e p es u v hop step 
     let sound = steady.sound z v in
     let view = back.view_have in
     record {
-      learned = elim (cases_Bool (at.knows w u v)) [
-        | inl t ↦ let late = known t in steady.seen_known z u v hop (omega (arith, late, pos))
-        | inr t ↦ steady.learns y z p u v n hop pass is (rw frame_y now.here) (rw frame_y (now.echo ∙ t))
-      ];
+      learned = steady.learns y z p u v n hop pass is (rw frame_y now.here);
       base = λ k turn. let l = left k turn in let b = made.base (now.mine k turn) in let c = l.base in omega (arith, b, c);
       view_base = λ k turn on_v. let l = left k turn in let b = made.base (now.mine k turn) in let c = (l.view on_v).0 in omega (arith, b, c);
       view_have = λ k turn on_v. let l = left k turn in let b = made.have (now.mine k turn) in let c = (l.view on_v).1 in omega (arith, b, c);

@@ -9,7 +9,7 @@ use Rattle.std.specs.List.{list_any}
 use Rattle.laws_progress.proofs.Standing.{same_flow}
 use Rattle.laws_runs.specs.Past.{holds}
 use Rattle.sp_runs.specs.Lives.{ready}
-use Rattle.std.proofs.Common.{◌≡◌, ◌≤◌, ◌<◌, ◌⊎◌, ℕ, Bool, true, false, cond, max, List, [], ◌∷◌, ◌++◌, map, Option, Some, None, Ok, option_map, refl, sym, ap, subst, ◌∙◌, inl, inr, arith, ◌==◌, not, ne_eqb, ltb-false}
+use Rattle.std.proofs.Common.{◌≡◌, ◌≤◌, ◌<◌, ◌⊎◌, ℕ, Bool, true, false, cond, max, List, [], ◌∷◌, ◌++◌, map, Option, Some, None, Ok, Result, option_map, refl, sym, ap, subst, ◌∙◌, inl, inr, arith, ◌==◌, not, ne_eqb, ltb-false}
 use Rattle.std.specs.Prelude.{nat_lt, ◌&&◌, ◌||◌}
 use Rattle.std.proofs.lemmas.Bool.{cases_eq, ltb-true, cases_lt, cases_Bool}
 use Rattle.sp_base.specs.declared.id.Flow.{Flow}
@@ -19,13 +19,13 @@ use Rattle.sp_frame.specs.Sections.{Contents}
 use Rattle.sp_frame.specs.Views.{as_list}
 use Rattle.sp_msg.specs.declared.kept.Kept.{Kept}
 use Rattle.sp_rules.specs.Arts.{Arts}
-use Rattle.sp_rules.specs.Arrivals.{arrival_at, heeded, link_after, parts_met, pieces_in, pieces_where, reply_at, sections_in, has_risen, before_document}
+use Rattle.sp_rules.specs.Arrivals.{arrival_at, heeded, link_after, parts_met, pieces_in, pieces_where, reply_at, sections_in, has_risen, before_document, document_at, document_in, document_where, not_taken, or_fresh, read_by}
 use Rattle.sp_rules.specs.Handle.{handle_all}
 use Rattle.sp_rules.specs.Link.{Link, is_above, pair_of}
-use Rattle.sp_rules.specs.Node.{NodeState, link_in, is_link}
+use Rattle.sp_rules.specs.Node.{NodeState, link_in, is_link, is_shut_to}
 use Rattle.sp_rules.specs.Parts.{Fixed, Parts}
 use Rattle.sp_rules.specs.Pieces.{AckPiece, EpochPiece, Piece, PrioAckPiece, RelPiece, WeightPiece, pieces_of, prio_piece, slot_pieces}
-use Rattle.sp_rules.specs.Polls.{contents_to, dated}
+use Rattle.sp_rules.specs.Polls.{contents_at, contents_to, dated, is_served}
 use Rattle.sp_rules.specs.Rel.{RelState, next_flow, slot_for, slot_of, is_peer, no_view, view_in, peer_in}
 use Rattle.sp_rules.specs.Steps.{Input, NodeStep, Poll, Datagram, Tick, SendRel, SendPrio, SetWeight, TakeRel, TakePrio, Publish}
 use Rattle.sp_rules.specs.declared.lives.Life.{Life}
@@ -40,17 +40,20 @@ use Rattle.sp_runs.specs.Runs.{next_frame}
 use Rattle.sp_runs.specs.Settings.{Setting, SettingFits}
 use Rattle.sp_schedule_events.specs.declared.event.Event.{Event}
 use Rattle.laws_runs.specs.Premises.{ComesThrough}
-use Rattle.laws_progress.proofs.States.{Era, IsBetween, IsEra, IsHop, Watched, has_met, heard_of, in_era, in_life, knows_life, numbered, stays_at, view_at}
+use Rattle.laws_progress.proofs.States.{Era, IsBetween, IsEra, IsHop, Watched, has_met, heard_of, in_era, in_life, knows_life, numbered, view_at}
 use Rattle.laws_runs.proofs.Acks.{RelAck}
 use Rattle.laws_progress.proofs.Arrives.{Arrived, arrives}
-use Rattle.laws_progress.proofs.Changes.{Acted, both_held, era_goes, holds_both, acted_is}
+use Rattle.laws_progress.proofs.Changes.{Acted, both_held, era_goes, holds_both, acted_is, not_over}
+use Rattle.laws_progress.proofs.Versions.{SameKnown, read_known}
+use Rattle.sp_rules.specs.declared.node.LinkReply.TheVariants as replies
+use Rattle.sp_frame.specs.declared.refused.SectionRefused.{SectionRefused}
 use Rattle.laws_progress.proofs.Greets.{greet_view}
 use Rattle.laws_progress.proofs.Deaf.{NoHear, step_view}
-use Rattle.laws_progress.proofs.Framed.{Came, Learns, Too_late, Taken}
+use Rattle.laws_progress.proofs.Framed.{Came, Learns, Taken, Too_late, read_or, served_sections, unserved}
 use Rattle.laws_progress.proofs.KnownRuns.{KnowsOf, knows_of}
 use Rattle.laws_progress.proofs.Links.{LinkAfter, Rests, Sends, Hears, link_step}
 use Rattle.laws_progress.proofs.Makes.{SlotAck, SlotMade, SlotRel, slot_dated, slot_made}
-use Rattle.laws_progress.proofs.Passes.{datagram_after, datagram_link}
+use Rattle.laws_progress.proofs.Passes.{datagram_link, datagram_read}
 use Rattle.laws_progress.proofs.Polls.{both_ways}
 use Rattle.laws_progress.proofs.Rows.{link_there, peer_there, rows_are, RowsAre}
 use Rattle.laws_progress.proofs.Wires.{is_mine}
@@ -121,7 +124,7 @@ either_zero : (t : Bool) → (let z : ℕ = cond t 0 0 in z) ≡ 0
 either_zero true = refl
 either_zero false = refl
 
-lt_on : (a b : ℕ) → a < b → nat_lt a b ≡ true
+pub lt_on : (a b : ℕ) → a < b → nat_lt a b ≡ true
 lt_on a b lt = elim (cases_Bool (nat_lt a b)) [ inl t ↦ t | inr t ↦ absurd (let ge = ltb-false a b t in omega (arith, ge, lt)) ]
 
 lt_off : (a b : ℕ) → b ≤ a → nat_lt a b ≡ false
@@ -139,7 +142,23 @@ pub record TakenAt (arts : Arts) (x : Setting) (all : List Event) (era : Era) (w
   pub rise : (link_in n u).peer_boot ≤ (link_after arts n u bytes).peer_boot
   pub top : (link_after arts n u bytes).peer_boot ≤ era.life u
   pub link : link_in m u ≡ link_after arts n u bytes
-  pub parts : m.parts ≡ (handle_all arts (arrival_at n u) (parts_met arts n u bytes) (pieces_of (heeded n.fixed (contents_to arrived.from.node.fixed arrived.from.node.parts v)))).parts
+
+-- and handled what u had in turn
+pub record HandledAt (arts : Arts) (u v : NodeId) (n m maker : NodeState) (bytes : List ℕ) : Type 0 where
+  pub served : is_served maker v ≡ true
+  pub parts : m.parts
+      ≡ (handle_all arts (arrival_at n u) (parts_met arts n u bytes) (pieces_of (heeded n.fixed (contents_to maker.fixed maker.parts v)))).parts
+
+-- or handled none of it: it is none that has what u had in turn, it is of another version, or its edge is withdrawn
+pub record PassedOver (arts : Arts) (x : Setting) (era : Era) (flow : Flow) (u v : NodeId) (n m maker : NodeState) (bytes : List ℕ) : Type 0 where
+  pub view : view_at x era flow v u m ≡ view_at x era flow v u n
+  pub why : is_served maker v ≡ true → (arts.head bytes).topology ≡ n.live.version → is_shut_to n u ≡ false → ⊥
+
+-- one of both
+pub record Met (arts : Arts) (x : Setting) (all : List Event) (era : Era) (flow : Flow) (w : Watched arts x all era) (u v : NodeId) (n m : NodeState)
+    (k : ℕ) : Type 0 where
+  pub it : TakenAt arts x all era w u v n m k
+  pub left : HandledAt arts u v n m it.arrived.from.node it.bytes ⊎ PassedOver arts x era flow u v n m it.arrived.from.node it.bytes
 
 module _ (arts : Arts) (x : Setting) (all : List Event) (era : Era) (flow : Flow) (fits : SettingFits arts x) (reads : ComesThrough x.topology.format arts x.signature_len)
     (is_era : IsEra x flow era) (w y : Watched arts x all era) (e : Event) (u v : NodeId) (hop : IsBetween x era u v) (a : Acted arts x all era w y e v)
@@ -154,7 +173,7 @@ module _ (arts : Arts) (x : Setting) (all : List Event) (era : Era) (flow : Flow
   back = both_ways x u v hop.hop
 
   pub rows : RowsAre x v n
-  rows = readied_keeps x w.at.world a.before a.node (RowsAre x v) (λ upto h. record { peers = h.peers; links = h.links }) a.readied
+  rows = readied_keeps x w.at.world a.before a.node (RowsAre x v) (λ upto h. record { peers = h.peers; links = h.links; heard = h.heard }) a.readied
       (rows_are arts x w.at.events w.at.journal w.at.world fits reads.carries w.at.run v a.before a.there)
 
   pub link_row : list_any (is_link u) n.links ≡ true
@@ -174,7 +193,7 @@ module _ (arts : Arts) (x : Setting) (all : List Event) (era : Era) (flow : Flow
   knows_later = knows_of arts x y.at.events y.at.journal y.at.world fits reads.carries reads.heads y.at.run v u back m a.left
 
   boots_go : PartsGo flow n.parts m.parts
-  boots_go = step_go flow arts n a.input a.output m a.step a.keeps
+  boots_go = step_go flow arts n a.input a.output m a.step (not_over arts x all era fits reads.carries flow is_era y v m a.left second)
 
   pub top_now : (link_in m u).peer_boot ≤ era.life u
   top_now = let low = knows_later.below in let top = y.latest u hop.first in omega (arith, low, top)
@@ -251,40 +270,46 @@ module _ (arts : Arts) (x : Setting) (all : List Event) (era : Era) (flow : Flow
 
   -- a datagram of u comes
   module _ (bytes : List ℕ) (came : a.input ≡ Datagram u bytes) where
-    left : m ≡ before_document arts n u bytes
+    left : m ≡ read_by arts (before_document arts n u bytes) (document_at arts n u bytes)
     left =
-        datagram_after arts x n u bytes a.output m (next_frame (ready x w.at.world e) e) a.entry.reply
-        (subst (λ i. NodeStep arts n i a.output m) came a.step) a.journal.reply a.keeps
+        datagram_read arts x n u bytes a.output m (next_frame (ready x w.at.world e) e) a.entry.reply
+        (subst (λ i. NodeStep arts n i a.output m) came a.step) a.journal.reply
+
+    left_known : SameKnown (before_document arts n u bytes) m
+    left_known = subst (SameKnown (before_document arts n u bytes)) (sym left) (read_known arts (before_document arts n u bytes) (document_at arts n u bytes))
 
     link_is_now : link_in m u ≡ link_after arts n u bytes
     link_is_now = datagram_link arts n m u bytes link_row left
 
-    rise_now : (link_in n u).peer_boot ≤ (link_after arts n u bytes).peer_boot
+    pub rise_now : (link_in n u).peer_boot ≤ (link_after arts n u bytes).peer_boot
     rise_now = (known_rises (link_in n u) (link_after arts n u bytes) (arts.head bytes) (reply_at arts n u bytes) knows.seen (after_is arts n u bytes)).1
 
-    top_after : (link_after arts n u bytes).peer_boot ≤ era.life u
+    pub top_after : (link_after arts n u bytes).peer_boot ≤ era.life u
     top_after = subst (λ (l : Link). l.peer_boot ≤ era.life u) link_is_now top_now
 
     met_seen : cond (in_era era flow v n && (not x.epochs || ((link_after arts n u bytes).peer_boot == era.life u)))
         (view_in (peer_in (parts_met arts n u bytes).rel.peers u).views flow) (no_view flow) ≡ view_at x era flow v u n
     met_seen = greet_view arts x era flow u v n bytes epochs_are peer_row rise_now top_after
 
-    -- no piece of it is handled
-    view_met : m.parts ≡ parts_met arts n u bytes → view_at x era flow v u m ≡ view_at x era flow v u n
-    view_met parts =
-        let lives : m.parts.lives ≡ n.parts.lives = ap (λ (p : Parts). p.lives) parts ∙ greeted_lives n.fixed.epochs (has_risen (link_in n u) (link_after arts n u bytes)) u n.parts in
+    -- no piece of it that counts is handled
+    abbrev Quiet : Type 0
+    Quiet = (m.parts.lives ≡ (parts_met arts n u bytes).lives) × (m.parts.rel.peers ≡ (parts_met arts n u bytes).rel.peers)
+
+    view_met : Quiet → view_at x era flow v u m ≡ view_at x era flow v u n
+    view_met quiet =
+        let lives : m.parts.lives ≡ n.parts.lives = quiet.0 ∙ greeted_lives n.fixed.epochs (has_risen (link_in n u) (link_after arts n u bytes)) u n.parts in
         let here : in_era era flow v m ≡ in_era era flow v n =
         ap (λ t. t && holds m flow.src era.sboot flow.dst era.dboot) (second ∙ sym first)
         ∙ ap (λ ls. in_life era v n && ((held_boot ls flow.src == era.sboot) && (held_boot ls flow.dst == era.dboot))) lives in
         ap (λ t. cond (t && has_met x era u m) (view_in (peer_in m.parts.rel.peers u).views flow) (no_view flow)) here
         ∙ ap (λ (l : Link). cond (in_era era flow v n && (not x.epochs || (l.peer_boot == era.life u))) (view_in (peer_in m.parts.rel.peers u).views flow) (no_view flow)) link_is_now
-        ∙ ap (λ (p : Parts). cond (in_era era flow v n && (not x.epochs || ((link_after arts n u bytes).peer_boot == era.life u))) (view_in (peer_in p.rel.peers u).views flow) (no_view flow)) parts
+        ∙ ap (λ ps. cond (in_era era flow v n && (not x.epochs || ((link_after arts n u bytes).peer_boot == era.life u))) (view_in (peer_in ps u).views flow) (no_view flow)) quiet.1
         ∙ met_seen
 
-    no_pieces_left : ((ps : List Piece) → pieces_where (reply_at arts n u bytes) ps ≡ []) → m.parts ≡ parts_met arts n u bytes
+    no_pieces_left : ((ps : List Piece) → pieces_where (reply_at arts n u bytes) ps ≡ []) → Quiet
     no_pieces_left never =
-        ap (λ (q : NodeState). q.parts) left
-        ∙ ap (λ ps. (handle_all arts (arrival_at n u) (parts_met arts n u bytes) ps).parts) (never (pieces_in n.fixed (sections_in arts n.fixed bytes)))
+        let none = ap (λ ps. (handle_all arts (arrival_at n u) (parts_met arts n u bytes) ps).parts) (never (pieces_in n.fixed (sections_in arts n.fixed bytes))) in
+        (left_known.lives ∙ ap (λ (p : Parts). p.lives) none, left_known.peers ∙ ap (λ (p : Parts). p.rel.peers) none)
 
     -- of another life, or of none that is known
     off_seen : (q : NodeState) → ((link_in q u).peer_boot ≡ era.life u → ⊥) → heard_of era v u q ≡ 0
@@ -294,8 +319,63 @@ module _ (arts : Arts) (x : Setting) (all : List Event) (era : Era) (flow : Flow
         either true = refl
         either false = refl
 
+    met_of : (k : ℕ) (t : TakenAt arts x all era w u v n m k) → t.bytes ≡ bytes → (maker : NodeState) → t.arrived.from.node ≡ maker
+        → HandledAt arts u v n m maker bytes ⊎ PassedOver arts x era flow u v n m maker bytes → Met arts x all era flow w u v n m k
+    met_of k t same maker by h = record {
+      it = t;
+      left = subst (λ (q : NodeState). HandledAt arts u v n m q t.bytes ⊎ PassedOver arts x era flow u v n m q t.bytes) (sym by)
+          (subst (λ bs. HandledAt arts u v n m maker bs ⊎ PassedOver arts x era flow u v n m maker bs) (sym same) h);
+    }
+
+    -- by what u made
+    of_kind : (k : ℕ) (it : Arrived arts x w.at.events w.at.world u v n bytes k)
+        → reply_at arts n u bytes
+        ≡ or_fresh (not_taken n.live.version (arts.head bytes).topology (arts.is_document bytes) (sections_in arts n.fixed bytes) (is_shut_to n u))
+        → (t : TakenAt arts x all era w u v n m k) → t.bytes ≡ bytes → t.arrived.from.node ≡ it.from.node → Met arts x all era flow w u v n m k
+    of_kind k it reply t same by = elim (cases_Bool (is_served it.from.node v)) [
+      | inr off ↦ met_of k t same it.from.node by (inr (record {
+        view = view_met (unserved_left off);
+        why = λ on version shut. (let f : true ≡ false = sym on ∙ off in cc);
+      }))
+      | inl served ↦ elim (read_or n.live.version (arts.head bytes).topology (arts.is_document bytes) (sections_in arts n.fixed bytes) (is_shut_to n u)
+          (contents_to it.from.node.fixed it.from.node.parts v) (sections_are served) refl) [
+            | inr never ↦ met_of k t same it.from.node by (inr (record {
+              view = view_met (no_pieces_left (λ ps. ap (λ z. pieces_where z ps) reply ∙ never.0 ps));
+              why = λ on version shut. never.1 version shut;
+            }))
+            | inl fresh ↦ met_of k t same it.from.node by (inl (record { served = served; parts = parts_are served (reply ∙ fresh) }))
+          ]
+    ]
+      where
+        sections_are : is_served it.from.node v ≡ true → sections_in arts n.fixed bytes ≡ Ok (contents_to it.from.node.fixed it.from.node.parts v)
+        sections_are served =
+            ap (λ (g : Fixed). sections_in arts g bytes) is_of.fixed ∙ served_sections arts x u v it.from.node bytes it.framed served
+
+        unserved_left : is_served it.from.node v ≡ false → Quiet
+        unserved_left off =
+            let sections : sections_in arts n.fixed bytes ≡ Ok (contents_at it.from.node v) =
+            ap (λ (g : Fixed). sections_in arts g bytes) is_of.fixed ∙ it.framed.sections in
+            let none = unserved arts it.from.node v off n.fixed (arrival_at n u) (parts_met arts n u bytes) (reply_at arts n u bytes) in
+            let of_parts = ap (λ (s : Result Contents SectionRefused).
+            (handle_all arts (arrival_at n u) (parts_met arts n u bytes) (pieces_where (reply_at arts n u bytes) (pieces_in n.fixed s))).parts) sections in (
+              left_known.lives ∙ ap (λ (p : Parts). p.lives) of_parts ∙ none.0,
+              left_known.peers ∙ ap (λ (p : Parts). p.rel.peers) of_parts ∙ ap (λ (r : RelState). r.peers) none.1,
+            )
+
+        parts_are : is_served it.from.node v ≡ true → reply_at arts n u bytes ≡ replies.Fresh
+            → m.parts
+            ≡ (handle_all arts (arrival_at n u) (parts_met arts n u bytes) (pieces_of (heeded n.fixed (contents_to it.from.node.fixed it.from.node.parts v)))).parts
+        parts_are served fresh =
+            let sections = sections_are served in
+            let document : document_at arts n u bytes ≡ None =
+            ap (λ r. document_where r (document_in (sections_in arts n.fixed bytes))) fresh ∙ ap document_in sections in
+            let pieces : pieces_at arts n u bytes ≡ pieces_of (heeded n.fixed (contents_to it.from.node.fixed it.from.node.parts v)) =
+            ap (λ z. pieces_where z (pieces_in n.fixed (sections_in arts n.fixed bytes))) fresh ∙ ap (pieces_in n.fixed) sections in
+            ap (λ (q : NodeState). q.parts) (left ∙ ap (read_by arts (before_document arts n u bytes)) document)
+            ∙ ap (λ ps. (handle_all arts (arrival_at n u) (parts_met arts n u bytes) ps).parts) pieces
+
     of_came : (k : ℕ) → Arrived arts x w.at.events w.at.world u v n bytes k → Came arts n u bytes
-        → SameHere x era flow u v n m ⊎ ((k : ℕ) × TakenAt arts x all era w u v n m k)
+        → SameHere x era flow u v n m ⊎ ((k : ℕ) × Met arts x all era flow w u v n m k)
     of_came k it (Learns off after reply) = inl (record {
       seen =
           let boot : (link_in m u).peer_boot ≡ max (link_in n u).peer_boot (arts.head bytes).boot = ap (λ (l : Link). l.peer_boot) (link_is_now ∙ after) in
@@ -318,16 +398,11 @@ module _ (arts : Arts) (x : Setting) (all : List Event) (era : Era) (flow : Flow
       view = view_met (no_pieces_left (λ ps. ap (λ z. pieces_where z ps) reply));
     })
     of_came k it (Taken on above after reply) =
-        let contents = contents_to it.from.node.fixed it.from.node.parts v in
-        let fixed = is_of.fixed in
-        let sections : sections_in arts n.fixed bytes ≡ Ok contents = ap (λ (g : Fixed). sections_in arts g bytes) fixed ∙ it.framed.sections in
-        let pieces : pieces_at arts n u bytes ≡ pieces_of (heeded n.fixed contents) =
-        ap (λ z. pieces_where z (pieces_in n.fixed (sections_in arts n.fixed bytes))) reply ∙ ap (pieces_in n.fixed) sections in
         let boot = ap (λ (l : Link). l.peer_boot) (link_is_now ∙ after) in
         elim (cases_eq (arts.head bytes).boot (era.life u)) [
           | inl life ↦ inr (
             k,
-            record {
+            of_kind k it reply (record {
               bytes = bytes;
               arrived = it;
               life = life;
@@ -338,8 +413,7 @@ module _ (arts : Arts) (x : Setting) (all : List Event) (era : Era) (flow : Flow
               rise = rise_now;
               top = top_after;
               link = link_is_now;
-              parts = ap (λ (q : NodeState). q.parts) left ∙ ap (λ ps. (handle_all arts (arrival_at n u) (parts_met arts n u bytes) ps).parts) pieces;
-            },
+            }) refl refl,
           )
           | inr other ↦
               let low = above_boot (arts.head bytes) (link_in n u) knows.seen above in
@@ -365,9 +439,9 @@ module _ (arts : Arts) (x : Setting) (all : List Event) (era : Era) (flow : Flow
             either true = refl
             either false = refl
 
-    of_datagram : SameHere x era flow u v n m ⊎ ((k : ℕ) × TakenAt arts x all era w u v n m k)
+    of_datagram : SameHere x era flow u v n m ⊎ ((k : ℕ) × Met arts x all era flow w u v n m k)
     of_datagram =
-        elim (arrives arts x w.at.events w.at.journal w.at.world e fits reads w.at.run (stays_at arts x all w.at w.stays) u v hop.hop a.before n a.there
+        elim (arrives arts x w.at.events w.at.journal w.at.world e fits reads w.at.run u v hop.hop a.before n a.there
         a.readied bytes
         (subst (λ i. has_forged_tag arts x (ready x w.at.world e) n i ≡ false) came a.unforged)) [
           | inl untold ↦ inl (record {
@@ -377,7 +451,7 @@ module _ (arts : Arts) (x : Setting) (all : List Event) (era : Era) (flow : Flow
           | inr it ↦ of_came it.0 it.1 it.1.came
         ]
 
-  pub hearing : SameHere x era flow u v n m ⊎ ((k : ℕ) × TakenAt arts x all era w u v n m k)
+  pub hearing : SameHere x era flow u v n m ⊎ ((k : ℕ) × Met arts x all era flow w u v n m k)
   hearing = elim (hears_or u a.input) [
     | inl quiet ↦ inl (deaf_quiet quiet)
     | inr came ↦ of_datagram came.0 came.1

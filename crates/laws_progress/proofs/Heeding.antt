@@ -1,10 +1,14 @@
 -- In a calm interval a watched node heeds what the frames of its neighbours say, and a frame that is passed comes through.
-use Rattle.laws_progress.proofs.Versions.{never_over}
+use Rattle.laws_progress.proofs.Becomes.{readied_keeps}
+use Rattle.laws_progress.proofs.Versions.{edge_at}
+use Rattle.laws_progress.proofs.Framed.{served_sections, unserved_slot}
 use Rattle.laws_progress.proofs.Always.{deaf_here, deaf_rest, hearing_of}
-use Rattle.laws_progress.proofs.Calms.{Calmly, Moved, moves_or, sent_most}
-use Rattle.laws_progress.proofs.Changes.{Acted, era_is, holds_both, lit, same_read, acted_first}
+use Rattle.laws_progress.proofs.Calms.{Calmly, Moved, RunsAt, moved_runs, moves_or, sent_most}
+use Rattle.laws_progress.proofs.Polls.{between_back}
+use Rattle.std.proofs.lemmas.Bool.{cases_Bool}
+use Rattle.laws_progress.proofs.Changes.{Acted, era_is, holds_both, lit, not_over, same_read}
 use Rattle.laws_progress.proofs.Greets.{greeted_ready}
-use Rattle.laws_progress.proofs.Hears.{TakenAt, hearing, is_of, slot_parts}
+use Rattle.laws_progress.proofs.Hears.{HandledAt, Met, TakenAt, hearing, is_of, slot_parts}
 use Rattle.laws_progress.proofs.Heeded.{Ready}
 use Rattle.laws_progress.proofs.Heeds.{HeededOf, are_nodes, heeded_of, names_dated, signed_in, slot_names}
 use Rattle.laws_progress.proofs.Hops.{IsDeaf, IsFit, IsHearing, IsHeeded, Told}
@@ -12,8 +16,8 @@ use Rattle.laws_progress.proofs.MakesNow.{seen_flow}
 use Rattle.laws_progress.proofs.SlotHeeds.{SlotDone}
 use Rattle.laws_progress.proofs.Standing.{place_at, same_flow, seen_active, sound}
 use Rattle.laws_progress.proofs.States.{Era, IsBetween, IsEra, Watched, flow_of, flow_seen, in_life, sight, view_at, view_seen}
-use Rattle.laws_progress.proofs.Takes.{done, after_view, flow_row, flows_met, left_is, lives_met, rel_after, told_is, views_rows}
-use Rattle.laws_progress.proofs.Wires.{is_mine, is_slot, told_slot, wires}
+use Rattle.laws_progress.proofs.Takes.{done, after_view, flow_row, flows_met, left_is, lives_met, rel_after, told_at, told_is, views_rows}
+use Rattle.laws_progress.proofs.Wires.{of_version, is_mine, is_slot, told_slot, wires}
 use Rattle.laws_runs.proofs.Lists.{both}
 use Rattle.laws_runs.proofs.Signed.{signs}
 use Rattle.laws_runs.proofs.Tables.{same_node}
@@ -28,16 +32,16 @@ use Rattle.sp_rules.specs.Arrivals.{has_risen, link_after, parts_met}
 use Rattle.sp_rules.specs.Arts.{Arts}
 use Rattle.sp_rules.specs.Flow.{FlowState, no_flow}
 use Rattle.sp_rules.specs.Lives.{held_boot, is_dated}
-use Rattle.sp_rules.specs.Node.{link_in}
+use Rattle.sp_rules.specs.Node.{is_shut_to, link_in}
 use Rattle.sp_rules.specs.Parts.{nodes_of}
-use Rattle.sp_rules.specs.Polls.{contents_to, dated}
-use Rattle.sp_rules.specs.Rel.{RelState, View, flow_in, is_from, is_to, no_view, peer_in, slot_for, view_in}
+use Rattle.sp_rules.specs.Polls.{contents_at, contents_to, dated, is_served}
+use Rattle.sp_rules.specs.Rel.{RelState, View, flow_in, is_from, is_over, is_to, no_view, peer_in, slot_for, view_in}
 use Rattle.sp_rules.specs.declared.lives.Life.{Life}
 use Rattle.sp_runs.specs.Lives.{ready}
 use Rattle.sp_runs.specs.Settings.{Setting, SettingFits}
 use Rattle.sp_runs.specs.Worlds.{node_in}
 use Rattle.sp_schedule_events.specs.declared.event.Event.{Event}
-use Rattle.std.proofs.Common.{List, None, Option, Some, ap, arith, inl, inr, length, refl, subst, sym, true, ℕ, ◌&&◌, ◌+◌, ◌-◌, ◌==◌, ◌∙◌, ◌∷◌, ◌≡◌, ◌⊎◌}
+use Rattle.std.proofs.Common.{List, None, Option, Some, ap, arith, inl, inr, length, refl, subst, sym, false, true, ℕ, ◌&&◌, ◌+◌, ◌-◌, ◌==◌, ◌∙◌, ◌∷◌, ◌≡◌, ◌⊎◌}
 use Rattle.std.proofs.lemmas.Bool.{eq-eqb, eqb-true, ne_eqb}
 use Rattle.std.specs.Prelude.{option_map}
 
@@ -53,7 +57,8 @@ slot_boots format ls (Some r) t is =
 module _ (arts : Arts) (x : Setting) (all : List Event) (era : Era) (flow : Flow) (fits : SettingFits arts x) (reads : ComesThrough x.topology.format arts x.signature_len)
     (is_era : IsEra x flow era) (w y : Watched arts x all era) (e : Event) (calm : Calmly arts x all era flow w e y) (u v : NodeId) (hop : IsBetween x era u v) where
   module _ (mv : Moved arts x all era flow fits reads is_era w y e calm v) (k : ℕ)
-      (it : TakenAt arts x all era w u v mv.act.node mv.act.after k) where
+      (it : TakenAt arts x all era w u v mv.act.node mv.act.after k)
+      (handled : HandledAt arts u v mv.act.node mv.act.after it.arrived.from.node it.bytes) where
     abbrev a : Acted arts x all era w y e v
     a = mv.act
 
@@ -80,8 +85,9 @@ module _ (arts : Arts) (x : Setting) (all : List Event) (era : Era) (flow : Flow
           bound_is = is_node.holds.parts.rel.bound;
           row = flow_row arts x all era flow fits reads is_era w y e u v hop mv.act first second k it;
           acks = is_node.acks;
-          goes_on = never_over arts x fits (Good arts x w.at.events w.at.journal) v mv.act.node is_node
-              (acted_first arts x all era fits reads.carries w y e v mv.act) flow;
+          goes_on = readied_keeps x w.at.world mv.act.before mv.act.node (λ q. is_over q.parts.rel.removed flow ≡ false) (λ upto on. on) mv.act.readied
+              (not_over arts x all era fits reads.carries flow is_era w v mv.act.before mv.act.there
+              (sym (same_read x w.at.world mv.act.before mv.act.node (in_life era v) (λ upto. refl) mv.act.readied) ∙ first));
         })
 
     met_flow : flow_in (parts_met arts mv.act.node u it.bytes).rel.flows flow ≡ flow_in mv.act.node.parts.rel.flows flow
@@ -99,7 +105,7 @@ module _ (arts : Arts) (x : Setting) (all : List Event) (era : Era) (flow : Flow
     flow_after : flow_seen arts x all era flow y v ≡ flow_in left_rel.flows flow
     flow_after =
         seen_flow arts x all era flow y v mv.act.after mv.act.left mv.second
-        ∙ (left_is arts x all era flow fits reads is_era w y e u v hop mv.act first second k it held).flow_is
+        ∙ (left_is arts x all era flow fits reads is_era w y e u v hop mv.act first second k it held handled).flow_is
 
     lives_held : (held_boot (parts_met arts mv.act.node u it.bytes).lives flow.src ≡ era.sboot) × (held_boot (parts_met arts mv.act.node u it.bytes).lives flow.dst ≡ era.dboot)
     lives_held =
@@ -132,7 +138,7 @@ module _ (arts : Arts) (x : Setting) (all : List Event) (era : Era) (flow : Flow
     view_left : view_seen arts x all era flow y v u ≡ view_in (peer_in left_rel.peers u).views flow
     view_left =
         lit (no_view flow) (view_at x era flow v u) (node_in y.at.world.nodes v) mv.act.after mv.act.left
-        ∙ after_view arts x all era flow fits reads is_era w y e u v hop mv.act first second k it held
+        ∙ after_view arts x all era flow fits reads is_era w y e u v hop mv.act first second k it held handled
 
     heeded_f : f.mine ≡ true → IsFit (Watched arts x all era) (sight arts x all era flow) x.buffer flow.src flow.dst w v f
         → IsHeeded (Watched arts x all era) (sight arts x all era flow) (place_at x flow) x.buffer flow.dst w y u v f
@@ -161,7 +167,7 @@ module _ (arts : Arts) (x : Setting) (all : List Event) (era : Era) (flow : Flow
         slot_parts (sizes_at x (Good arts x it.arrived.from.events it.arrived.from.journal) u) maker.signer.index maker.parts.rel v maker.fixed.topology.format maker.parts.lives flow t
         maker_is.holds.parts.rel maker_is.acks is m)
         (signed_in arts x w.at.events w.at.journal w.at.world (signs arts x w.at.events w.at.journal w.at.world fits reads.carries w.at.run) u v k it.bytes
-        (contents_to maker.fixed maker.parts v) n.fixed n.fixed.boot is_node.fixed it.arrived.there it.arrived.framed.sections) are_dated mine (record {
+        (contents_to maker.fixed maker.parts v) n.fixed n.fixed.boot is_node.fixed it.arrived.there (served_sections arts x u v maker it.bytes it.arrived.framed handled.served)) are_dated mine (record {
           window = fit.window;
           no_ack = λ z. let q = fit.no_ack z in omega (arith, q, fb);
           next_there = fit.next_there;
@@ -199,13 +205,62 @@ module _ (arts : Arts) (x : Setting) (all : List Event) (era : Era) (flow : Flow
         → IsFit (Watched arts x all era) (sight arts x all era flow) x.buffer flow.src flow.dst w v ((wires arts x all era flow).told w u v (k + 1))
         → IsHeeded (Watched arts x all era) (sight arts x all era flow) (place_at x flow) x.buffer flow.dst w y u v ((wires arts x all era flow).told w u v (k + 1))
     heeded_now mine fit =
-        let told = told_is arts x all era flow fits reads is_era w y e u v hop mv.act first second k it in
+        let told = told_is arts x all era flow fits reads is_era w y e u v hop mv.act first second k it handled in
+        let fit_f = subst (IsFit (Watched arts x all era) (sight arts x all era flow) x.buffer flow.src flow.dst w v) told fit in
+        let now = heeded_f (ap (λ (g : Told). g.mine) (sym told) ∙ mine) (record {
+          base = fit_f.base;
+          have = fit_f.have;
+          window = fit_f.window;
+          no_ack = fit_f.no_ack;
+          next_there = fit_f.next_there;
+          next_near = fit_f.next_near;
+        }) in
         subst (IsHeeded (Watched arts x all era) (sight arts x all era flow) (place_at x flow) x.buffer flow.dst w y u v) (sym told)
-        (heeded_f (ap (λ (g : Told). g.mine) (sym told) ∙ mine) (subst (IsFit (Watched arts x all era) (sight arts x all era flow) x.buffer flow.src flow.dst w v) told fit))
+        (record { base = now.base; have = now.have; have_at_end = now.have_at_end; view = now.view })
+
+  -- one of the version is handled, where it has the flow's slot
+  of_met : (mv : Moved arts x all era flow fits reads is_era w y e calm v) (k : ℕ) → (met : Met arts x all era flow w u v mv.act.node mv.act.after k)
+      → ((wires arts x all era flow).told w u v (k + 1)).here ≡ true → ((wires arts x all era flow).told w u v (k + 1)).mine ≡ true
+      → HandledAt arts u v mv.act.node mv.act.after met.it.arrived.from.node met.it.bytes
+  of_met mv k met here mine = elim met.left [
+    | inl handled ↦ handled
+    | inr over ↦ absurd (over.why served version shut)
+  ]
+    where
+      first : in_life era v mv.act.node ≡ true
+      first = (era_is era flow v mv.act.node mv.first).0
+
+      second : in_life era v mv.act.after ≡ true
+      second = (era_is era flow v mv.act.after mv.second).0
+
+      told : (wires arts x all era flow).told w u v (k + 1)
+          ≡ of_version (met.it.arrived.from.node.live.version == era.version) (told_slot era flow true (contents_at met.it.arrived.from.node v).slot)
+      told = told_at arts x all era flow fits reads is_era w y e u v hop mv.act first second k met.it
+
+      of_slot : (o : Option Report) → o ≡ None → (told_slot era flow true o).mine ≡ true → ⊥
+      of_slot None none z = (let f : false ≡ true = z in cc)
+      of_slot (Some r) none z = (let f : Some r ≡ None = none in cc)
+
+      served : is_served met.it.arrived.from.node v ≡ true
+      served = elim (cases_Bool (is_served met.it.arrived.from.node v)) [
+        | inl on ↦ on
+        | inr off ↦ absurd (of_slot (contents_at met.it.arrived.from.node v).slot (unserved_slot met.it.arrived.from.node v off) (ap (λ (g : Told). g.mine) (sym told) ∙ mine))
+      ]
+
+      runs : RunsAt era mv.act.node
+      runs = moved_runs arts x all era flow fits reads is_era w y e calm v hop.second mv
+
+      version : (arts.head met.it.bytes).topology ≡ mv.act.node.live.version
+      version = met.it.arrived.framed.topology ∙ eqb-true _ _ (ap (λ (g : Told). g.here) (sym told) ∙ here) ∙ sym runs.0
+
+      shut : is_shut_to mv.act.node u ≡ false
+      shut =
+          edge_at x era.version era.weights v u (between_back x era u v hop).hop.joined (between_back x era u v hop).open_edge mv.act.node
+          (is_of arts x all era flow fits reads is_era w y e u v hop mv.act first second).fixed runs
 
   pub hears : IsDeaf (Watched arts x all era) (sight arts x all era flow) (wires arts x all era flow) w y u v
       ⊎ ((k : ℕ) × IsHearing (Watched arts x all era) (sight arts x all era flow) (wires arts x all era flow) w y u v k
-      × (((wires arts x all era flow).told w u v k).mine ≡ true → IsFit (Watched arts x all era) (sight arts x all era flow) x.buffer flow.src flow.dst w v ((wires arts x all era flow).told w u v k)
+      × (((wires arts x all era flow).told w u v k).here ≡ true → ((wires arts x all era flow).told w u v k).mine ≡ true → IsFit (Watched arts x all era) (sight arts x all era flow) x.buffer flow.src flow.dst w v ((wires arts x all era flow).told w u v k)
       → IsHeeded (Watched arts x all era) (sight arts x all era flow) (place_at x flow) x.buffer flow.dst w y u v ((wires arts x all era flow).told w u v k)))
   hears = elim (moves_or arts x all era flow fits reads is_era w y e calm v hop.second) [
     | inl q ↦ inl (deaf_rest arts x all era flow fits reads is_era w y e u v q)
@@ -214,6 +269,10 @@ module _ (arts : Arts) (x : Setting) (all : List Event) (era : Era) (flow : Flow
         let second = (era_is era flow v mv.act.after mv.second).0 in
         elim (hearing arts x all era flow fits reads is_era w y e u v hop mv.act first second) [
           | inl same ↦ inl (deaf_here arts x all era flow fits reads is_era w y e u v mv.act same)
-          | inr it ↦ inr (it.0 + 1, hearing_of arts x all era flow fits reads is_era w y e u v hop mv.act first second it.0 it.1, heeded_now mv it.0 it.1)
+          | inr met ↦ inr (
+            met.0 + 1,
+            hearing_of arts x all era flow fits reads is_era w y e u v hop mv.act first second met.0 met.1,
+            λ here mine fit. heeded_now mv met.0 met.1.it (of_met mv met.0 met.1 here mine) mine fit,
+          )
         ]
   ]

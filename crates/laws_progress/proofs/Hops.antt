@@ -37,7 +37,7 @@ pub record IsMade (W : Type 0) (at : Sight W) (w : W) (u v : NodeId) (f : Told) 
 pub record IsServed (W : Type 0) (at : Sight W) (place : ℕ) (d : NodeId) (w : W) (u v : NodeId) (f : Told) : Type 0 where
   pub here : f.here ≡ true
   pub mine : at.knows w u v ≡ true → IsTurn W at place w u v → f.mine ≡ true
-  pub echo : f.echo ≡ at.knows w u v
+  pub echo : at.knows w u v ≡ true → f.echo ≡ true
   pub next_is : f.mine ≡ true → (u ≡ d → ⊥) → (at.have w u ≤ max (at.view_have w u v) (at.base w u)) ⊎ (f.next ≡ max (at.view_have w u v) (at.base w u) + 1)
 
 -- what holds of a frame when it comes to v
@@ -134,7 +134,8 @@ pub record Steady (W : Type 0) (Next : W → Event → W → Type 0) (Hop : Node
   pub stays_active : (w x : W) (e : Event) (u : NodeId) → Next w e x → is_on (at.actives w u) place ≡ true → is_on (at.actives x u) place ≡ true
   pub one_polled : (w x : W) (e : Event) (u v : NodeId) → Hop u v → Next w e x → is_poll u v e ≡ true → at.polled x u v ≡ at.polled w u v + 1
   pub none_polled : (w x : W) (e : Event) (u v : NodeId) → Hop u v → Next w e x → is_poll u v e ≡ false → at.polled x u v ≡ at.polled w u v
-  pub serves : (w x : W) (e : Event) (u v : NodeId) (p : ℕ) → Hop u v → Next w e x → is_poll u v e ≡ true → next_after (at.last w u v) (at.actives w u) ≡ Some p → at.last x u v ≡ Some p
+  pub serves : (w x : W) (e : Event) (u v : NodeId) (p : ℕ) → Hop u v → Next w e x → is_poll u v e ≡ true → at.knows w u v ≡ true
+      → next_after (at.last w u v) (at.actives w u) ≡ Some p → at.last x u v ≡ Some p
   pub serves_none : (w x : W) (e : Event) (u v : NodeId) → Hop u v → Next w e x → is_poll u v e ≡ false → at.last x u v ≡ at.last w u v
   pub makes_room : (w x : W) (e : Event) → Next w e x → is_take d s e ≡ true → at.have w d < at.taken x + bound
   -- frames stay, and a poll makes one
@@ -143,16 +144,15 @@ pub record Steady (W : Type 0) (Next : W → Event → W → Type 0) (Hop : Node
   pub made_now : (w x : W) (e : Event) (u v : NodeId) → Hop u v → Next w e x → is_poll u v e ≡ true → IsServed W at place d w u v (on.told x u v (at.polled x u v))
   -- a node hears a neighbour by fresh frames alone and heeds them, and a frame that is passed is fresh, or one as late was
   pub hears : (w x : W) (e : Event) (u v : NodeId) → Hop u v → Next w e x → IsDeaf W at on w x u v ⊎ ((k : ℕ) × IsHearing W at on w x u v k
-      × ((on.told w u v k).mine ≡ true → IsFit W at bound s d w v (on.told w u v k) → IsHeeded W at place bound d w x u v (on.told w u v k)))
+      × ((on.told w u v k).here ≡ true → (on.told w u v k).mine ≡ true → IsFit W at bound s d w v (on.told w u v k) → IsHeeded W at place bound d w x u v (on.told w u v k)))
   pub learns : (w x : W) (e : Event) (u v : NodeId) (k : ℕ) → Hop u v → Next w e x → is_pass u v k e ≡ true → (on.told w u v k).here ≡ true
-      → (on.told w u v k).echo ≡ false → at.knows x v u ≡ true
+      → at.knows x v u ≡ true
   pub comes : (w x : W) (e : Event) (u v : NodeId) (k : ℕ) → Hop u v → Next w e x → is_pass u v k e ≡ true → 0 < k → (on.told w u v k).echo ≡ true → k ≤ on.seen x v u
   -- no base is above the destination's, and no have above the source's
   pub acknowledged : (w x : W) (e : Event) (u : NodeId) → Next w e x → at.base w u ≤ at.base w d
   pub sent : (w x : W) (e : Event) (u : NodeId) → Next w e x → at.have w u ≤ at.have w s
   -- ---- of one state
   pub sound : (w : W) (u : NodeId) → at.base w u ≤ at.have w u
-  pub seen_known : (w : W) (u v : NodeId) → Hop u v → 0 < on.seen w v u → at.knows w v u ≡ true
   pub is_active : (w : W) (u : NodeId) → 0 < at.have w u → is_on (at.actives w u) place ≡ true
   -- all flows that are ever active at a node are among so few
   pub among : List Bool

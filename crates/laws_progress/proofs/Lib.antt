@@ -5,6 +5,7 @@ pub mod Places
 -- ---- intervals, of any system whose steps have these facts
 pub mod Facts
 pub mod Sweeps
+pub mod Adopting
 pub mod Along
 pub mod Paths
 -- ---- how boots spread, of any system whose steps have these facts
@@ -23,6 +24,7 @@ pub mod States
 pub mod Rises
 pub mod Changes
 pub mod Standing
+pub mod KeptVersions
 pub mod Keys
 pub mod Rows
 pub mod Polls
@@ -82,3 +84,4 @@ pub mod Worked
 pub mod WorkedPositions
 pub mod WorkedTelling
 pub mod WorkedLives
+pub mod Within

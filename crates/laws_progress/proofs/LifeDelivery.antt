@@ -17,13 +17,19 @@ use Rattle.laws_progress.proofs.Watching.{AllUp, IsFree, are_up, calmly_on, up_o
 use Rattle.laws_progress.proofs.Whole.{steady}
 use Rattle.laws_progress.proofs.Wires.{wires}
 use Rattle.laws_progress.specs.Calm.{IsCalm, IsCalmAt}
-use Rattle.laws_progress.specs.Delivery.{IsDelivered, TopologyStays}
+use Rattle.laws_progress.specs.Delivery.{IsDelivered}
+use Rattle.laws_progress.specs.Within.{IsPathUnder, RunsUnder, StaysUnder}
+use Rattle.laws_progress.proofs.Polls.{between_back}
+use Rattle.laws_progress.proofs.Within.{hop_open, in_path, is_in, none_removed, of_path}
+use Rattle.laws_node.specs.Withdrawals.{removed_now}
+use Rattle.laws_runs.specs.Signs.{Good}
+use Rattle.laws_runs.proofs.Signed.{signs}
+use Rattle.sp_rules.specs.Rel.{is_one_of}
 use Rattle.laws_progress.specs.LifeDelivery.{CountedDeliveryInLives, CountedReturnInLives}
 use Rattle.laws_runs.proofs.Determined.{past_is_determined}
 use Rattle.laws_runs.proofs.FlowRuns.{flows_are_kept_over_lives}
 use Rattle.laws_runs.proofs.HeldBoots.{held_boots_are_born}
 use Rattle.laws_runs.proofs.Lists.{both}
-use Rattle.laws_runs.proofs.Tables.{same_node}
 use Rattle.laws_runs.specs.Flows.{flow_at}
 use Rattle.laws_runs.specs.LifeFlows.{acknowledged_under}
 use Rattle.laws_runs.specs.Past.{Happened, delivered_under, mover_in, past, sent_under, told_under}
@@ -43,44 +49,29 @@ use Rattle.sp_runs.specs.Settings.{Setting, SettingFits, is_correct}
 use Rattle.sp_runs.specs.Told.{Message, accepted_in}
 use Rattle.sp_runs.specs.Worlds.{World, node_in}
 use Rattle.sp_schedule_events.specs.declared.event.Event.{Event}
-use Rattle.std.proofs.Common.{Bool, List, None, Some, ap, append_assoc, arith, false, inl, inr, length, refl, subst, suc, sym, true, zero, ℕ, ◌++◌, ◌+◌, ◌-◌, ◌==◌, ◌∙◌, ◌∷◌, ◌≡◌, ◌≤◌, []}
-use Rattle.std.proofs.lemmas.Bool.{cases_Bool, eq-eqb, eqb-true, ne_eqb}
+use Rattle.std.proofs.Common.{List, Some, ap, append_assoc, arith, false, length, subst, suc, sym, true, ℕ, ◌++◌, ◌+◌, ◌-◌, ◌∙◌, ◌∷◌, ◌≡◌, ◌≤◌, []}
+use Rattle.std.proofs.lemmas.Bool.{ne_eqb}
 use Rattle.std.proofs.lemmas.List.{append-nil}
-use Rattle.std.proofs.lemmas.List.Elements.{All-head, All-tail}
 use Rattle.std.proofs.lemmas.Option.{same_Some}
-use Rattle.std.specs.List.{All, list_any}
-use Rattle.std.specs.Prelude.{IsTrue, slice_get}
+use Rattle.std.specs.Prelude.{IsTrue}
 use Rattle.laws_progress.proofs.Paths as paths
 use Rattle.laws_progress.proofs.Facts as facts
 
 -- ---- the era of a calm interval: the lives in which the nodes of the path run at its beginning
 
-abbrev is_in : List NodeId → NodeId → Bool
-is_in path v = list_any (λ n. n.0 == v.0) path
-
 abbrev sent_in : World → NodeId → NodeId → ℕ
 sent_in w u v = seen_at 0 (λ n. (link_in n v).sent) (node_in w.nodes u)
 
-abbrev era_of : World → List NodeId → (a b : ℕ) → List Event → World → Era
-era_of w path a b all end = record {
+abbrev era_of : World → List NodeId → (version : ℕ) (weights : List ℕ) (a b : ℕ) → List Event → World → Era
+era_of w path version weights a b all end = record {
   on = is_in path;
   life = λ v. seen_at 0 (λ n. n.fixed.boot) (node_in w.nodes v);
+  version = version;
+  weights = weights;
   sboot = a;
   dboot = b;
   early = λ u v. polls all u v - sent_in end u v;
 }
-
-in_path : (path : List NodeId) (i : ℕ) (v : NodeId) → slice_get path i ≡ Some v → is_in path v ≡ true
-in_path [] i v at = absurd (let f : None ≡ Some v = at in cc)
-in_path (n ∷ path) zero v at = let same : n ≡ v = cc in let t : (n.0 == v.0) ≡ true = eq-eqb _ _ (ap (λ (z : NodeId). z.0) same) in rw t refl
-in_path (n ∷ path) (suc i) v at = let rest = in_path path i v at in elim (cases_Bool (n.0 == v.0)) [ inl t ↦ rw t refl | inr t ↦ rw t rest ]
-
-of_path : (P : NodeId → Type 0) (path : List NodeId) → All P path → (v : NodeId) → is_in path v ≡ true → P v
-of_path P [] all v on = absurd (let f : false ≡ true = on in cc)
-of_path P (n ∷ path) all v on = elim (cases_Bool (n.0 == v.0)) [
-  | inl t ↦ subst P (same_node n v (eqb-true _ _ t)) (All-head P n path all)
-  | inr t ↦ of_path P path (All-tail P n path all) v (rw t at on)
-]
 
 -- ---- the pasts of runs
 
@@ -105,13 +96,17 @@ past_grows arts x all fits reads (e ∷ es) w y (facts.Steps {x = m} (Follow j e
 
 module _ (arts : Arts) (x : Setting) (es : List Event) (js : List Entry) (w : World) (after : List Event) (more : List Entry) (end : World) (fits : SettingFits arts x)
     (reads : ComesThrough x.topology.format arts x.signature_len) (run : Clean arts x es js w) (longer : Clean arts x (es ++ after) (js ++ more) end)
-    (stays : TopologyStays (es ++ after)) (s d : NodeId) (path : List NodeId) (is : IsCorrectPath x s d path) (a b : ℕ)
+    (version : ℕ) (weights : List ℕ) (s d : NodeId) (path : List NodeId) (way : IsPathUnder x weights s d path) (under : StaysUnder version weights path w end)
+    (a b : ℕ)
     (calm : IsCalm w after s a d b path) where
   abbrev flow : Flow
   flow = record { src = s; dst = d }
 
+  is : IsCorrectPath x s d path
+  is = way.walks
+
   abbrev era : Era
-  era = era_of w path a b (es ++ after) end
+  era = era_of w path version weights a b (es ++ after) end
 
   calm_at : (v : NodeId) → is_in path v ≡ true → IsCalmAt w after s a d b v
   calm_at v on = of_path (IsCalmAt w after s a d b) path calm v on
@@ -170,7 +165,13 @@ module _ (arts : Arts) (x : Setting) (es : List Event) (js : List Entry) (w : Wo
   unfolding start
   up_first v on =
       let c = calm_at v on in
-      record { node = c.up.node; there = ap (λ (z : World). node_in z.nodes v) start.world ∙ c.up.runs; boot = life_at v c; held = c.held }
+      record { node = c.up.node; there = ap (λ (z : World). node_in z.nodes v) start.world ∙ c.up.runs; boot = life_at v c; held = c.held; version = least v c on; weights = λ same. (starts v on).weights_are c.up.node c.up.runs }
+    where
+      starts : (v : NodeId) → is_in path v ≡ true → RunsUnder version weights w v
+      starts v on = of_path (RunsUnder version weights w) path under.begins v on
+
+      least : (v : NodeId) (c : IsCalmAt w after s a d b v) → is_in path v ≡ true → version ≤ c.up.node.live.version
+      least v c on = let same = (starts v on).version_is c.up.node c.up.runs in omega (arith, same)
 
   up_last : AllUp arts x (es ++ after) era flow last
   up_last = up_on arts x (es ++ after) era flow fits reads.carries is_era after start.mid last start.goes quiet up_first
@@ -181,13 +182,25 @@ module _ (arts : Arts) (x : Setting) (es : List Event) (js : List Entry) (w : Wo
   early_is : (u v : NodeId) → is_in path u ≡ true → (n : NodeState) → node_in end.nodes u ≡ Some n → polls (es ++ after) u v - sent_in end u v ≡ polls (es ++ after) u v - (link_in n v).sent
   early_is u v on n at = ap (λ k. polls (es ++ after) u v - k) (sent_is u v n at)
 
+  runs_last : (u : NodeId) → is_in path u ≡ true → RunsUnder version weights end u
+  runs_last u on = of_path (RunsUnder version weights end) path under.ends u on
+
+  most_last : (u : NodeId) → is_in path u ≡ true → (n : NodeState) → node_in end.nodes u ≡ Some n → n.live.version ≤ version
+  most_last u on n at = let same = (runs_last u on).version_is n at in omega (arith, same)
+
+  joined_last : (u v : NodeId) → is_in path u ≡ true → is_in path v ≡ true → (n : NodeState) → node_in end.nodes u ≡ Some n
+      → is_one_of (removed_now n) v ≡ false
+  joined_last u v on v_on n at =
+      none_removed x weights s d path way (Good arts x (es ++ after) (js ++ more)) u n
+      ((signs arts x (es ++ after) (js ++ more) end fits reads.carries longer).nodes u n at) ((runs_last u on).weights_are n at) v v_on
+
   watched_last : Watched arts x (es ++ after) era
-  watched_last = watch arts x (es ++ after) era flow fits reads.carries is_era reads.heads stays last up_last early_is
+  watched_last = watch arts x (es ++ after) era flow fits reads.carries is_era reads.heads last up_last most_last joined_last early_is
       (λ u v on joined n at. sent_within arts x (es ++ after) (js ++ more) end fits reads.carries longer u v joined n at)
 
   last_at : watched_last.at ≡ last
   unfolding watched_last
-  last_at = watch_is arts x (es ++ after) era flow fits reads.carries is_era reads.heads stays last up_last early_is
+  last_at = watch_is arts x (es ++ after) era flow fits reads.carries is_era reads.heads last up_last most_last joined_last early_is
       (λ u v on joined n at. sent_within arts x (es ++ after) (js ++ more) end fits reads.carries longer u v joined n at)
 
   lift : Lifted arts x (es ++ after) era fits reads.carries after start.mid watched_last
@@ -252,7 +265,8 @@ module _ (arts : Arts) (x : Setting) (es : List Event) (js : List Entry) (w : Wo
       let h = are_hops x s d path is i u v at next in
       let u_on = in_path path i u at in
       let v_on = in_path path (suc i) v next in
-      (record { hop = h.0; first = u_on; second = v_on }, record { hop = h.1; first = v_on; second = u_on })
+      let there : IsBetween x era u v = record { hop = h.0; first = u_on; second = v_on; open_edge = hop_open x weights s d path way i u v at next } in
+      (there, between_back x era u v there)
 
   counted_first : AreCounted (Watched arts x (es ++ after) era) seen (IsBetween x era) es lift.first
   counted_first u v hop = ap (λ zs. polls zs u v) first_events
@@ -314,11 +328,11 @@ module _ (arts : Arts) (x : Setting) (es : List Event) (js : List Entry) (w : Wo
 -- ---- the laws
 
 pub delivery_is_counted_in_lives : CountedDeliveryInLives
-delivery_is_counted_in_lives arts x fits reads one es js w after more v run longer stays s d path is a b calm n at q k pos has near least enough rounds =
-    found arts x es js w after more v fits reads run longer stays s d path is a b calm q pos has
-    (delivers arts x es js w after more v fits reads run longer stays s d path is a b calm one least enough n at q k has near rounds)
+delivery_is_counted_in_lives arts x fits reads one es js w after more v run longer version weights s d path is under a b calm n at q k pos has near least enough rounds =
+    found arts x es js w after more v fits reads run longer version weights s d path is under a b calm q pos has
+    (delivers arts x es js w after more v fits reads run longer version weights s d path is under a b calm one least enough n at q k has near rounds)
 
 pub acknowledgements_return_in_lives : CountedReturnInLives
-acknowledgements_return_in_lives arts x fits reads one es js w after more v run longer stays s d path is a b calm n at least enough rounds =
-    let base = returns arts x es js w after more v fits reads run longer stays s d path is a b calm one least enough n at rounds in
+acknowledgements_return_in_lives arts x fits reads one es js w after more v run longer version weights s d path is under a b calm n at least enough rounds =
+    let base = returns arts x es js w after more v fits reads run longer version weights s d path is under a b calm one least enough n at rounds in
     record { base = base; room = λ low. ne_eqb _ _ (λ full. omega (arith, full, low, base, one)) }

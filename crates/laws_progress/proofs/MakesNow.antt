@@ -3,13 +3,13 @@
 use Rattle.laws_node.specs.Story.{journal}
 use Rattle.laws_progress.proofs.Changes.{life_is, lit, era_is}
 use Rattle.laws_progress.proofs.Hops.{IsServed, IsMade, Told}
-use Rattle.laws_progress.proofs.States.{Era, Follow, IsBetween, Leads, Watched, actives_of, flow_of, flow_seen, has_met, in_era, knows_life, sight}
-use Rattle.laws_progress.proofs.States.{stays_at, view_at, view_seen}
+use Rattle.laws_progress.proofs.States.{Era, Follow, IsBetween, Leads, Watched, actives_of, flow_of, flow_seen, has_met, in_era, knows_now, sight}
+use Rattle.laws_progress.proofs.States.{view_at, view_seen}
 use Rattle.laws_runs.proofs.Running.{found_there}
 use Rattle.laws_runs.specs.Past.{holds}
 use Rattle.std.proofs.lemmas.Option.{same_Some}
 use Rattle.laws_progress.proofs.Facts.{Sight}
-use Rattle.std.proofs.Common.{◌≡◌, ◌≤◌, ◌⊎◌, ℕ, suc, ◌+◌, ◌==◌, Bool, true, false, max, List, [], ◌∷◌, ◌++◌, length, map, Option, Some, None, option_map, refl, sym, ap, subst, ◌∙◌, inl, inr, arith, eq-eqb, not}
+use Rattle.std.proofs.Common.{◌≡◌, ◌≤◌, ◌⊎◌, ℕ, suc, ◌+◌, ◌==◌, Bool, true, false, max, List, [], ◌∷◌, ◌++◌, length, map, Option, Some, None, option_map, refl, sym, ap, subst, ◌∙◌, inl, inr, arith, eq-eqb, not, cond}
 use Rattle.std.specs.Prelude.{option_and_then, slice_get, ◌&&◌, ◌||◌}
 use Rattle.std.specs.Option.{option_and_then}
 use Rattle.std.proofs.lemmas.Bool.{cases_Bool, eqb-true, ne_eqb}
@@ -20,9 +20,10 @@ use Rattle.sp_base.specs.declared.id.NodeId.{NodeId}
 use Rattle.sp_frame.specs.Reliable.{Report}
 use Rattle.sp_rules.specs.Arts.{Arts}
 use Rattle.sp_rules.specs.Flow.{FlowState, no_flow}
-use Rattle.sp_rules.specs.Node.{NodeState, link_in}
+use Rattle.sp_rules.specs.Node.{NodeState, is_behind, is_shut_to, link_in}
+use Rattle.sp_frame.specs.Sections.{with_document}
 use Rattle.sp_rules.specs.Parts.{nodes_of}
-use Rattle.sp_rules.specs.Polls.{contents_to, dated, frame_to}
+use Rattle.sp_rules.specs.Polls.{contents_at, contents_to, dated, frame_to, is_served, no_contents}
 use Rattle.sp_rules.specs.Rel.{flow_in, next_flow, next_place, pairs_of, peer_in, slot_for, slot_of, view_in, View, no_view}
 use Rattle.laws_node.specs.Flows.{RelHolds}
 use Rattle.laws_node.specs.Sizes.{Sizes}
@@ -37,19 +38,20 @@ use Rattle.laws_runs.specs.Premises.{ComesThrough}
 use Rattle.laws_runs.proofs.Acks.{RelAck}
 use Rattle.laws_runs.proofs.Signed.{signs}
 use Rattle.laws_progress.proofs.Framed.{Framed, frame_at}
+use Rattle.laws_progress.proofs.Versions.{has_heard}
 use Rattle.laws_progress.proofs.Made.{frames_count, FramesTurn, Makes, Misses, Leaves, frames_turn}
 use Rattle.laws_progress.proofs.Places.{get_last}
 use Rattle.laws_progress.proofs.Polls.{one_polled}
 use Rattle.laws_progress.proofs.Standing.{place_at, place_in, same_flow}
-use Rattle.laws_progress.proofs.Wires.{is_mine, number_in, slot_in, told_of, told_slot, nothing_told, is_slot}
+use Rattle.laws_progress.proofs.Wires.{of_version, is_mine, number_in, slot_in, told_of, told_slot, nothing_told, is_slot}
 use Rattle.laws_progress.proofs.Makes.{SlotMade, number_taken, one_fits, slot_made, turn_flow}
 
 -- ---- what a frame tells when it is made
 
 -- against the node that makes it
-record MadeBy (era : Era) (flow : Flow) (place : ℕ) (n : NodeState) (u v : NodeId) (echo : Bool) (f : Told) : Type 0 where
+record MadeBy (era : Era) (flow : Flow) (place : ℕ) (n : NodeState) (u v : NodeId) (served echo : Bool) (f : Told) : Type 0 where
   held : f.mine ≡ true → holds n flow.src era.sboot flow.dst era.dboot ≡ true
-  mine : echo ≡ true → holds n flow.src era.sboot flow.dst era.dboot ≡ true → next_place n.parts.rel v ≡ Some place → f.mine ≡ true
+  mine : served ≡ true → echo ≡ true → holds n flow.src era.sboot flow.dst era.dboot ≡ true → next_place n.parts.rel v ≡ Some place → f.mine ≡ true
   base : f.mine ≡ true → f.base ≡ (flow_in n.parts.rel.flows flow).at.base
   have : f.mine ≡ true → f.have ≡ (flow_in n.parts.rel.flows flow).at.have
   no_ack : f.mine ≡ true → f.ack ≡ false → (flow_in n.parts.rel.flows flow).at.base ≤ (view_in (peer_in n.parts.rel.peers v).views flow).base
@@ -64,16 +66,17 @@ two_true true true e = (refl, refl)
 two_true true false e = absurd (let f : false ≡ true = e in cc)
 two_true false b e = absurd (let f : false ≡ true = e in cc)
 
-made_by : (era : Era) (k : Sizes) (index format : ℕ) (flow : Flow) (nodes : List NodeId) (n : NodeState) (u v : NodeId) (echo : Bool) → k.me ≡ u → k.nodes ≡ nodes
+made_by : (era : Era) (k : Sizes) (index format : ℕ) (flow : Flow) (nodes : List NodeId) (n : NodeState) (u v : NodeId) (served echo : Bool) → k.me ≡ u → k.nodes ≡ nodes
     → RelHolds k index n.parts.rel → RelAck n.parts.rel
-    → MadeBy era flow (place_in (pairs_of nodes) flow) n u v echo (told_slot era flow echo (option_map (dated format n.parts.lives) (slot_for n.parts.rel v)))
-made_by era k index format flow nodes n u v echo me same h acks = go (next_flow n.parts.rel v) refl
+    → MadeBy era flow (place_in (pairs_of nodes) flow) n u v served echo
+    (told_slot era flow echo (option_map (dated format n.parts.lives) (slot_for n.parts.rel v)))
+made_by era k index format flow nodes n u v served echo me same h acks = go (next_flow n.parts.rel v) refl
   where
     go : (o : Option Flow) → next_flow n.parts.rel v ≡ o
-        → MadeBy era flow (place_in (pairs_of nodes) flow) n u v echo (told_slot era flow echo (option_map (dated format n.parts.lives) (option_map (slot_of n.parts.rel v) o)))
+        → MadeBy era flow (place_in (pairs_of nodes) flow) n u v served echo (told_slot era flow echo (option_map (dated format n.parts.lives) (option_map (slot_of n.parts.rel v) o)))
     go None e = record {
       held = λ z. absurd (let f : false ≡ true = z in cc);
-      mine = λ knows held turn.
+      mine = λ carried knows held turn.
           let t = turn_flow n.parts.rel v flow nodes (h.keys ∙ ap pairs_of same) turn in
           absurd (let f : None ≡ Some t.0 = sym e ∙ t.1 in cc);
       base = λ z. absurd (let f : false ≡ true = z in cc);
@@ -93,7 +96,7 @@ made_by era k index format flow nodes n u v echo me same h acks = go (next_flow 
           held = λ z.
               let boots = (two_true _ _ (two_true _ _ z).1).1 in
               subst (λ (g : Flow). holds n g.src era.sboot g.dst era.dboot ≡ true) (its z) boots;
-          mine = λ knows held turn.
+          mine = λ carried knows held turn.
               let t2 = turn_flow n.parts.rel v flow nodes (h.keys ∙ ap pairs_of same) turn in
               let f : Some fl ≡ Some t2.0 = sym e ∙ t2.1 in
               let g : t2.0 ≡ fl = cc in
@@ -112,13 +115,29 @@ made_by era k index format flow nodes n u v echo me same h acks = go (next_flow 
           ];
         }
 
+-- without a slot
+none_by : (era : Era) (flow : Flow) (place : ℕ) (n : NodeState) (u v : NodeId) (served echo : Bool) → served ≡ false
+    → MadeBy era flow place n u v served echo (told_slot era flow echo None)
+none_by era flow place n u v served echo off = record {
+  held = λ z. absurd (let f : false ≡ true = z in cc);
+  mine = λ carried knows held turn. absurd (let f : true ≡ false = sym carried ∙ off in cc);
+  base = λ z. absurd (let f : false ≡ true = z in cc);
+  have = λ z. absurd (let f : false ≡ true = z in cc);
+  no_ack = λ z. absurd (let f : false ≡ true = z in cc);
+  next_there = λ z. absurd (let f : false ≡ true = z in cc);
+  next_near = λ z. absurd (let f : false ≡ true = z in cc);
+  next_is = λ z. absurd (let f : false ≡ true = z in cc);
+}
+
 pub frame_told : (arts : Arts) (x : Setting) (era : Era) (flow : Flow) (u v : NodeId) (n : NodeState) (bytes : List ℕ) → Framed arts x u v n bytes
     → n.fixed.boot ≡ era.life u
-    → told_of arts x era flow u v (Some bytes) ≡ told_slot era flow ((link_in n v).peer_boot == era.life v) (contents_to n.fixed n.parts v).slot
+    → told_of arts x era flow u v (Some bytes)
+    ≡ of_version (n.live.version == era.version) (told_slot era flow ((link_in n v).peer_boot == era.life v) (contents_at n v).slot)
 frame_told arts x era flow u v n bytes f life =
     let here : ((arts.head bytes).boot == era.life u) ≡ true = eq-eqb _ _ (f.head.boot_is ∙ life) in
-    rw here (ap (λ e. told_slot era flow (e == era.life v) (slot_in (arts.sections x.signature_len bytes))) f.echo
-    ∙ ap (λ s. told_slot era flow ((link_in n v).peer_boot == era.life v) (slot_in s)) f.sections)
+    rw here (ap (λ t. of_version (t == era.version) (told_slot era flow ((arts.head bytes).echo == era.life v) (slot_in (arts.sections x.signature_len bytes)))) f.topology
+    ∙ ap (λ e. of_version (n.live.version == era.version) (told_slot era flow (e == era.life v) (slot_in (arts.sections x.signature_len bytes)))) f.echo
+    ∙ ap (λ s. of_version (n.live.version == era.version) (told_slot era flow ((link_in n v).peer_boot == era.life v) (slot_in s))) f.sections)
 
 -- a frame of another life tells nothing
 pub other_told : (arts : Arts) (x : Setting) (era : Era) (flow : Flow) (u v : NodeId) (bytes : List ℕ) → ((arts.head bytes).boot == era.life u) ≡ false
@@ -133,6 +152,14 @@ none_made W at w u v = record {
   next_there = λ z. absurd (let f : false ≡ true = z in cc);
   next_near = λ z. absurd (let f : false ≡ true = z in cc);
 }
+
+-- what it tells goes by its version alone as far as it is there
+made_version : {W : Type 0} {at : Sight W} {w : W} {u v : NodeId} (now : Bool) (f : Told) → IsMade W at w u v f → IsMade W at w u v (of_version now f)
+made_version now f h = record { base = h.base; have = h.have; no_ack = h.no_ack; next_there = h.next_there; next_near = h.next_near }
+
+served_version : {W : Type 0} {at : Sight W} {place : ℕ} {d : NodeId} {w : W} {u v : NodeId} (now : Bool) (f : Told) → now ≡ true → IsServed W at place d w u v f
+    → IsServed W at place d w u v (of_version now f)
+served_version now f is h = record { here = is; mine = h.mine; echo = h.echo; next_is = h.next_is }
 
 -- what is seen of a node that holds the boots that count
 pub seen_flow : (arts : Arts) (x : Setting) (all : List Event) (era : Era) (flow : Flow) (w : Watched arts x all era) (u : NodeId) (n : NodeState)
@@ -189,7 +216,7 @@ module _ (arts : Arts) (x : Setting) (all : List Event) (era : Era) (flow : Flow
         b,
         record {
           there = there;
-          framed = frame_at arts x w.at.events w.at.journal w.at.world fits reads w.at.run (stays_at arts x all w.at w.stays) u v hop.hop.joined b there;
+          framed = frame_at arts x w.at.events w.at.journal w.at.world fits reads w.at.run u v hop.hop.joined b there;
           at = last_place (Some (frame_to arts b v)) frames;
         },
       )
@@ -201,12 +228,22 @@ module _ (arts : Arts) (x : Setting) (all : List Event) (era : Era) (flow : Flow
       of_turn (Follow j events journal range turn unforged) = of_frames j (frames_turn arts x w.at.world e j y.at.world turn u v)
 
   made_of : (b : NodeState) → Polled arts x all era flow w y u v b
-      → MadeBy era flow (place_at x flow) b u v ((link_in b v).peer_boot == era.life v)
-      (told_slot era flow ((link_in b v).peer_boot == era.life v) (contents_to b.fixed b.parts v).slot)
-  made_of b p =
-      let is = (signs arts x w.at.events w.at.journal w.at.world fits reads.carries w.at.run).nodes u b p.there in
-      made_by era (sizes_at x (Good arts x w.at.events w.at.journal) u) b.signer.index b.fixed.topology.format flow (nodes_of x.topology) b u v
-      ((link_in b v).peer_boot == era.life v) refl refl is.holds.parts.rel is.acks
+      → MadeBy era flow (place_at x flow) b u v (is_served b v) ((link_in b v).peer_boot == era.life v)
+      (told_slot era flow ((link_in b v).peer_boot == era.life v) (contents_at b v).slot)
+  made_of b p = go (is_behind b v) (is_shut_to b v)
+    where
+      echo : Bool
+      echo = (link_in b v).peer_boot == era.life v
+
+      go : (behind shut : Bool) → MadeBy era flow (place_at x flow) b u v (not behind && not shut) ((link_in b v).peer_boot == era.life v)
+          (told_slot era flow ((link_in b v).peer_boot == era.life v)
+          (cond behind (with_document b.live.document) (cond shut no_contents (contents_to b.fixed b.parts v))).slot)
+      go true shut = none_by era flow (place_at x flow) b u v false echo refl
+      go false true = none_by era flow (place_at x flow) b u v false echo refl
+      go false false =
+          let is = (signs arts x w.at.events w.at.journal w.at.world fits reads.carries w.at.run).nodes u b p.there in
+          made_by era (sizes_at x (Good arts x w.at.events w.at.journal) u) b.signer.index b.fixed.topology.format flow (nodes_of x.topology) b u v true
+          echo refl refl is.holds.parts.rel is.acks
 
   met_of : (b : NodeState) → ((link_in b v).peer_boot == era.life v) ≡ true → has_met x era v b ≡ true
   met_of b is = go x.epochs
@@ -222,7 +259,7 @@ module _ (arts : Arts) (x : Setting) (all : List Event) (era : Era) (flow : Flow
     | inr made ↦ elim (cases_Bool (made.0.fixed.boot == era.life u)) [
       | inl same ↦
           let is = ap (told_of arts x era flow u v) made.1.at ∙ frame_told arts x era flow u v made.0 (frame_to arts made.0 v) made.1.framed (eqb-true _ _ same) in
-          subst (IsMade (Watched arts x all era) (sight arts x all era flow) w u v) (sym is) (of_node made.0 made.1 same)
+          subst (IsMade (Watched arts x all era) (sight arts x all era flow) w u v) (sym is) (made_version (made.0.live.version == era.version) _ (of_node made.0 made.1 same))
       | inr other ↦
           let off : ((arts.head (frame_to arts made.0 v)).boot == era.life u) ≡ false = ap (λ b. b == era.life u) made.1.framed.head.boot_is ∙ other in
           let is = ap (told_of arts x era flow u v) made.1.at ∙ other_told arts x era flow u v (frame_to arts made.0 v) off in
@@ -232,14 +269,14 @@ module _ (arts : Arts) (x : Setting) (all : List Event) (era : Era) (flow : Flow
     where
       of_node : (b : NodeState) → Polled arts x all era flow w y u v b → (b.fixed.boot == era.life u) ≡ true
           → IsMade (Watched arts x all era) (sight arts x all era flow) w u v
-          (told_slot era flow ((link_in b v).peer_boot == era.life v) (contents_to b.fixed b.parts v).slot)
+          (told_slot era flow ((link_in b v).peer_boot == era.life v) (contents_at b v).slot)
       of_node b p same =
           let made = made_of b p in
-          let f = told_slot era flow ((link_in b v).peer_boot == era.life v) (contents_to b.fixed b.parts v).slot in
+          let f = told_slot era flow ((link_in b v).peer_boot == era.life v) (contents_at b v).slot in
           let era_of : f.mine ≡ true → in_era era flow u b ≡ true = λ z. let on = hop.first in let held = made.held z in rw (on, same) held in
           let flow_of_it : f.mine ≡ true → flow_seen arts x all era flow w u ≡ flow_in b.parts.rel.flows flow =
           λ z. seen_flow arts x all era flow w u b p.there (era_of z) in
-          let echo_of : f.mine ≡ true → ((link_in b v).peer_boot == era.life v) ≡ true = mine_echo era flow ((link_in b v).peer_boot == era.life v) (contents_to b.fixed b.parts v).slot in
+          let echo_of : f.mine ≡ true → ((link_in b v).peer_boot == era.life v) ≡ true = mine_echo era flow ((link_in b v).peer_boot == era.life v) (contents_at b v).slot in
           let view_of_it : f.mine ≡ true → view_seen arts x all era flow w u v ≡ view_in (peer_in b.parts.rel.peers v).views flow =
           λ z. seen_view arts x all era flow w u v b p.there (era_of z) (met_of b (echo_of z)) in
           record {
@@ -259,21 +296,22 @@ module _ (arts : Arts) (x : Setting) (all : List Event) (era : Era) (flow : Flow
           }
 
   -- where u holds the boots that count, it is there, and serves the flow at its turn
-  pub serves_now : (b : NodeState) → node_in w.at.world.nodes u ≡ Some b → in_era era flow u b ≡ true
+  pub serves_now : (b : NodeState) → node_in w.at.world.nodes u ≡ Some b → in_era era flow u b ≡ true → b.live.version ≡ era.version
+      → (has_heard x era.version v b ≡ true → is_served b v ≡ true)
       → IsServed (Watched arts x all era) (sight arts x all era flow) (place_at x flow) flow.dst w u v told
-  serves_now b there counts = elim polled_now [
+  serves_now b there counts version carried = elim polled_now [
     | inl missed ↦ absurd (let f : true ≡ false = sym (found_there u b w.at.world.nodes there) ∙ missed.1 in cc)
     | inr made ↦
         let same : made.0 ≡ b = same_Some made.0 b (sym made.1.there ∙ there) in
         let p = subst (Polled arts x all era flow w y u v) same made.1 in
         let life = (life_is era u b (era_is era flow u b counts).0).1 in
         let is = ap (told_of arts x era flow u v) p.at ∙ frame_told arts x era flow u v b (frame_to arts b v) p.framed life in
-        subst (IsServed (Watched arts x all era) (sight arts x all era flow) (place_at x flow) flow.dst w u v) (sym is) (of_served b p)
+        subst (IsServed (Watched arts x all era) (sight arts x all era flow) (place_at x flow) flow.dst w u v) (sym is) (served_version (b.live.version == era.version) _ (eq-eqb _ _ version) (of_served b p))
   ]
     where
       of_served : (b : NodeState) → Polled arts x all era flow w y u v b
           → IsServed (Watched arts x all era) (sight arts x all era flow) (place_at x flow) flow.dst w u v
-          (told_slot era flow ((link_in b v).peer_boot == era.life v) (contents_to b.fixed b.parts v).slot)
+          (told_slot era flow ((link_in b v).peer_boot == era.life v) (contents_at b v).slot)
       of_served c p =
           let same : c ≡ b = same_Some c b (sym p.there ∙ there) in
           let mine_era : in_era era flow u c ≡ true = ap (in_era era flow u) same ∙ counts in
@@ -281,16 +319,19 @@ module _ (arts : Arts) (x : Setting) (all : List Event) (era : Era) (flow : Flow
           let lived = in_it.0 in
           let made = made_of c p in
           let echo = (link_in c v).peer_boot == era.life v in
-          let slot = (contents_to c.fixed c.parts v).slot in
-          let knows : (sight arts x all era flow).knows w u v ≡ echo = lit false (knows_life era u v) (node_in w.at.world.nodes u) c p.there ∙ rw lived refl in
+          let slot = (contents_at c v).slot in
+          let knows : (sight arts x all era flow).knows w u v ≡ (echo && has_heard x era.version v c) =
+          lit false (knows_now x era u v) (node_in w.at.world.nodes u) c p.there ∙ rw lived refl in
           let last = lit None (λ q. (peer_in q.parts.rel.peers v).last) (node_in w.at.world.nodes u) c p.there in
           let actives : (sight arts x all era flow).actives w u ≡ map (λ f. f.active) c.parts.rel.flows = lit [] (actives_of era flow u) (node_in w.at.world.nodes u) c p.there ∙ rw mine_era refl in
           let flow_now = seen_flow arts x all era flow w u c p.there mine_era in
           record {
             here = slot_here era flow echo slot;
-            mine = λ is turn. made.mine (sym knows ∙ is) in_it.1
+            mine = λ is turn.
+                let known = two_true echo (has_heard x era.version v c) (sym knows ∙ is) in
+                made.mine (subst (λ (q : NodeState). has_heard x era.version v q ≡ true → is_served q v ≡ true) (sym same) carried known.1) known.0 in_it.1
                 (ap (λ o. next_after o (map (λ f. f.active) c.parts.rel.flows)) (sym last) ∙ ap (next_after ((sight arts x all era flow).last w u v)) (sym actives) ∙ turn);
-            echo = slot_echo era flow echo slot ∙ sym knows;
+            echo = λ is. slot_echo era flow echo slot ∙ (two_true echo (has_heard x era.version v c) (sym knows ∙ is)).0;
             next_is = λ z away.
                 let met : has_met x era v c ≡ true = met_of c (mine_echo era flow echo slot z) in
                 let view_now = seen_view arts x all era flow w u v c p.there mine_era met in

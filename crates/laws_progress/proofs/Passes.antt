@@ -1,12 +1,13 @@
 -- A frame that is passed comes through: the node that it reaches knows the sender's boot, and, where the frame echoes its own, has seen the frame or a later one.
 use Rattle.laws_progress.proofs.Versions.{datagram_same}
-use Rattle.std.proofs.Common.{◌≡◌, ℕ, true, false, List, Option, Some, None, sym, ap, ◌∙◌}
+use Rattle.std.proofs.Common.{◌≡◌, ℕ, true, false, List, Option, Some, None, refl, sym, ap, ◌∙◌}
 use Rattle.std.specs.Prelude.{option_and_then}
 use Rattle.std.specs.List.{list_any}
 use Rattle.std.proofs.lemmas.Bool.{eqb-true}
 use Rattle.sp_base.specs.declared.id.NodeId.{NodeId}
 use Rattle.sp_rules.specs.Arts.{Arts}
-use Rattle.sp_rules.specs.Arrivals.{link_after, before_document}
+use Rattle.sp_rules.specs.Arrivals.{link_after, before_document, document_at, read_by}
+use Rattle.laws_node.proofs.Adopting.{reading}
 use Rattle.sp_rules.specs.Node.{NodeState, call_refusal, is_link, kept_or, link_in}
 use Rattle.sp_rules.specs.Steps.{Datagram, NodeStep, Output}
 use Rattle.sp_rules.specs.declared.node.NodeRefused.{NodeRefused}
@@ -55,6 +56,18 @@ datagram_after arts x n u bytes o m k reply s says same =
     let free = answered x k (call_refusal n u) _ reply (ap (λ (p : Output). reply_word x k p.reply) (sym s.0) ∙ says) in
     datagram_same arts n u bytes m s.1 same ∙ ap (λ (r : Option NodeRefused). kept_or r n (before_document arts n u bytes)) free
 
-pub datagram_link : (arts : Arts) (n m : NodeState) (u : NodeId) (bytes : List ℕ) → list_any (is_link u) n.links ≡ true → m ≡ before_document arts n u bytes
-    → link_in m u ≡ link_after arts n u bytes
-datagram_link arts n m u bytes there is = ap (λ (q : NodeState). link_in q u) is ∙ put_link n u (link_after arts n u bytes) (after_peer arts n u bytes) there
+-- one that was answered leaves what its document makes of them
+pub datagram_read : (arts : Arts) (x : Setting) (n : NodeState) (u : NodeId) (bytes : List ℕ) (o : Output) (m : NodeState) (k : ℕ) (reply : Reply)
+    → NodeStep arts n (Datagram u bytes) o m → reply_word x k o.reply ≡ Some reply
+    → m ≡ read_by arts (before_document arts n u bytes) (document_at arts n u bytes)
+datagram_read arts x n u bytes o m k reply s says =
+    let free = answered x k (call_refusal n u) _ reply (ap (λ (p : Output). reply_word x k p.reply) (sym s.0) ∙ says) in
+    s.1 ∙ ap (λ (r : Option NodeRefused). kept_or r n (read_by arts (before_document arts n u bytes) (document_at arts n u bytes))) free
+
+pub datagram_link : (arts : Arts) (n m : NodeState) (u : NodeId) (bytes : List ℕ) → list_any (is_link u) n.links ≡ true
+    → m ≡ read_by arts (before_document arts n u bytes) (document_at arts n u bytes) → link_in m u ≡ link_after arts n u bytes
+datagram_link arts n m u bytes there is =
+    let left = before_document arts n u bytes in
+    ap (λ (q : NodeState). link_in q u) is
+    ∙ reading arts left (document_at arts n u bytes) (λ q told. link_in q u ≡ link_in left u) refl (λ document d by reads is. refl)
+    ∙ put_link n u (link_after arts n u bytes) (after_peer arts n u bytes) there

@@ -1,7 +1,11 @@
 -- Polls: how many, and which flow each serves.
-use Rattle.std.proofs.Common.{◌≡◌, ℕ, ◌+◌, true, false, cond, List, [], ◌∷◌, ◌++◌, Option, Some, None, refl, ap, ◌∙◌, arith, ◌≤◌, Bool}
+use Rattle.std.proofs.Common.{◌≡◌, ℕ, ◌+◌, true, false, cond, List, [], ◌∷◌, ◌++◌, Option, Some, None, refl, sym, inl, inr, ap, ◌∙◌, arith, ◌≤◌, Bool, ◌&&◌, ◌||◌, ◌==◌}
+use Rattle.std.specs.List.{position_or_len}
+use Rattle.sp_topology.specs.Neighbours.{joins}
+use Rattle.sp_topology.specs.declared.topology.Edge.{Edge}
+use Rattle.sp_rules.specs.Topologies.{is_shut}
 use Rattle.std.specs.List.{list_any}
-use Rattle.std.proofs.lemmas.Bool.{eqb-true, eq-eqb}
+use Rattle.std.proofs.lemmas.Bool.{cases_Bool, eqb-true, eq-eqb}
 use Rattle.std.proofs.lemmas.List.Sums.{sum_by_push}
 use Rattle.sp_base.specs.declared.id.NodeId.{NodeId}
 use Rattle.sp_rules.specs.Arts.{Arts}
@@ -69,11 +73,28 @@ none_polled arts x all w y e u v follows is =
 
 -- ---- an edge joins both ways
 
+joins_back : (u v : ℕ) (e : Edge) → joins u v e ≡ joins v u e
+joins_back u v e = swap ((e.low.0 == u) && (e.high.0 == v)) ((e.low.0 == v) && (e.high.0 == u))
+  where
+    swap : (a b : Bool) → (a || b) ≡ (b || a)
+    swap true true = refl
+    swap true false = refl
+    swap false true = refl
+    swap false false = refl
+
+pub same_place : (u v : ℕ) (edges : List Edge) → position_or_len (joins u v) edges ≡ position_or_len (joins v u) edges
+same_place u v [] = refl
+same_place u v (e ∷ edges) = elim (cases_Bool (joins u v e)) [
+  | inl t ↦ let z : joins v u e ≡ true = sym (joins_back u v e) ∙ t in rw (t, z) refl
+  | inr t ↦ let z : joins v u e ≡ false = sym (joins_back u v e) ∙ t in rw (t, z) (ap (λ k. 1 + k) (same_place u v edges))
+]
+
 pub both_ways : (x : Setting) (u v : NodeId) → IsHop x u v → IsHop x v u
 both_ways x u v h = record { first = h.second; second = h.first; joined = hop_back x v u ∙ h.joined }
 
 pub between_back : (x : Setting) (era : Era) (u v : NodeId) → IsBetween x era u v → IsBetween x era v u
-between_back x era u v h = record { hop = both_ways x u v h.hop; first = h.second; second = h.first }
+between_back x era u v h =
+    record { hop = both_ways x u v h.hop; first = h.second; second = h.first; open_edge = ap (is_shut era.weights) (same_place v.0 u.0 x.topology.edges) ∙ h.open_edge }
 
 -- ---- which flow
 

@@ -1,5 +1,8 @@
 -- The law: positions, lists and views are in order in every state, and each active flow is counted.
-use Rattle.laws_progress.proofs.Versions.{not_ended}
+use Rattle.laws_progress.proofs.Versions.{UnderFirst, first_open, gone_at, not_ended, under_first}
+use Rattle.laws_node.specs.Withdrawals.{removed_now}
+use Rattle.sp_rules.specs.Rel.{is_one_of}
+use Rattle.sp_rules.specs.Topologies.{weights_in}
 use Rattle.laws_node.proofs.FreshLemmas.{one}
 use Rattle.laws_progress.proofs.Always.{always}
 use Rattle.laws_progress.proofs.Changes.{both_held, life_of}
@@ -38,7 +41,7 @@ use Rattle.laws_runs.proofs.FlowPlain.{flows_are_kept}
 use Rattle.laws_runs.proofs.Lists.{both}
 use Rattle.laws_runs.proofs.Signed.{signs}
 use Rattle.laws_runs.proofs.Tables.{same_node}
-use Rattle.laws_progress.specs.Delivery.{TopologyStays}
+use Rattle.laws_progress.specs.Positions.{TopologyStays}
 use Rattle.laws_progress.specs.Positions.{PositionClaims, PositionsAreInOrder, view_at}
 use Rattle.laws_progress.proofs.Counting.{asked_at, few_at}
 use Rattle.laws_progress.proofs.Places.{counts_one}
@@ -62,6 +65,9 @@ plain_met x t off = rw off refl
 
 module _ (arts : Arts) (x : Setting) (es : List Event) (js : List Entry) (w : World) (fits : StaysUp arts x)
     (through : ComesThrough x.topology.format arts x.signature_len) (one : 1 ≤ x.buffer) (run : Clean arts x es js w) (stays : TopologyStays es) where
+  first_at : (u : NodeId) (n : NodeState) → node_in w.nodes u ≡ Some n → UnderFirst x n
+  first_at u n at = under_first arts x es js w fits.fits through.carries run stays u n at
+
   correct_at : (u : NodeId) (n : NodeState) → node_in w.nodes u ≡ Some n → is_correct x u ≡ true
   correct_at u n at = ((signs arts x es js w fits.fits through.carries run).nodes u n at).correct
 
@@ -84,7 +90,7 @@ module _ (arts : Arts) (x : Setting) (es : List Event) (js : List Entry) (w : Wo
 
     -- every correct node is watched in its only life
     abbrev era : Era
-    era = record { on = is_correct x; life = λ u. 1; sboot = 0; dboot = 0; early = λ u v. polls es u v - seen_at 0 (λ q. (link_in q v).sent) (node_in w.nodes u) }
+    era = record { on = is_correct x; life = λ u. 1; version = x.topology.version; weights = weights_in x.topology.edges; sboot = 0; dboot = 0; early = λ u v. polls es u v - seen_at 0 (λ q. (link_in q v).sent) (node_in w.nodes u) }
 
     right : IsRight x (record { src = s; dst = d })
     right = record { from = from; to = to; different = different }
@@ -110,7 +116,16 @@ module _ (arts : Arts) (x : Setting) (es : List Event) (js : List Entry) (w : Wo
           there = n.1;
           boot = running_boot arts x es js w fits.fits through.carries run u n.0 n.1 ∙ without_epochs x w u fits.plain;
           held = both_held n.0 s d 0 0 (none s) (none d);
+          version = let same = (first_at u n.0 n.1).0 in omega (arith, same);
+          weights = λ same. (first_at u n.0 n.1).1;
         }
+
+    most : (u : NodeId) → is_correct x u ≡ true → (n : NodeState) → node_in w.nodes u ≡ Some n → n.live.version ≤ x.topology.version
+    most u on n at = let same = (first_at u n at).0 in omega (arith, same)
+
+    joined : (u v : NodeId) → is_correct x u ≡ true → is_correct x v ≡ true → (n : NodeState) → node_in w.nodes u ≡ Some n → is_one_of (removed_now n) v ≡ false
+    joined u v on v_on n at =
+        ap (λ gone. is_one_of gone v) (gone_at arts x fits.fits (Good arts x es js) u n ((signs arts x es js w fits.fits through.carries run).nodes u n at) (first_at u n at))
 
     early_is : (u v : NodeId) → is_correct x u ≡ true → (n : NodeState) → node_in w.nodes u ≡ Some n
         → polls es u v - seen_at 0 (λ (q : NodeState). (link_in q v).sent) (node_in w.nodes u) ≡ polls es u v - (link_in n v).sent
@@ -118,15 +133,15 @@ module _ (arts : Arts) (x : Setting) (es : List Event) (js : List Entry) (w : Wo
 
     watched : Watched arts x es era
     watched =
-        watch arts x es era (record { src = s; dst = d }) fits.fits through.carries is_era through.heads stays (last_state arts x es js w run) up_now
-        early_is
+        watch arts x es era (record { src = s; dst = d }) fits.fits through.carries is_era through.heads (last_state arts x es js w run) up_now most
+        joined early_is
         (λ u v on joined n at. sent_within arts x es js w fits.fits through.carries run u v joined n at)
 
     watched_at : watched.at ≡ last_state arts x es js w run
     unfolding watched
     watched_at =
-        watch_is arts x es era (record { src = s; dst = d }) fits.fits through.carries is_era through.heads stays (last_state arts x es js w run) up_now
-        early_is
+        watch_is arts x es era (record { src = s; dst = d }) fits.fits through.carries is_era through.heads (last_state arts x es js w run) up_now most
+        joined early_is
         (λ u v on joined n at. sent_within arts x es js w fits.fits through.carries run u v joined n at)
 
     hop : (u v : NodeId) (n m : NodeState) → IsTrue (is_hop x u v) → node_in w.nodes u ≡ Some n → node_in w.nodes v ≡ Some m
@@ -135,7 +150,7 @@ module _ (arts : Arts) (x : Setting) (es : List Event) (js : List Entry) (w : Wo
         let flow : Flow = record { src = s; dst = d } in
         let u_on = correct_at u n at in
         let v_on = correct_at v m there in
-        let back : IsBetween x era v u = record { hop = both_ways x u v (record { first = u_on; second = v_on; joined = joined }); first = v_on; second = u_on } in
+        let back : IsBetween x era v u = record { hop = both_ways x u v (record { first = u_on; second = v_on; joined = joined }); first = v_on; second = u_on; open_edge = first_open x fits.fits v u (both_ways x u v (record { first = u_on; second = v_on; joined = joined })).joined } in
         let h = always arts x es era flow fits.fits through is_era watched v u back in
         let world = ap (λ (z : State arts x es). z.world) watched_at in
         let at_u : node_in watched.at.world.nodes u ≡ Some n = ap (λ (z : World). node_in z.nodes u) world ∙ at in

@@ -1,7 +1,11 @@
 -- What a step does to flows: no base and no have falls, no flow that is active stops being so, and no client's taking is undone.
 use Rattle.sp_rules.specs.Link.{advanced}
 use Rattle.sp_rules.specs.Polls.{is_served, parts_after, polled}
-use Rattle.laws_progress.proofs.Versions.{datagram_same, published_same}
+use Rattle.laws_progress.proofs.Versions.{closed_flow}
+use Rattle.laws_node.proofs.Adopting.{publishing, reading}
+use Rattle.sp_rules.specs.Documents.{under_topology}
+use Rattle.sp_rules.specs.declared.node.NodeRefused.{NodeRefused}
+use Rattle.sp_topology.specs.declared.topology.Topology.{Topology}
 use Rattle.std.proofs.Common.{◌≡◌, ◌<◌, ◌≤◌, ◌⊎◌, ℕ, ◌-◌, ◌==◌, Bool, true, false, cond, eqb, List, [], ◌∷◌, map, length, drop, Option, Some, None, refl, sym, ap, subst, ◌∙◌, inl, inr, arith}
 use Rattle.std.specs.Prelude.{◌&&◌}
 use Rattle.std.proofs.lemmas.Bool.{cases_Bool, cases_eq, eq-eqb, eqb-true, ne_eqb}
@@ -16,14 +20,14 @@ use Rattle.sp_msg.specs.declared.refused.SendRefused.{SendRefused}
 use Rattle.sp_rules.proofs.FlowJudged.{found_ends, same_ends}
 use Rattle.sp_rules.specs.Answers.{ack_answer, epoch_answer, is_new, prio_answer, rel_answer, weight_answer}
 use Rattle.sp_rules.specs.Arts.{Arts}
-use Rattle.sp_rules.specs.Arrivals.{arrival_at, greeted, parts_met, reply_at, sections_in, before_document, rises}
+use Rattle.sp_rules.specs.Arrivals.{arrival_at, greeted, parts_met, reply_at, sections_in, before_document, document_at, read_by, rises}
 use Rattle.sp_rules.specs.Flow.{FlowState, acknowledged_by, after_take, concluded, ends, flow_said, is_flow, no_flow, pushed, received}
 use Rattle.sp_rules.specs.Handle.{Arrival, handle, handle_all, met, offer_to, prio_handled}
 use Rattle.sp_rules.specs.Lives.{are_held, boot_said, held_boot, is_dated, judge_epoch, origin_said}
 use Rattle.sp_rules.specs.Node.{NodeState, call_refusal, kept_or, link_in, signed_now, called, with_link}
 use Rattle.sp_rules.specs.Parts.{Parts, is_signed}
 use Rattle.sp_rules.specs.Pieces.{Piece, AckPiece, PrioAckPiece, PrioPiece, RelPiece, ReportPiece, WeightPiece, EpochPiece}
-use Rattle.sp_rules.specs.Rel.{RelPeer, RelState, View, is_end, is_peer, is_view, no_view, restarted, view_in, view_less, viewed, views_less, admit_ack, admit_rel, judge_ack_of, judge_rel_of, pushed_in, due_place, flow_in, flow_to_me, is_to, next_place, put_flow, reported, served, served_at, settled, settled_at, told, took, with_flow, with_peer, peer_in}
+use Rattle.sp_rules.specs.Rel.{RelPeer, RelState, View, is_end, is_over, is_peer, is_view, no_view, restarted, view_in, view_less, viewed, views_less, admit_ack, admit_rel, judge_ack_of, judge_rel_of, pushed_in, due_place, flow_in, flow_to_me, is_to, next_place, put_flow, reported, served, served_at, settled, settled_at, told, took, with_flow, with_peer, peer_in}
 use Rattle.sp_rules.specs.Sends.{rel_body, rel_refusal, send_prio_refusal, signer_refusal, weight_refusal}
 use Rattle.sp_rules.specs.Steps.{Input, NodeStep, Output, Poll, Datagram, Tick, SendRel, SendPrio, SetWeight, TakeRel, TakePrio, Publish}
 use Rattle.sp_rules.specs.Ticks.{at_time, due_now, settled_by}
@@ -314,34 +318,56 @@ kept_go : {X : Type 0} (flow : Flow) (r : Option X) (n m : NodeState) → NodeGo
 kept_go flow None n m go = go
 kept_go flow (Some x) n m go = Goes_on refl refl (same_later _)
 
--- of one that leaves the version of its node
+-- of one that takes a version
+under_go : (flow : Flow) (n left : NodeState) (bytes : List ℕ) (t : Topology) → NodeGo flow n left
+    → is_over (under_topology left bytes t).parts.rel.removed flow ≡ false → NodeGo flow n (under_topology left bytes t)
+under_go flow n left bytes t (Goes_on src dst later) on =
+    Goes_on src dst (subst (FlowLater (flow_in n.parts.rel.flows flow)) (sym (closed_flow _ flow left.parts.rel.flows on)) later)
+under_go flow n left bytes t (Begins_anew rises none views) on = Begins_anew rises (closed_flow _ flow left.parts.rel.flows on ∙ none) views
+
+-- of one after which the flow hasn't ended
 pub step_go : (flow : Flow) (arts : Arts) (n : NodeState) (input : Input) (output : Output) (new : NodeState) → NodeStep arts n input output new
-    → new.live.version ≡ n.live.version → NodeGo flow n new
-step_go flow arts n (Poll v) output new s same =
+    → is_over new.parts.rel.removed flow ≡ false → NodeGo flow n new
+step_go flow arts n (Poll v) output new s on =
     subst (NodeGo flow n) (sym s.1) (kept_go flow (call_refusal n v) n (called n (with_link n v (advanced (link_in n v))) (parts_after n v))
     (cond_either (PartsGo flow n.parts) (is_served n v) (polled n.fixed n.parts v) n.parts
     (Goes_on refl refl (served_later n.parts.rel v flow)) (Goes_on refl refl (same_later _))))
-step_go flow arts n (Datagram v bytes) output new s same =
-    let risen = rises arts n v bytes in
-    subst (NodeGo flow n) (sym (datagram_same arts n v bytes new s.1 same)) (kept_go flow (call_refusal n v) n (before_document arts n v bytes)
-    (then_go flow n.parts (parts_met arts n v bytes) _ (greeted_lives n.fixed.epochs risen v n.parts)
-    (subst (λ fs. FlowLater (flow_in n.parts.rel.flows flow) (flow_in fs flow)) (sym (greeted_flows n.fixed.epochs risen v n.parts)) (same_later _))
-    (pieces_go flow arts (arrival_at n v) (parts_met arts n v bytes) (pieces_at arts n v bytes)
-    (last_where (reply_at arts n v bytes) n.fixed (sections_in arts n.fixed bytes)))))
-step_go flow arts n (Tick now) output new s same = subst (NodeGo flow n) (sym s.1) (go (due_now n) (signer_refusal n.signer))
+step_go flow arts n (Datagram v bytes) output new s on =
+    subst (NodeGo flow n) (sym s.1) (go (call_refusal n v) (ap (λ (m : NodeState). is_over m.parts.rel.removed flow) (sym s.1) ∙ on))
+  where
+    left : NodeState
+    left = before_document arts n v bytes
+
+    first : NodeGo flow n left
+    first =
+        let risen = rises arts n v bytes in
+        then_go flow n.parts (parts_met arts n v bytes) _ (greeted_lives n.fixed.epochs risen v n.parts)
+        (subst (λ fs. FlowLater (flow_in n.parts.rel.flows flow) (flow_in fs flow)) (sym (greeted_flows n.fixed.epochs risen v n.parts)) (same_later _))
+        (pieces_go flow arts (arrival_at n v) (parts_met arts n v bytes) (pieces_at arts n v bytes)
+        (last_where (reply_at arts n v bytes) n.fixed (sections_in arts n.fixed bytes)))
+
+    go : (r : Option NodeRefused) → is_over (kept_or r n (read_by arts left (document_at arts n v bytes))).parts.rel.removed flow ≡ false
+        → NodeGo flow n (kept_or r n (read_by arts left (document_at arts n v bytes)))
+    go (Some refused) on = Goes_on refl refl (same_later _)
+    go None on =
+        reading arts left (document_at arts n v bytes) (λ m told. is_over m.parts.rel.removed flow ≡ false → NodeGo flow n m) (λ on. first)
+        (λ document d is reads by on. under_go flow n left document d.topology first on) on
+step_go flow arts n (Tick now) output new s on = subst (NodeGo flow n) (sym s.1) (go (due_now n) (signer_refusal n.signer))
   where
     go : (o : Option Ack) (r : Option SendRefused) → NodeGo flow n (settled_by arts (at_time n now) o r)
     go None r = Goes_on refl refl (same_later _)
     go (Some ack) (Some refusal) = Goes_on refl refl (same_later _)
     go (Some ack) None = Goes_on refl refl (settled_later n.parts.rel (signed_now arts n (bodies.Ack ack)) flow)
-step_go flow arts n (SendRel dst payload) output new s same =
+step_go flow arts n (SendRel dst payload) output new s on =
     subst (NodeGo flow n) (sym s.1) (kept_go flow (rel_refusal n dst) n _ (Goes_on refl refl (sent_later n.parts.rel (signed_now arts n (rel_body n dst payload)) flow)))
-step_go flow arts n (SendPrio m) output new s same =
+step_go flow arts n (SendPrio m) output new s on =
     subst (NodeGo flow n) (sym s.new_is) (kept_go flow (send_prio_refusal n m s.choice) n _ (Goes_on refl refl (same_later _)))
-step_go flow arts n (SetWeight v weight) output new s same =
+step_go flow arts n (SetWeight v weight) output new s on =
     subst (NodeGo flow n) (sym s.1) (kept_go flow (weight_refusal n v weight) n _ (Goes_on refl refl (same_later _)))
-step_go flow arts n (TakeRel src) output new s same = subst (NodeGo flow n) (sym s.1) (Goes_on refl refl (took_later n.parts.rel src flow))
-step_go flow arts n TakePrio output new s same = subst (NodeGo flow n) (sym s.1) (Goes_on refl refl (same_later _))
-step_go flow arts n (Publish document) output new s same =
-    let is = s.1 ∙ published_same arts n document (ap (λ (m : NodeState). m.live.version) (sym s.1) ∙ same) in
-    subst (NodeGo flow n) (sym is) (Goes_on refl refl (same_later _))
+step_go flow arts n (TakeRel src) output new s on = subst (NodeGo flow n) (sym s.1) (Goes_on refl refl (took_later n.parts.rel src flow))
+step_go flow arts n TakePrio output new s on = subst (NodeGo flow n) (sym s.1) (Goes_on refl refl (same_later _))
+step_go flow arts n (Publish document) output new s on =
+    subst (NodeGo flow n) (sym s.1)
+    (publishing arts n document (λ m told. is_over m.parts.rel.removed flow ≡ false → NodeGo flow n m) (λ on. Goes_on refl refl (same_later _))
+    (λ d reads by on. under_go flow n n document d.topology (Goes_on refl refl (same_later _)) on)
+    (ap (λ (m : NodeState). is_over m.parts.rel.removed flow) (sym s.1) ∙ on))

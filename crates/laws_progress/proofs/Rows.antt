@@ -7,6 +7,7 @@ use Rattle.sp_base.specs.declared.id.Flow.{Flow}
 use Rattle.sp_base.specs.declared.id.NodeId.{NodeId}
 use Rattle.sp_topology.specs.Neighbours.{joins, neighbour, neighbours_from, other_end}
 use Rattle.sp_topology.specs.declared.topology.Edge.{Edge}
+use Rattle.sp_rules.specs.Versions.{is_heard_of}
 use Rattle.sp_rules.specs.Arts.{Arts}
 use Rattle.sp_rules.specs.Node.{NodeState, booted, is_link, link_of}
 use Rattle.sp_rules.specs.Parts.{Fixed, neighbours_of, nodes_of}
@@ -30,6 +31,7 @@ near x u = map (λ n. n.0) (neighbours_of (fixed_of x u))
 pub record RowsAre (x : Setting) (u : NodeId) (n : NodeState) : Type 0 where
   pub peers : map (λ p. p.peer) n.parts.rel.peers ≡ near x u
   pub links : map (λ l. l.peer) n.links ≡ near x u
+  pub heard : map (λ h. h.peer) n.heard ≡ near x u
 
 -- ---- at the start
 
@@ -81,6 +83,7 @@ rows_are arts x es js w fits reads run u n at =
           ∙ new_peers (pairs_of (nodes_of x.topology)) (near x u);
       links = same_shapes link_shape (λ (s : LinkShape). s.peer) n.links boot.links (ap (λ (s : Shape). s.links) same)
           ∙ new_links f (λ m. x.link_key m.1.0) (neighbours_of f);
+      heard = ap (λ (s : Shape). s.heard) shape;
     }
 
 -- ---- whom an edge joins
@@ -142,6 +145,9 @@ keyed key v (x ∷ xs) some = elim (cases_Bool (eqb (key x).0 v.0)) [
 -- a node has the rows of whom an edge joins to it
 pub peer_there : (x : Setting) (u v : NodeId) (n : NodeState) → RowsAre x u n → is_hop x u v ≡ true → list_any (is_peer v) n.parts.rel.peers ≡ true
 peer_there x u v n rows hop = keyed (λ p. p.peer) v n.parts.rel.peers (ap (list_any (is_id v)) rows.peers ∙ neighbour_there u v 0 x.topology.edges hop)
+
+pub heard_there : (x : Setting) (u v : NodeId) (n : NodeState) → RowsAre x u n → is_hop x u v ≡ true → list_any (is_heard_of v) n.heard ≡ true
+heard_there x u v n rows hop = keyed (λ h. h.peer) v n.heard (ap (list_any (is_id v)) rows.heard ∙ neighbour_there u v 0 x.topology.edges hop)
 
 pub link_there : (x : Setting) (u v : NodeId) (n : NodeState) → RowsAre x u n → is_hop x u v ≡ true → list_any (is_link v) n.links ≡ true
 link_there x u v n rows hop = keyed (λ l. l.peer) v n.links (ap (list_any (is_id v)) rows.links ∙ neighbour_there u v 0 x.topology.edges hop)

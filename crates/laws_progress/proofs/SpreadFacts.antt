@@ -43,8 +43,8 @@ pub record Spreading : Type 1 where
   pub known : (w x : State) (e : Event) (u v : NodeId) → Hop u v → Next w e x → at.knows w u v ≡ true → at.knows x u v ≡ true
   pub one_polled : (w x : State) (e : Event) (u v : NodeId) → Hop u v → Next w e x → is_poll u v e ≡ true → at.polled x u v ≡ at.polled w u v + 1
   pub none_polled : (w x : State) (e : Event) (u v : NodeId) → Hop u v → Next w e x → is_poll u v e ≡ false → at.polled x u v ≡ at.polled w u v
-  pub carries : (w x : State) (e : Event) (u v : NodeId) (p : ℕ) → Hop u v → Next w e x → is_poll u v e ≡ true → IsCarried State at p w u v
-      → at.last x u v ≡ Some p
+  pub carries : (w x : State) (e : Event) (u v : NodeId) (p : ℕ) → Hop u v → Next w e x → is_poll u v e ≡ true → at.knows w u v ≡ true
+      → IsCarried State at p w u v → at.last x u v ≡ Some p
   pub carries_none : (w x : State) (e : Event) (u v : NodeId) → Hop u v → Next w e x → is_poll u v e ≡ false → at.last x u v ≡ at.last w u v
   -- ---- of one state
   pub row_there : (w : State) (u o : NodeId) → Up u → 0 < at.held w u o → is_on (at.rows w u) (place o) ≡ true

@@ -26,6 +26,7 @@ module _ (r : Spreading) where
     among = r.all;
     place = r.place o;
     Holds = λ w u. 0 < r.at.held w u o;
+    Serves = λ w u v. r.at.knows w u v ≡ true;
     Heard = λ w z u v. IsTold r.State r.at r.place w z u v;
     one_polled = r.one_polled;
     none_polled = r.none_polled;
@@ -34,6 +35,7 @@ module _ (r : Spreading) where
     within = λ w u v hop. r.within w u (r.is_up u v hop);
     active = λ w u v hop some. r.row_there w u o (r.is_up u v hop) some;
     holds_on = λ w x e u v hop next some. let rise = r.held_rises w x e u o (r.is_up u v hop) next in omega (arith, some, rise);
+    serves_on = λ w x e u v hop next knows. r.known w x e u v hop next knows;
     heard = r.told;
   }
 
@@ -51,7 +53,7 @@ module _ (r : Spreading) where
   sweep_told o u v hop pho es w y g passes one enough knows = elim (cases_lt 0 (r.at.held w u o)) [
     | inr none ↦ omega (arith, none)
     | inl some ↦
-        let t = swept (starts o) u v hop es w y g passes one enough some in
+        let t = swept (starts o) u v hop es w y g passes one enough some knows in
         let it = t.it in
         let k = stays r.State r.Next (λ x. r.at.knows x u v) (λ p q e n. r.known p q e u v hop n) it.before w it.made it.first knows in
         let before = rises r.State r.Next (λ x. r.at.held x u o) (λ p q e n. r.held_rises p q e u o (r.is_up u v hop) n) it.before w it.made it.first in

@@ -1,5 +1,5 @@
 -- The law on told starts: the nodes of a path that stay up hold the boots of each other's lives after hops + 1 rounds that tell starts.
-use Rattle.std.proofs.Common.{◌≡◌, ◌<◌, ◌≤◌, ℕ, suc, ◌+◌, true, List, [], ◌∷◌, ◌++◌, length, get_or, Some, refl, ap, subst, ◌∙◌, arith}
+use Rattle.std.proofs.Common.{sym, ◌≡◌, ◌<◌, ◌≤◌, ℕ, suc, ◌+◌, true, List, [], ◌∷◌, ◌++◌, length, get_or, Some, refl, ap, subst, ◌∙◌, arith}
 use Rattle.std.specs.Prelude.{IsTrue, slice_get}
 use Rattle.std.proofs.lemmas.Option.{get_or_from_slice_get, slice_get-get_or}
 use Rattle.sp_base.specs.declared.id.NodeId.{NodeId}
@@ -13,7 +13,8 @@ use Rattle.sp_runs.specs.Settings.{Setting, SettingFits, is_correct}
 use Rattle.sp_runs.specs.Worlds.{World, node_in}
 use Rattle.sp_schedule_events.specs.declared.event.Event.{Event}
 use Rattle.laws_progress.specs.Calm.{StaysUpIn}
-use Rattle.laws_progress.specs.Delivery.{TopologyStays}
+use Rattle.laws_progress.specs.Within.{IsPathUnder, RunsUnder}
+use Rattle.laws_progress.proofs.Within.{hop_open}
 use Rattle.laws_progress.specs.LifeDelivery.{CountedStarts}
 use Rattle.laws_progress.specs.Telling.{TellingRounds}
 use Rattle.laws_runs.proofs.HeldBoots.{held_boots_are_born}
@@ -23,9 +24,9 @@ use Rattle.laws_progress.proofs.LifeRows.{many_rows, place_low}
 use Rattle.laws_progress.proofs.Places.{nobody}
 use Rattle.laws_progress.proofs.SpreadPaths.{all_told}
 use Rattle.laws_progress.proofs.RunStates.{are_hops, ends_are, split}
-use Rattle.laws_progress.proofs.States.{last_state, seen_at}
+use Rattle.laws_progress.proofs.States.{State, last_state, seen_at}
 use Rattle.laws_progress.proofs.UpFacts.{node_there}
-use Rattle.laws_progress.proofs.UpFrames.{UpHop, boot_stays}
+use Rattle.laws_progress.proofs.UpFrames.{UpHop, boot_stays, turned}
 use Rattle.laws_progress.proofs.UpStates.{Interval, UpNext, UpState, up_to}
 use Rattle.laws_progress.proofs.UpTold.{spreading}
 
@@ -35,8 +36,8 @@ On path u = (i : ℕ) × (slice_get path i ≡ Some u)
 
 -- they stay up in an interval, with hops between neighbours
 abbrev pub interval : (arts : Arts) (x : Setting) (all : List Event) → SettingFits arts x → ComesThrough x.topology.format arts x.signature_len → x.epochs ≡ true
-    → TopologyStays all → (s d : NodeId) (path : List NodeId) → IsCorrectPath x s d path → Interval
-interval arts x all fits reads epochs stays s d path is = record {
+    → (version : ℕ) (weights : List ℕ) (s d : NodeId) (path : List NodeId) → IsCorrectPath x s d path → Interval
+interval arts x all fits reads epochs version weights s d path is = record {
   arts = arts;
   x = x;
   all = all;
@@ -44,16 +45,20 @@ interval arts x all fits reads epochs stays s d path is = record {
   fits = fits;
   reads = reads;
   epochs = epochs;
-  stays = stays;
+  version = version;
+  weights = weights;
   correct = λ u up. all_get (λ n. IsTrue (is_correct x n)) path up.0 u is.correct up.1;
 }
 
 on_hops : (arts : Arts) (x : Setting) (all : List Event) (fits : SettingFits arts x) (reads : ComesThrough x.topology.format arts x.signature_len)
-    (epochs : x.epochs ≡ true) (stays : TopologyStays all)
-    → (s d : NodeId) (path : List NodeId) (is : IsCorrectPath x s d path) → AreHops (UpHop (interval arts x all fits reads epochs stays s d path is)) path
-on_hops arts x all fits reads epochs stays s d path is i u v a b =
-    let both = are_hops x s d path is i u v a b in
-    (record { near = (i, a); far = (suc i, b); joined = both.0.joined }, record { near = (suc i, b); far = (i, a); joined = both.1.joined })
+    (epochs : x.epochs ≡ true) (version : ℕ) (weights : List ℕ)
+    → (s d : NodeId) (path : List NodeId) (way : IsPathUnder x weights s d path)
+    → AreHops (UpHop (interval arts x all fits reads epochs version weights s d path way.walks)) path
+on_hops arts x all fits reads epochs version weights s d path way i u v a b =
+    let c = interval arts x all fits reads epochs version weights s d path way.walks in
+    let hop = (are_hops x s d path way.walks i u v a b).0 in
+    let there : UpHop c u v = record { near = (i, a); far = (suc i, b); joined = hop.joined; open_edge = hop_open x weights s d path way i u v a b } in
+    (there, turned c u v there)
 
 -- the life of a node that stays up is the same at the end of an interval
 same_life : (c : Interval) (es : List Event) (w y : UpState c) → Goes (UpState c) (UpNext c) w es y → (u : NodeId) → c.Up u
@@ -69,10 +74,11 @@ at_place path i none low =
     (there, get_or_from_slice_get path i (get_or path i none) nobody there)
 
 pub starts_are_told : CountedStarts
-starts_are_told arts x fits reads epochs es js w after more v early run stays s d path is ups least enough rounds i one_none low j other_none close n m
+starts_are_told arts x fits reads epochs es js w after more v early run version weights s d path way under ups least enough rounds i one_none low j other_none close n m
     at_n at_m =
     let all = es ++ after in
-    let c = interval arts x all fits reads epochs stays s d path is in
+    let is = way.walks in
+    let c = interval arts x all fits reads epochs version weights s d path is in
     let ends = ends_are x s d path is in
     let long = ends.long in
     let y = last_state arts x all (js ++ more) v run in
@@ -81,9 +87,14 @@ starts_are_told arts x fits reads epochs es js w after more v early run stays s 
     let first : UpState c = record {
       state = parts.mid;
       runs = λ u up. ((up_in u up).node, ap (λ (z : World). node_in z.nodes u) parts.world ∙ (up_in u up).runs);
+      under = λ u up q at_q.
+          let runs = all_get (RunsUnder version weights w) path up.0 u under.begins up.1 in
+          let here = sym (ap (λ (z : World). node_in z.nodes u) parts.world) ∙ at_q in
+          (runs.version_is q here, runs.weights_are q here);
     } in
-    let to = up_to c after first y parts.goes (λ u up. (up_in u up).stays) in
-    let last : UpState c = record { state = y; runs = to.runs } in
+    let to = up_to c after first y parts.goes (λ u up. (up_in u up).stays)
+    (λ u up q at_q. (all_get (RunsUnder version weights v) path up.0 u under.ends up.1).version_is q at_q) in
+    let last : UpState c = to.last in
     let r = spreading c in
     let begin_there = place_low x.topology.nodes s (node_there x s (c.correct s (0, ends.begins))) in
     let rows = many_rows x.topology.nodes in
@@ -94,7 +105,7 @@ starts_are_told arts x fits reads epochs es js w after more v early run stays s 
     let up_o : On path o = (j, at_o.0) in
     let count : hops path + 1 ≡ suc (hops path) = omega arith in
     let spread =
-    all_told r least (omega (arith, begin_there, enough)) (omega (arith, rows, enough)) path (on_hops arts x all fits reads epochs stays s d path is)
+    all_told r least (omega (arith, begin_there, enough)) (omega (arith, rows, enough)) path (on_hops arts x all fits reads epochs version weights s d path way)
     (λ k z at. (k, at)) (hops path) long
     es after first last to.goes (λ a b hop. ap (λ zs. polls zs a b) parts.events) (subst (λ k. TellingRounds least path k es after) count rounds)
     o i j (omega (arith, low, long)) (omega (arith, close, long)) in
@@ -104,9 +115,11 @@ starts_are_told arts x fits reads epochs es js w after more v early run stays s 
     let boots = held_boots_are_born arts x parts.mid.events parts.mid.journal parts.mid.world fits reads.carries parts.mid.run in
     let own = boots.own epochs o begins.0 begins.1 in
     let held_first = ap (seen_at 0 (λ q. held_boot q.parts.lives o)) begins.1 in
-    let held_last = ap (seen_at 0 (λ q. held_boot q.parts.lives o)) at_n in
+    let world : last.state.world ≡ v = ap (λ (z : State arts x all). z.world) to.is in
+    let held_last = ap (seen_at 0 (λ q. held_boot q.parts.lives o)) (ap (λ (z : World). node_in z.nodes u) world ∙ at_n) in
     let life_first = running_boot arts x parts.mid.events parts.mid.journal parts.mid.world fits reads.carries parts.mid.run o begins.0 begins.1 in
     let life_last = running_boot arts x all (js ++ more) v fits reads.carries run o m at_m in
     let life = same_life c after first last to.goes o up_o in
+    let same_last = ap (λ (z : World). last_boot x z o) world in
     let born = held_below arts x all (js ++ more) v fits reads.carries run u o n at_n (c.correct o up_o) in
-    omega (arith, spread_on, own, held_first, held_last, life_first, life_last, life, born)
+    omega (arith, spread_on, own, held_first, held_last, life_first, life_last, life, same_last, born)

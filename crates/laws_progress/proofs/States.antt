@@ -1,5 +1,5 @@
 -- The states of a run, and what is seen of a flow there.
-use Rattle.std.proofs.Common.{refl, subst, sym}
+use Rattle.std.proofs.Common.{sym}
 use Rattle.std.proofs.lemmas.List.{append-nil}
 use Rattle.std.specs.Prelude.{ℕ, zero, suc, ◌≡◌, ◌≤◌, ◌+◌, ◌-◌, ◌==◌, ◌&&◌, ◌||◌, Bool, true, false, not, IsTrue, List, [], ◌∷◌, ◌++◌, length, map, slice_get, Option, Some, None, if◌then◌else◌}
 use Rattle.sp_base.specs.declared.id.Flow.{Flow}
@@ -7,10 +7,12 @@ use Rattle.sp_base.specs.declared.id.NodeId.{NodeId}
 use Rattle.sp_rules.specs.Arts.{Arts}
 use Rattle.sp_rules.specs.Flow.{FlowState, no_flow}
 use Rattle.sp_rules.specs.Node.{NodeState, link_in}
-use Rattle.sp_rules.specs.Rel.{View, flow_in, no_view, peer_in, view_in}
-use Rattle.laws_progress.specs.Delivery.{TopologyStays}
-use Rattle.sp_runs.specs.Forgery.{lists_in, with_published}
-use Rattle.sp_schedule_events.specs.Documents.{list_in}
+use Rattle.laws_progress.proofs.Versions.{has_heard}
+use Rattle.sp_rules.specs.Topologies.{is_shut}
+use Rattle.sp_topology.specs.Neighbours.{joins}
+use Rattle.std.specs.List.{position_or_len}
+use Rattle.laws_node.specs.Withdrawals.{removed_now}
+use Rattle.sp_rules.specs.Rel.{View, flow_in, is_one_of, no_view, peer_in, view_in}
 use Rattle.sp_runs.specs.Runs.{Clean, InRange, Turn, forged_in, is_hop, polls}
 use Rattle.sp_runs.specs.Settings.{Setting, is_correct}
 use Rattle.sp_runs.specs.Worlds.{World, frames_in, node_in}
@@ -35,19 +37,6 @@ pub record State (arts : Arts) (x : Setting) (all : List Event) : Type 0 where
 abbrev pub last_state : (arts : Arts) (x : Setting) (es : List Event) (js : List Entry) (w : World) → Clean arts x es js w → State arts x es
 last_state arts x es js w run = record { events = es; journal = js; world = w; run = run; rest = []; whole = sym (append-nil es) }
 
--- what stays over all events stays over the first of them
-pub first_stays : (es after : List Event) → TopologyStays (es ++ after) → TopologyStays es
-first_stays [] after stays = refl
-first_stays (e ∷ es) after stays = go (list_in e) (first_stays es after) stays
-  where
-    go : (weights : Option (List ℕ)) → (TopologyStays (es ++ after) → TopologyStays es) → with_published weights (lists_in (es ++ after)) ≡ []
-        → with_published weights (lists_in es) ≡ []
-    go None rest is = rest is
-    go (Some weights) rest is = absurd (let some : weights ∷ lists_in (es ++ after) ≡ [] = is in cc)
-
-pub stays_at : (arts : Arts) (x : Setting) (all : List Event) (w : State arts x all) → TopologyStays all → TopologyStays w.events
-stays_at arts x all w stays = first_stays w.events w.rest (subst TopologyStays w.whole stays)
-
 -- one more event leads from one to the next
 pub data Follows (arts : Arts) (x : Setting) (all : List Event) (w : State arts x all) (e : Event) (y : State arts x all) : Type 0 where
   Follow : (j : Entry) → y.events ≡ w.events ++ e ∷ [] → y.journal ≡ w.journal ++ j ∷ [] → InRange x w.events e
@@ -55,19 +44,24 @@ pub data Follows (arts : Arts) (x : Setting) (all : List Event) (w : State arts 
 
 -- ---- an era: lives of nodes, and a pair of boots of the flow's ends
 
--- whom is watched, in which life, which boots of the flow's ends count, and how many places of a direction were there before its node's life
+-- whom is watched, in which life, in which version with which weights, which boots of the flow's ends count, and how many places of a direction were there
+-- before its node's life
 pub record Era : Type 0 where
   pub on : NodeId → Bool
   pub life : NodeId → ℕ
+  pub version : ℕ
+  pub weights : List ℕ
   pub sboot : ℕ
   pub dboot : ℕ
   pub early : NodeId → NodeId → ℕ
 
 -- a state that comes no later than the era ends: the lives that are watched are the last ones, and who began its life runs. So whatever a watched node made
--- in its life stands in its place. And nothing is published
+-- in its life stands in its place. And so are the versions that they run under, in which none of them is removed
 pub record Watched (arts : Arts) (x : Setting) (all : List Event) (era : Era) : Type 0 where
   pub at : State arts x all
-  pub stays : TopologyStays all
+  pub most : (u : NodeId) → era.on u ≡ true → (n : NodeState) → node_in at.world.nodes u ≡ Some n → n.fixed.boot ≡ era.life u → n.live.version ≤ era.version
+  pub joined : (u v : NodeId) → era.on u ≡ true → era.on v ≡ true → (n : NodeState) → node_in at.world.nodes u ≡ Some n → n.fixed.boot ≡ era.life u
+      → is_one_of (removed_now n) v ≡ false
   pub latest : (v : NodeId) → era.on v ≡ true → last_boot x at.world v ≤ era.life v
   pub runs : (v : NodeId) → era.on v ≡ true → last_boot x at.world v ≡ era.life v → (n : NodeState) × (node_in at.world.nodes v ≡ Some n)
   pub placed : (u v : NodeId) → era.on u ≡ true → is_hop x u v ≡ true → (k : ℕ) (bytes : List ℕ) → slice_get (frames_in at.world.directions u v) k ≡ Some (Some bytes)
@@ -109,6 +103,10 @@ numbered early (suc counter) = early + suc counter
 abbrev pub knows_life : Era → NodeId → NodeId → NodeState → Bool
 knows_life era u v n = in_life era u n && ((link_in n v).peer_boot == era.life v)
 
+-- it heard of the version too, so it carries what is in turn in its frames for it
+abbrev pub knows_now : Setting → Era → NodeId → NodeId → NodeState → Bool
+knows_now x era u v n = knows_life era u v n && has_heard x era.version v n
+
 abbrev pub actives_of : Era → Flow → NodeId → NodeState → List Bool
 actives_of era flow u n = if in_era era flow u n then map (λ f. f.active) n.parts.rel.flows else []
 
@@ -131,7 +129,7 @@ sight arts x all era flow = record {
   taken = λ w. (flow_seen arts x all era flow w flow.dst).at.have - length (flow_seen arts x all era flow w flow.dst).inbox;
   view_base = λ w u v. (view_seen arts x all era flow w u v).base;
   view_have = λ w u v. (view_seen arts x all era flow w u v).have;
-  knows = λ w u v. at_node arts x all era false (knows_life era u v) w u;
+  knows = λ w u v. at_node arts x all era false (knows_now x era u v) w u;
   polled = λ w u v. polls w.at.events u v;
   actives = λ w u. at_node arts x all era [] (actives_of era flow u) w u;
   last = λ w u v. at_node arts x all era None (λ n. (peer_in n.parts.rel.peers v).last) w u;
@@ -145,11 +143,12 @@ pub record IsHop (x : Setting) (u v : NodeId) : Type 0 where
   pub second : IsTrue (is_correct x v)
   pub joined : IsTrue (is_hop x u v)
 
--- and both are watched
+-- and both are watched, and the version doesn't withdraw it
 pub record IsBetween (x : Setting) (era : Era) (u v : NodeId) : Type 0 where
   pub hop : IsHop x u v
   pub first : era.on u ≡ true
   pub second : era.on v ≡ true
+  pub open_edge : is_shut era.weights (position_or_len (joins u.0 v.0) x.topology.edges) ≡ false
 
 -- ---- what is asked of an era
 

@@ -111,16 +111,19 @@ pub record Turning : Type 1 where
   pub among : List Bool
   pub place : ℕ
   pub Holds : State → NodeId → Type 0
+  -- the node serves its places in its frames for a neighbour
+  pub Serves : State → NodeId → NodeId → Type 0
   -- what a frame leaves, that is made in the first state and came in the second
   pub Heard : State → State → NodeId → NodeId → Type 0
   pub one_polled : (w x : State) (e : Event) (u v : NodeId) → Hop u v → Next w e x → is_poll u v e ≡ true → polled x u v ≡ polled w u v + 1
   pub none_polled : (w x : State) (e : Event) (u v : NodeId) → Hop u v → Next w e x → is_poll u v e ≡ false → polled x u v ≡ polled w u v
-  pub serves : (w x : State) (e : Event) (u v : NodeId) (p : ℕ) → Hop u v → Next w e x → is_poll u v e ≡ true
+  pub serves : (w x : State) (e : Event) (u v : NodeId) (p : ℕ) → Hop u v → Next w e x → is_poll u v e ≡ true → Serves w u v
       → next_after (last w u v) (actives w u) ≡ Some p → last x u v ≡ Some p
   pub serves_none : (w x : State) (e : Event) (u v : NodeId) → Hop u v → Next w e x → is_poll u v e ≡ false → last x u v ≡ last w u v
   pub within : (w : State) (u v : NodeId) → Hop u v → IsWithin (actives w u) among
   pub active : (w : State) (u v : NodeId) → Hop u v → Holds w u → is_on (actives w u) place ≡ true
   pub holds_on : (w x : State) (e : Event) (u v : NodeId) → Hop u v → Next w e x → Holds w u → Holds x u
+  pub serves_on : (w x : State) (e : Event) (u v : NodeId) → Hop u v → Next w e x → Serves w u v → Serves x u v
   pub heard : (w x y z : State) (e p : Event) (es : List Event) (u v : NodeId) → Hop u v → Next w e x → is_poll u v e ≡ true
       → Goes State Next x es y → AreNoPolls u v es → Next y p z → is_pass u v (polled x u v) p ≡ true → Heard w z u v
 
@@ -178,14 +181,15 @@ module _ (t : Turning) where
   ]
 
   -- a frame that serves the place, where its distance is at most the number of frames
-  served_soon : (u v : NodeId) → t.Hop u v → (es : List Event) (w y : t.State) → Path w es y → are_passed u v (t.polled w u v) es ≡ true → t.Holds w u
+  served_soon : (u v : NodeId) → t.Hop u v → (es : List Event) (w y : t.State) → Path w es y → are_passed u v (t.polled w u v) es ≡ true → t.Holds w u → t.Serves w u v
       → 1 ≤ polls es u v → distance t.among (t.last w u v) t.place ≤ polls es u v → Served u v w y
   unfolding heard_here later_heard
-  served_soon u v hop [] w y g passes holds one near = absurd (omega (arith, one))
-  served_soon u v hop (e ∷ es) w y (Steps {x = x} step g) passes holds one near =
+  served_soon u v hop [] w y g passes holds serves one near = absurd (omega (arith, one))
+  served_soon u v hop (e ∷ es) w y (Steps {x = x} step g) passes holds serves one near =
       let within = t.within w u v hop in
       let on = t.active w u v hop holds in
       let holds_next = t.holds_on w x e u v hop step holds in
+      let serves_next = t.serves_on w x e u v hop step serves in
       elim (cases_Bool (is_poll u v e)) [
         | inl poll ↦
             let next = serves_nearer (t.last w u v) (t.actives w u) t.among t.place on within in
@@ -193,12 +197,12 @@ module _ (t : Turning) where
               | inl is ↦ record { it = heard_here u v hop w x y e es step poll g passes; turn = next.1 ∙ ap (λ (q : ℕ). Some q) is }
               | inr other ↦
                   let less = next.2 other in
-                  let last = t.serves w x e u v next.0 hop step poll next.1 in
+                  let last = t.serves w x e u v next.0 hop step poll serves next.1 in
                   let number = t.one_polled w x e u v hop step poll in
                   let some = distance_one t.among (Some next.0) t.place (within t.place on) in
                   let near_now : distance t.among (t.last w u v) t.place ≤ suc (polls es u v) = rw (one_more u v e es poll) at near in
                   let parts = both (is_passed u v (t.polled w u v + 1) es) (are_passed u v (t.polled w u v + 1) es) (rw poll at passes) in
-                  let rest = served_soon u v hop es x y g (rw number parts.1) holds_next (omega (arith, less, some, near_now))
+                  let rest = served_soon u v hop es x y g (rw number parts.1) holds_next serves_next (omega (arith, less, some, near_now))
                   (rw last (omega (arith, less, near_now))) in
                   record { it = later_heard u v w x y e step rest.it; turn = rest.turn }
             ]
@@ -206,13 +210,13 @@ module _ (t : Turning) where
             let same = t.none_polled w x e u v hop step other in
             let last = t.serves_none w x e u v hop step other in
             let count = no_more u v e es other in
-            let rest = served_soon u v hop es x y g (rw same (rw other at passes)) holds_next (rw count at one) (rw last (rw count at near)) in
+            let rest = served_soon u v hop es x y g (rw same (rw other at passes)) holds_next serves_next (rw count at one) (rw last (rw count at near)) in
             record { it = later_heard u v w x y e step rest.it; turn = rest.turn }
       ]
 
   -- a sweep of at least as many polls as places are ever active serves one that its node holds when it begins
   pub swept : (u v : NodeId) → t.Hop u v → (es : List Event) (w y : t.State) → Path w es y → are_passed u v (t.polled w u v) es ≡ true
-      → 1 ≤ polls es u v → number_on t.among ≤ polls es u v → t.Holds w u → Served u v w y
-  swept u v hop es w y g passes one enough holds =
+      → 1 ≤ polls es u v → number_on t.among ≤ polls es u v → t.Holds w u → t.Serves w u v → Served u v w y
+  swept u v hop es w y g passes one enough holds serves =
       let far = distance_all t.among (t.last w u v) t.place in
-      served_soon u v hop es w y g passes holds one (omega (arith, far, enough))
+      served_soon u v hop es w y g passes holds serves one (omega (arith, far, enough))

@@ -5,14 +5,15 @@ use Rattle.laws_node.specs.Flows.{RelHolds}
 use Rattle.laws_progress.proofs.Becomes.{readied_keeps}
 use Rattle.laws_progress.proofs.Changes.{Acted, holds_both, life_is}
 use Rattle.laws_progress.proofs.Greets.{greet_view, greeted_peer, greeted_rows}
-use Rattle.laws_progress.proofs.Hears.{TakenAt, boots_stay, epochs_are, is_of, knows, peer_row, view_off}
+use Rattle.laws_progress.proofs.Versions.{served_contents}
+use Rattle.laws_progress.proofs.Hears.{HandledAt, TakenAt, boots_stay, epochs_are, is_of, knows, peer_row, view_off}
 use Rattle.laws_progress.proofs.MakesNow.{frame_told}
 use Rattle.laws_progress.proofs.Rises.{greeted_flows}
 use Rattle.laws_progress.proofs.SlotHeeds.{SlotDone, slot_done}
 use Rattle.laws_progress.proofs.Slots.{SameFlow, after_slot, frame_rel}
 use Rattle.laws_progress.proofs.States.{heard_of, Era, IsBetween, IsEra, Watched, in_era, in_life, has_met, view_at, numbered}
 use Rattle.laws_progress.proofs.Views.{RelRows, views_are}
-use Rattle.laws_progress.proofs.Wires.{told_of, told_slot, wires}
+use Rattle.laws_progress.proofs.Wires.{of_version, told_of, told_slot, wires}
 use Rattle.laws_runs.proofs.FlowRows.{row_of_keys}
 use Rattle.laws_runs.proofs.Lists.{both}
 use Rattle.laws_runs.proofs.StartPieces.{greeted_lives}
@@ -28,7 +29,7 @@ use Rattle.sp_rules.specs.Lives.{held_boot}
 use Rattle.sp_rules.specs.Node.{NodeState, link_in}
 use Rattle.sp_rules.specs.Parts.{Parts, nodes_of}
 use Rattle.sp_rules.specs.Pieces.{pieces_of}
-use Rattle.sp_rules.specs.Polls.{contents_to}
+use Rattle.sp_rules.specs.Polls.{contents_at, contents_to}
 use Rattle.sp_rules.specs.Rel.{RelState, View, is_peer, peer_in, view_in}
 use Rattle.sp_runs.specs.Settings.{SettingFits, Setting}
 use Rattle.sp_runs.specs.Worlds.{frame_in}
@@ -81,15 +82,24 @@ module _ (arts : Arts) (x : Setting) (all : List Event) (era : Era) (flow : Flow
   maker_life : it.arrived.from.node.fixed.boot ≡ era.life u
   maker_life = sym it.arrived.framed.head.boot_is ∙ it.life
 
-  pub told_is : (wires arts x all era flow).told w u v (k + 1) ≡ told_slot era flow true (contents_to it.arrived.from.node.fixed it.arrived.from.node.parts v).slot
-  told_is =
+  pub told_at : (wires arts x all era flow).told w u v (k + 1)
+      ≡ of_version (it.arrived.from.node.live.version == era.version) (told_slot era flow true (contents_at it.arrived.from.node v).slot)
+  told_at =
       let ds = w.at.world.directions in
       let mine : a.node.fixed.boot ≡ era.life v = (life_is era v a.node first).1 in
       let echo : ((link_in it.arrived.from.node v).peer_boot == era.life v) ≡ true = eq-eqb _ _ (sym it.arrived.framed.echo ∙ eqb-true _ _ it.echo ∙ mine) in
       ap (λ j. told_of arts x era flow u v (frame_in ds u v j)) (let q : k + 1 ≡ suc k = omega arith in q)
       ∙ ap (λ place. told_of arts x era flow u v (option_and_then (λ frame. frame) place)) it.arrived.there
       ∙ frame_told arts x era flow u v it.arrived.from.node it.bytes it.arrived.framed maker_life
-      ∙ ap (λ t. told_slot era flow t (contents_to it.arrived.from.node.fixed it.arrived.from.node.parts v).slot) echo
+      ∙ ap (λ t. of_version (it.arrived.from.node.live.version == era.version) (told_slot era flow t (contents_at it.arrived.from.node v).slot)) echo
+
+  pub told_is : HandledAt arts u v a.node a.after it.arrived.from.node it.bytes → (wires arts x all era flow).told w u v (k + 1)
+      ≡ of_version (it.arrived.from.node.live.version == era.version)
+      (told_slot era flow true (contents_to it.arrived.from.node.fixed it.arrived.from.node.parts v).slot)
+  told_is handled =
+      told_at
+      ∙ ap (λ (c : Contents). of_version (it.arrived.from.node.live.version == era.version) (told_slot era flow true c.slot))
+      (served_contents it.arrived.from.node v handled.served)
 
   pub number_is : k + 1 ≡ era.early u v + (arts.head it.bytes).counter
   number_is = w.placed u v hop.first hop.hop.joined k it.bytes it.arrived.there it.life
@@ -126,15 +136,15 @@ module _ (arts : Arts) (x : Setting) (all : List Event) (era : Era) (flow : Flow
     abbrev pub rel_after : RelState
     rel_after = after_slot arts a.node.fixed (parts_met arts a.node u it.bytes).lives (parts_met arts a.node u it.bytes).rel u (contents_to it.arrived.from.node.fixed it.arrived.from.node.parts v).slot
 
-    pub left_is : SameFlow flow rel_after a.after.parts.rel
-    left_is =
+    pub left_is : HandledAt arts u v a.node a.after it.arrived.from.node it.bytes → SameFlow flow rel_after a.after.parts.rel
+    left_is handled =
         let heard = heeded a.node.fixed (contents_to it.arrived.from.node.fixed it.arrived.from.node.parts v) in
         let boots : (z : NodeId) → held_boot a.after.parts.lives z ≡ held_boot a.node.parts.lives z
         → held_boot (handle_all arts (arrival_at a.node u) (parts_met arts a.node u it.bytes) (pieces_of heard)).parts.lives z ≡ held_boot (parts_met arts a.node u it.bytes).lives z =
-        λ z same. sym (ap (λ (p : Parts). held_boot p.lives z) it.parts) ∙ same ∙ sym (ap (λ ls. held_boot ls z) lives_met) in
+        λ z same. sym (ap (λ (p : Parts). held_boot p.lives z) handled.parts) ∙ same ∙ sym (ap (λ ls. held_boot ls z) lives_met) in
         let same = frame_rel arts (arrival_at a.node u) (parts_met arts a.node u it.bytes) heard flow (boots flow.src stay.1) (boots flow.dst stay.2) in
         let slot = heeded_slot a.node.fixed (contents_to it.arrived.from.node.fixed it.arrived.from.node.parts v) in
-        subst (λ (p : Parts). SameFlow flow rel_after p.rel) (sym it.parts)
+        subst (λ (p : Parts). SameFlow flow rel_after p.rel) (sym handled.parts)
         (subst (λ s. SameFlow flow (after_slot arts a.node.fixed (parts_met arts a.node u it.bytes).lives (parts_met arts a.node u it.bytes).rel u s)
         (handle_all arts (arrival_at a.node u) (parts_met arts a.node u it.bytes) (pieces_of heard)).parts.rel) slot same)
 
@@ -168,28 +178,28 @@ module _ (arts : Arts) (x : Setting) (all : List Event) (era : Era) (flow : Flow
         ≡ view_in (peer_in (parts_met arts a.node u it.bytes).rel.peers u).views flow = rw (first, held, met) refl in
         sym is ∙ seen
 
-    pub after_view : view_at x era flow v u a.after ≡ view_in (peer_in rel_after.peers u).views flow
-    after_view =
+    pub after_view : HandledAt arts u v a.node a.after it.arrived.from.node it.bytes → view_at x era flow v u a.after ≡ view_in (peer_in rel_after.peers u).views flow
+    after_view handled =
         let now = stay.0 in
         let met : has_met x era u a.after ≡ true = ap (λ (l : Link). not x.epochs || (l.peer_boot == era.life u)) it.link ∙ met_life in
-        rw (second, now, met) (left_is.views u)
+        rw (second, now, met) ((left_is handled).views u)
 
-    pub views_held : (view_at x era flow v u a.after ≡ view_at x era flow v u a.node)
+    pub views_held : HandledAt arts u v a.node a.after it.arrived.from.node it.bytes → (view_at x era flow v u a.after ≡ view_at x era flow v u a.node)
         ⊎ (((told_slot era flow true (contents_to it.arrived.from.node.fixed it.arrived.from.node.parts v).slot).mine ≡ true)
         × ((view_at x era flow v u a.after).base ≡ (told_slot era flow true (contents_to it.arrived.from.node.fixed it.arrived.from.node.parts v).slot).base)
         × ((view_at x era flow v u a.after).have ≡ (told_slot era flow true (contents_to it.arrived.from.node.fixed it.arrived.from.node.parts v).slot).have))
-    views_held = elim done.views [
-      | inl same ↦ inl (after_view ∙ same ∙ before_view)
-      | inr got ↦ inr (got.0, ap (λ (z : View). z.base) after_view ∙ got.1, ap (λ (z : View). z.have) after_view ∙ got.2)
+    views_held handled = elim done.views [
+      | inl same ↦ inl (after_view handled ∙ same ∙ before_view)
+      | inr got ↦ inr (got.0, ap (λ (z : View). z.base) (after_view handled) ∙ got.1, ap (λ (z : View). z.have) (after_view handled) ∙ got.2)
     ]
 
   -- the views of the neighbour stay, or are what the frame tells
-  pub views_after : (view_at x era flow v u a.after ≡ view_at x era flow v u a.node)
+  pub views_after : HandledAt arts u v a.node a.after it.arrived.from.node it.bytes → (view_at x era flow v u a.after ≡ view_at x era flow v u a.node)
       ⊎ (((told_slot era flow true (contents_to it.arrived.from.node.fixed it.arrived.from.node.parts v).slot).mine ≡ true)
       × ((view_at x era flow v u a.after).base ≡ (told_slot era flow true (contents_to it.arrived.from.node.fixed it.arrived.from.node.parts v).slot).base)
       × ((view_at x era flow v u a.after).have ≡ (told_slot era flow true (contents_to it.arrived.from.node.fixed it.arrived.from.node.parts v).slot).have))
-  views_after = elim (cases_Bool (holds a.node flow.src era.sboot flow.dst era.dboot)) [
-    | inl held ↦ views_held held
+  views_after handled = elim (cases_Bool (holds a.node flow.src era.sboot flow.dst era.dboot)) [
+    | inl held ↦ views_held held handled
     | inr off ↦ inl (view_off arts x all era flow fits reads is_era w y e u v hop a first second off)
   ]
 

@@ -30,13 +30,13 @@ told_paths_are_calm arts x fits reads epochs es js w after more v early run late
     let began = (up_in u up).node in
     let here =
     runs_through arts x all fits reads.carries after parts.mid y parts.goes u (quiet u up).0
-    (began, ap (λ (z : World). node_in z.nodes u) parts.world ∙ (up_in u up).runs) in
+    began (ap (λ (z : World). node_in z.nodes u) parts.world ∙ (up_in u up).runs) in
     let knows = λ (o : NodeId) (at : On path o) (q : NodeState) (there : node_in v.nodes o ≡ Some q).
     all_get (λ (p : NodeId). (a b : NodeState) → node_in v.nodes u ≡ Some a → node_in v.nodes p ≡ Some b → held_boot a.parts.lives p ≡ b.fixed.boot)
-    path at.0 o (known i none low) at.1 here.0 q here.1 there in
-    let from : (held_boot here.0.parts.lives s == n.fixed.boot) ≡ true = eq-eqb _ _ (knows s (0, ends.begins) n at_n) in
-    let to_end : (held_boot here.0.parts.lives d == m.fixed.boot) ≡ true = eq-eqb _ _ (knows d (_, ends.ends) m at_m) in
+    path at.0 o (known i none low) at.1 here.node q here.there there in
+    let from : (held_boot here.node.parts.lives s == n.fixed.boot) ≡ true = eq-eqb _ _ (knows s (0, ends.begins) n at_n) in
+    let to_end : (held_boot here.node.parts.lives d == m.fixed.boot) ≡ true = eq-eqb _ _ (knows d (_, ends.ends) m at_m) in
     record {
-      up = record { node = here.0; runs = here.1; stays = (quiet u up).1 };
+      up = record { node = here.node; runs = here.there; stays = (quiet u up).1 };
       held = rw (from, to_end) refl;
     }

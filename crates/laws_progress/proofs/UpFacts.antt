@@ -1,6 +1,10 @@
 -- What is seen of the nodes that stay up in an interval: the boots that they hold, the rows of what they hold of starts, and the cycles of their neighbours.
 use Rattle.laws_progress.proofs.Becomes.{readied_keeps}
-use Rattle.laws_progress.proofs.Versions.{served_at}
+use Rattle.laws_progress.proofs.Versions.{has_heard, served_there}
+use Rattle.sp_rules.specs.Topologies.{is_shut}
+use Rattle.sp_topology.specs.Neighbours.{joins}
+use Rattle.std.specs.List.{position_or_len}
+use Rattle.std.specs.Prelude.{◌&&◌}
 use Rattle.std.proofs.Common.{◌≡◌, ◌<◌, ◌≤◌, ℕ, ◌==◌, true, false, List, [], ◌∷◌, length, map, Option, Some, None, refl, sym, ap, subst, ◌∙◌, Bool, cond}
 use Rattle.std.proofs.Common.{inl, inr, arith}
 use Rattle.std.specs.List.{list_any}
@@ -36,7 +40,7 @@ use Rattle.laws_progress.proofs.LinkRuns.{idle_poll, poll_input}
 use Rattle.laws_progress.proofs.Polls.{answered}
 use Rattle.laws_progress.proofs.Service.{IsWithin, is_on}
 use Rattle.laws_progress.proofs.SpreadFacts.{IsCarried, Sees}
-use Rattle.laws_progress.proofs.States.{seen_at, stays_at}
+use Rattle.laws_progress.proofs.States.{seen_at}
 use Rattle.laws_progress.proofs.UpStates.{Interval, UpNext, UpState, took}
 
 -- where a node stands among all
@@ -51,10 +55,14 @@ read none what w u = seen_at none what (node_in w.nodes u)
 abbrev pub last_of : Setting → NodeId → NodeState → Option ℕ
 last_of x v n = last_to n.parts.origins (place x v)
 
+-- it knows the boot of a neighbour, and heard of the version
+abbrev pub knows_both : Setting → (version boot : ℕ) → NodeId → NodeState → Bool
+knows_both x version boot v n = ((link_in n v).peer_boot == boot) && has_heard x version v n
+
 abbrev pub sees : (c : Interval) → Sees (UpState c)
 sees c = record {
   held = λ w u o. read 0 (λ n. held_boot n.parts.lives o) w.state.world u;
-  knows = λ w u v. read false (λ n. (link_in n v).peer_boot == last_boot c.x w.state.world v) w.state.world u;
+  knows = λ w u v. read false (knows_both c.x c.version (last_boot c.x w.state.world v) v) w.state.world u;
   polled = λ w u v. polls w.state.events u v;
   rows = λ w u. read [] (λ n. rows_held n.parts.lives) w.state.world u;
   last = λ w u v. read None (last_of c.x v) w.state.world u;
@@ -128,10 +136,11 @@ module _ (c : Interval) where
   next_of w u v p n there carried =
       subst (λ (z : Option NodeState). next_after (seen_at None (last_of x v) z) (seen_at [] (λ m. rows_held m.parts.lives) z) ≡ Some p) there carried
 
-  pub carries : (w y : W) (e : Event) (u v : NodeId) (p : ℕ) → c.Up u → c.Up v → is_hop x u v ≡ true → UpNext c w e y
-      → is_poll u v e ≡ true → IsCarried W at p w u v
+  pub carries : (w y : W) (e : Event) (u v : NodeId) (p : ℕ) → c.Up u → c.Up v → is_hop x u v ≡ true
+      → is_shut c.weights (position_or_len (joins u.0 v.0) x.topology.edges) ≡ false → UpNext c w e y
+      → is_poll u v e ≡ true → at.knows w u v ≡ true → IsCarried W at p w u v
       → at.last y u v ≡ Some p
-  carries w y e u v p up near hop next is carried =
+  carries w y e u v p up near hop open_edge next is knows carried =
       let t = took c w y e next u up in
       elim t.how [
         | inl still ↦ absurd (let wrong : true ≡ false = sym is ∙ idle_poll w.state.world e u v still.1 in cc)
@@ -156,8 +165,9 @@ module _ (c : Interval) where
             let done = called t.node (with_link t.node v (advanced (link_in t.node v))) (parts_after t.node v) in
             let served : is_served t.node v ≡ true =
             readied_keeps x w.state.world t.before t.node (λ m. is_served m v ≡ true) (λ upto on. on) t.readied
-            (served_at arts x w.state.events w.state.journal w.state.world c.fits c.reads.carries w.state.run (stays_at arts x c.all w.state c.stays) u
-            t.before t.there v hop) in
+            (served_there x c.version c.weights u v hop open_edge t.before (is_node_of w u t.before t.there).fixed (w.under u up t.before t.there)
+            (both ((link_in t.before v).peer_boot == last_boot x w.state.world v) (has_heard x c.version v t.before)
+            (sym (ap (seen_at false (knows_both x c.version (last_boot x w.state.world v) v)) t.there) ∙ knows)).1) in
             ap (seen_at None (last_of x v)) t.left ∙ ap (last_of x v) step.1
             ∙ ap (λ (r : Option NodeRefused). last_of x v (kept_or r t.node done)) free
             ∙ ap (λ (b : Bool). last_to (cond b (polled t.node.fixed t.node.parts v) t.node.parts).origins (place x v)) served

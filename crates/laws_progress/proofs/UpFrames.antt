@@ -10,14 +10,14 @@ use Rattle.sp_base.proofs.ListLemmas.{get_push}
 use Rattle.sp_base.specs.declared.id.NodeId.{NodeId}
 use Rattle.sp_frame.specs.declared.head.Head.{Head}
 use Rattle.sp_topology.specs.declared.topology.NodeKey.{NodeKey}
-use Rattle.sp_rules.specs.Arrivals.{handled, link_after, reply_at, sections_in, before_document}
+use Rattle.sp_rules.specs.Arrivals.{before_document, document_at, handled, is_tagged, link_after, link_says, not_taken, or_fresh, read_by, reply_at, sections_in}
 use Rattle.sp_rules.specs.Arts.{Arts}
 use Rattle.sp_rules.specs.Link.{Link, after_answer, is_above, pair_of}
 use Rattle.sp_rules.specs.Lives.{held_boot, is_life, next_row}
-use Rattle.sp_rules.specs.Node.{NodeState, is_link, link_in}
-use Rattle.sp_rules.specs.Parts.{Fixed, Parts, is_signed, place_in}
-use Rattle.sp_rules.specs.Polls.{contents_to, frame_to}
-use Rattle.sp_rules.specs.Steps.{Datagram, NodeStep}
+use Rattle.sp_rules.specs.Node.{NodeState, call_refusal, is_link, is_shut_to, link_in, version_of}
+use Rattle.sp_rules.specs.Parts.{Fixed, Parts, changes, is_signed, place_in}
+use Rattle.sp_rules.specs.Polls.{contents_to, frame_to, is_served}
+use Rattle.sp_rules.specs.Steps.{Datagram, NodeStep, Output}
 use Rattle.sp_rules.specs.declared.link.LinkAnswer.TheVariants as answers
 use Rattle.sp_rules.specs.declared.node.LinkReply.TheVariants as replies
 use Rattle.laws_runs.specs.Signs.{Good}
@@ -28,12 +28,12 @@ use Rattle.laws_runs.proofs.Tables.{same_node}
 use Rattle.sp_runs.specs.Forgery.{has_forged_tag}
 use Rattle.sp_runs.specs.Lives.{ready}
 use Rattle.sp_runs.specs.Runs.{is_hop, is_poll, next_frame}
-use Rattle.sp_runs.specs.Settings.{Setting, fixed_at}
+use Rattle.sp_runs.specs.Settings.{Setting, fixed_at, may_change}
 use Rattle.sp_runs.specs.Worlds.{frames_in, node_in}
 use Rattle.sp_schedule_events.specs.declared.event.Event.{Event}
 use Rattle.laws_progress.proofs.Arrives.{arrives}
 use Rattle.laws_progress.proofs.Becomes.{readied_keeps}
-use Rattle.laws_progress.proofs.Framed.{Came, Framed, Learns, Taken, Too_late, frame_at}
+use Rattle.laws_progress.proofs.Framed.{Came, Framed, Learns, Taken, Too_late, frame_at, served_sections, tagged_at, taken_reply}
 use Rattle.laws_progress.proofs.Heads.{heads_are}
 use Rattle.laws_progress.proofs.Known.{after_is, known_rises}
 use Rattle.laws_progress.proofs.KnownRuns.{KnowsOf, knows_of}
@@ -42,12 +42,22 @@ use Rattle.laws_progress.proofs.LifeFrames.{is_sent, taken_told}
 use Rattle.laws_progress.proofs.LifeRows.{has_row}
 use Rattle.laws_progress.proofs.Links.{Hears, LinkAfter, Rests, Sends, link_step}
 use Rattle.laws_progress.proofs.Made.{FramesTurn, Leaves, Makes, Misses, frames_count, frames_turn}
-use Rattle.laws_progress.proofs.Passes.{datagram_after}
-use Rattle.laws_progress.proofs.Polls.{both_ways}
-use Rattle.laws_progress.proofs.Rows.{link_there, rows_are}
+use Rattle.laws_progress.proofs.Passes.{datagram_after, datagram_link, datagram_read}
+use Rattle.laws_progress.proofs.Versions.{edge_at, has_heard, heard_least, served_there, still_heard}
+use Rattle.laws_progress.proofs.KeptVersions.{heard_rises}
+use Rattle.laws_node.proofs.Spreading.{versions_are_heard}
+use Rattle.laws_runs.proofs.Lists.{both}
+use Rattle.sp_rules.specs.Topologies.{is_shut}
+use Rattle.sp_rules.specs.Versions.{is_heard_of}
+use Rattle.sp_topology.specs.Neighbours.{joins}
+use Rattle.sp_runs.specs.Journals.{reply_word}
+use Rattle.std.specs.List.{position_or_len}
+use Rattle.std.proofs.lemmas.Bool.Decides.{nat_tests}
+use Rattle.laws_progress.proofs.Polls.{answered, both_ways, same_place}
+use Rattle.laws_progress.proofs.Rows.{heard_there, link_there, rows_are}
 use Rattle.laws_progress.proofs.SpreadFacts.{IsCarried, IsTold, Sees}
-use Rattle.laws_progress.proofs.States.{Follow, Follows, IsHop, seen_at, stays_at}
-use Rattle.laws_progress.proofs.UpFacts.{held_rises, is_node_of, next_of, place, rows_of, sees, topology_of}
+use Rattle.laws_progress.proofs.States.{Follow, Follows, IsHop, seen_at}
+use Rattle.laws_progress.proofs.UpFacts.{knows_both, held_rises, is_node_of, next_of, place, rows_of, sees, topology_of}
 use Rattle.laws_progress.proofs.UpStates.{Interval, StepOf, Took, UpNext, UpState, took}
 
 -- two nodes that stay up, joined by an edge
@@ -55,6 +65,7 @@ pub record UpHop (c : Interval) (u v : NodeId) : Type 0 where
   pub near : c.Up u
   pub far : c.Up v
   pub joined : IsTrue (is_hop c.x u v)
+  pub open_edge : is_shut c.weights (position_or_len (joins u.0 v.0) c.x.topology.edges) ≡ false
 
 -- a frame that one makes for the other in a state
 pub record Frame (c : Interval) : Type 0 where
@@ -109,7 +120,12 @@ module _ (c : Interval) where
   hop_of u v h = record { first = c.correct u h.near; second = c.correct v h.far; joined = h.joined }
 
   pub turned : (u v : NodeId) → UpHop c u v → UpHop c v u
-  turned u v h = record { near = h.far; far = h.near; joined = (both_ways x u v (hop_of u v h)).joined }
+  turned u v h = record {
+    near = h.far;
+    far = h.near;
+    joined = (both_ways x u v (hop_of u v h)).joined;
+    open_edge = ap (is_shut c.weights) (same_place v.0 u.0 x.topology.edges) ∙ h.open_edge;
+  }
 
   -- ---- boots
 
@@ -163,8 +179,9 @@ module _ (c : Interval) where
   pub known : (w y : W) (e : Event) (u v : NodeId) → UpHop c u v → UpNext c w e y → at.knows w u v ≡ true → at.knows y u v ≡ true
   known w y e u v h next knows =
       let t = took c w y e next u h.near in
-      let was : (link_in t.before v).peer_boot ≡ last_boot x w.state.world v =
-      eqb-true _ _ (sym (ap (seen_at false (λ m. (link_in m v).peer_boot == last_boot x w.state.world v)) t.there) ∙ knows) in
+      let was_parts = both ((link_in t.before v).peer_boot == last_boot x w.state.world v) (has_heard x c.version v t.before)
+      (sym (ap (seen_at false (knows_both x c.version (last_boot x w.state.world v) v)) t.there) ∙ knows) in
+      let was : (link_in t.before v).peer_boot ≡ last_boot x w.state.world v = eqb-true _ _ was_parts.0 in
       let link = of_link w u v h t.before t.there in
       let ready_is = readied_keeps x w.state.world t.before t.node (λ m. link_in m v ≡ link_in t.before v) (λ upto same. same) t.readied refl in
       let boot = ap (λ (l : Link). l.peer_boot) ready_is in
@@ -181,7 +198,20 @@ module _ (c : Interval) where
             let after = ap (λ (l : Link). l.peer_boot) same in
             omega (arith, up, after)
       ] in
-      ap (seen_at false (λ m. (link_in m v).peer_boot == last_boot x y.state.world v)) t.left ∙ eq-eqb _ _ (omega (arith, was, boot, more, below, life))
+      let now : ((link_in t.after v).peer_boot == last_boot x y.state.world v) ≡ true = eq-eqb _ _ (omega (arith, was, boot, more, below, life)) in
+      let heard_node = readied_keeps x w.state.world t.before t.node (λ m. has_heard x c.version v m ≡ true) (λ upto same. same) t.readied was_parts.1 in
+      let heard : has_heard x c.version v t.after ≡ true = elim t.how [
+        | inl still ↦ ap (has_heard x c.version v) still.0 ∙ heard_node
+        | inr s ↦ still_heard x c.version v t.node t.after (heard_rises arts t.node s.input s.output t.after v s.step
+            (λ bytes is.
+            let same = datagram_link arts t.node t.after v bytes (has_link w y e u v h t)
+            (datagram_read arts x t.node v bytes s.output t.after (next_frame (ready x w.state.world e) e) s.entry.reply
+            (subst (λ i. NodeStep arts t.node i s.output t.after) is s.step) s.journal.reply) in
+            let peer = ap (λ (l : Link). l.peer_boot) same in
+            let low : (link_after arts t.node v bytes).peer_boot ≤ (link_in t.node v).peer_boot = omega (arith, was, boot, below, life, peer) in
+            grind (arith, nat_tests, low))) heard_node
+      ] in
+      ap (seen_at false (knows_both x c.version (last_boot x y.state.world v) v)) t.left ∙ rw (now, heard) refl
 
   -- ---- one frame of u for v
 
@@ -219,8 +249,66 @@ module _ (c : Interval) where
 
     pub framed_is : Framed arts x u v n frame
     framed_is =
-        frame_at arts x w.state.events w.state.journal w.state.world c.fits c.reads w.state.run (stays_at arts x c.all w.state c.stays) u v f.hop.joined n
-        f.there
+        frame_at arts x w.state.events w.state.journal w.state.world c.fits c.reads w.state.run u v f.hop.joined n f.there
+
+    -- it carries what u has in turn where it knows v
+    served_is : at.knows w u v ≡ true → is_served n v ≡ true
+    served_is knows =
+        served_there x c.version c.weights u v f.hop.joined f.hop.open_edge n (is_node_of c w u n f.there).fixed (w.under u f.hop.near n f.there)
+        (both ((link_in n v).peer_boot == last_boot x w.state.world v) (has_heard x c.version v n)
+        (sym (ap (seen_at false (knows_both x c.version (last_boot x w.state.world v) v)) f.there) ∙ knows)).1
+
+    pub fresh_reply : (y z : W) (e : Event) (t : Took arts x y.state.world z.state.world e v) → at.knows w u v ≡ true
+        → or_fresh (not_taken t.node.live.version (arts.head frame).topology (arts.is_document frame) (sections_in arts t.node.fixed frame) (is_shut_to t.node u))
+        ≡ replies.Fresh
+    fresh_reply y z e t knows =
+        let fixed : t.node.fixed ≡ t.before.fixed = (readied_parts x y.state.world t.before t.node t.readied).1 in
+        let its = (is_node_of c y v t.before t.there).fixed in
+        let len = ap (λ (g : Fixed). g.signature_len) (fixed ∙ its) in
+        let runs = y.under v f.hop.far t.before t.there in
+        let version = readied_keeps x y.state.world t.before t.node (λ q. q.live.version ≡ c.version) (λ upto h. h) t.readied runs.0 in
+        let back = turned u v f.hop in
+        let on_edge = readied_keeps x y.state.world t.before t.node (λ q. is_shut_to q u ≡ false) (λ upto h. h) t.readied
+        (edge_at x c.version c.weights v u back.joined back.open_edge t.before its runs) in
+        taken_reply arts x u v n frame framed_is (served_is knows) t.node len ((w.under u f.hop.near n f.there).0 ∙ sym version) on_edge
+
+    -- the version of its head is kept
+    pub heard_now : (y z : W) (e : Event) → UpNext c y e z → Lasts z → (t : Took arts x y.state.world z.state.world e v)
+        → (s : StepOf arts x y.state.world e v t.node t.after) → s.input ≡ Datagram u frame → (link_after arts t.node u frame).peer_boot ≡ n.fixed.boot
+        → has_heard x c.version u t.after ≡ true
+    heard_now y z e next l t s is boot = heard_least x c.version u t.after least
+      where
+        least : may_change x ≡ true → c.version ≤ version_of t.after u
+        least may =
+            let back = turned u v f.hop in
+            let step = subst (λ i. NodeStep arts t.node i s.output t.after) is s.step in
+            let fixed : t.node.fixed ≡ fixed_at x v t.before.fixed.boot =
+            (readied_parts x y.state.world t.before t.node t.readied).1 ∙ (is_node_of c y v t.before t.there).fixed in
+            let free = answered x (next_frame (ready x y.state.world e) e) (call_refusal t.node u) _ s.entry.reply
+            (ap (λ (o : Output). reply_word x (next_frame (ready x y.state.world e) e) o.reply) (sym step.0) ∙ s.journal.reply) in
+            let tagged = readied_keeps x y.state.world t.before t.node (λ q. is_tagged (link_says arts (link_in q u) frame) ≡ true) (λ upto h. h) t.readied
+            (tagged_at arts x y.state.events y.state.journal y.state.world c.fits c.reads y.state.run u v (hop_of u v f.hop) t.before t.there n frame framed_is) in
+            let below = (of_link y v u back t.before t.there).below in
+            let ready_is = readied_keeps x y.state.world t.before t.node (λ q. (link_in q u).peer_boot ≡ (link_in t.before u).peer_boot) (λ upto h. h) t.readied refl in
+            let life = boot_stays y z e next u f.hop.near in
+            let near = l.near in
+            let head = framed_is.head.boot_is in
+            let rows = readied_keeps x y.state.world t.before t.node (λ q. list_any (is_heard_of u) q.heard ≡ true) (λ upto h. h) t.readied
+            (heard_there x v u t.before (rows_are arts x y.state.events y.state.journal y.state.world c.fits c.reads.carries y.state.run v t.before t.there) back.joined) in
+            let kept = versions_are_heard arts t.node u frame (ap changes fixed ∙ may) (record {
+              called = free;
+              opened = framed_is.opens;
+              tagged = tagged;
+              lately = λ on. elim (cases_lt (link_in t.node u).peer_boot (link_after arts t.node u frame).peer_boot) [
+                | inl up ↦ inl (lt-ltb _ _ up)
+                | inr same ↦ inr (omega (arith, same, below, ready_is, life, near, head, boot))
+              ];
+              row = rows;
+            }) in
+            let after = ap (λ (q : NodeState). version_of q u) step.1 in
+            let topology = framed_is.topology in
+            let version = (w.under u f.hop.near n f.there).0 in
+            omega (arith, kept, after, topology, version)
 
     pub lasts_on : (y z : W) (e : Event) → UpNext c y e z → is_poll u v e ≡ false → Lasts y → Lasts z
     lasts_on y z e next off l = record {
@@ -249,6 +337,13 @@ module _ (c : Interval) where
 
     -- ---- it is taken
 
+    pub read_at : (y z : W) (e : Event) (t : Took arts x y.state.world z.state.world e v) → (s : StepOf arts x y.state.world e v t.node t.after)
+        → s.input ≡ Datagram u frame
+        → t.after ≡ read_by arts (before_document arts t.node u frame) (document_at arts t.node u frame)
+    read_at y z e t s is =
+        datagram_read arts x t.node u frame s.output t.after (next_frame (ready x y.state.world e) e) s.entry.reply
+        (subst (λ i. NodeStep arts t.node i s.output t.after) is s.step) s.journal.reply
+
     -- the state of v after it took the frame
     pub taken_at : (y z : W) (e : Event) (t : Took arts x y.state.world z.state.world e v) → (s : StepOf arts x y.state.world e v t.node t.after)
         → s.input ≡ Datagram u frame
@@ -259,8 +354,8 @@ module _ (c : Interval) where
 
     told_of : (y z : W) (e : Event) → UpNext c y e z → Lasts z → (t : Took arts x y.state.world z.state.world e v)
         → (s : StepOf arts x y.state.world e v t.node t.after) → s.input ≡ Datagram u frame → reply_at arts t.node u frame ≡ replies.Fresh
-        → (o : NodeId) → IsCarried W at (place x o) w u v → at.held w u o ≤ at.held z v o
-    told_of y z e next l t s is fresh o carried = elim (cases_lt 0 (at.held w u o)) [
+        → (o : NodeId) → at.knows w u v ≡ true → IsCarried W at (place x o) w u v → at.held w u o ≤ at.held z v o
+    told_of y z e next l t s is fresh o knows carried = elim (cases_lt 0 (at.held w u o)) [
       | inr none ↦ omega (arith, none)
       | inl some ↦ elim (cases_Bool (o.0 == v.0)) [
         | inl t_own ↦ own (same_node o v (eqb-true _ _ t_own))
@@ -298,7 +393,7 @@ module _ (c : Interval) where
             let fixed_is : t.node.fixed ≡ fixed_at x v t.before.fixed.boot = fixed ∙ its in
             let right : is_signed arts t.node.fixed sent.object ≡ true = ap (λ (g : Fixed). is_signed arts g sent.object) fixed_is ∙ sent.keeps.right in
             let sections : sections_in arts t.node.fixed frame ≡ Ok (contents_to n.fixed n.parts v) =
-            ap (λ (g : Fixed). sections_in arts g frame) fixed_is ∙ framed_is.sections in
+            ap (λ (g : Fixed). sections_in arts g frame) fixed_is ∙ served_sections arts x u v n frame framed_is (served_is knows) in
             let parts : t.after.parts ≡ (handled arts t.node u frame).parts = ap (λ (m : NodeState). m.parts) (taken_at y z e t s is) in
             let row = has_row x.topology.nodes t.after.parts.lives o (rows_of c z v t.after t.left) sent.there in
             let took_it =
@@ -311,13 +406,18 @@ module _ (c : Interval) where
 
     pub done_now : (y z : W) (e : Event) → UpNext c y e z → Lasts z → (t : Took arts x y.state.world z.state.world e v)
         → (s : StepOf arts x y.state.world e v t.node t.after) → s.input ≡ Datagram u frame → link_in t.after u ≡ link_after arts t.node u frame
-        → link_after arts t.node u frame ≡ after_answer (link_in t.node u) (arts.head frame) answers.Fresh → reply_at arts t.node u frame ≡ replies.Fresh
+        → link_after arts t.node u frame ≡ after_answer (link_in t.node u) (arts.head frame) answers.Fresh
+        → reply_at arts t.node u frame
+        ≡ or_fresh (not_taken t.node.live.version (arts.head frame).topology (arts.is_document frame) (sections_in arts t.node.fixed frame) (is_shut_to t.node u))
         → Done z
-    done_now y z e next l t s is link left fresh = record {
+    done_now y z e next l t s is link left reply = record {
       learned =
-          let boot : (link_in t.after u).peer_boot ≡ n.fixed.boot = ap (λ (k : Link). k.peer_boot) (link ∙ left) ∙ framed_is.head.boot_is in
-          ap (seen_at false (λ m. (link_in m u).peer_boot == last_boot x z.state.world u)) t.left ∙ eq-eqb _ _ (boot ∙ sym l.near);
-      told = λ o knows carried. told_of y z e next l t s is fresh o carried;
+          let boot : (link_after arts t.node u frame).peer_boot ≡ n.fixed.boot = ap (λ (k : Link). k.peer_boot) left ∙ framed_is.head.boot_is in
+          let heard = heard_now y z e next l t s is boot in
+          let now : ((link_in t.after u).peer_boot == last_boot x z.state.world u) ≡ true =
+          eq-eqb _ _ (ap (λ (k : Link). k.peer_boot) link ∙ boot ∙ sym l.near) in
+          ap (seen_at false (knows_both x c.version (last_boot x z.state.world u) u)) t.left ∙ rw (now, heard) refl;
+      told = λ o knows carried. told_of y z e next l t s is (reply ∙ fresh_reply y z e t knows) o knows carried;
     }
 
     -- ---- until it is passed
@@ -359,7 +459,7 @@ module _ (c : Interval) where
             → LinkGoes y z e v u t → Awaits z ⊎ Done z
         go t before low later (Quiet same seen) = inl (stays_above y z e t (ap (is_above pair) seen ∙ before))
         go t before low later (Comes s bytes is link) =
-            elim (arrives arts x y.state.events y.state.journal y.state.world e c.fits c.reads y.state.run (stays_at arts x c.all y.state c.stays) u v
+            elim (arrives arts x y.state.events y.state.journal y.state.world e c.fits c.reads y.state.run u v
             (hop_of u v f.hop) t.before t.node t.there t.readied bytes
             (subst (λ i. has_forged_tag arts x (ready x y.state.world e) t.node i ≡ false) is s.unforged)) [
               | inl quiet ↦ inl (stays_above y z e t (ap (λ (k : Link). is_above pair k.seen) (link ∙ quiet.link) ∙ before))
@@ -377,5 +477,8 @@ module _ (c : Interval) where
                       let same : bytes ≡ frame = same_Some bytes frame it.1 in
                       inr (done_now y z e next later t s (is ∙ ap (Datagram u) same) (link ∙ ap (link_after arts t.node u) same)
                       (subst (λ b. link_after arts t.node u b ≡ after_answer (link_in t.node u) (arts.head b) answers.Fresh) same left)
-                      (subst (λ b. reply_at arts t.node u b ≡ replies.Fresh) same reply))
+                      (subst
+                      (λ b. reply_at arts t.node u b
+                      ≡ or_fresh (not_taken t.node.live.version (arts.head b).topology (arts.is_document b) (sections_in arts t.node.fixed b) (is_shut_to t.node u)))
+                      same reply))
                 ]

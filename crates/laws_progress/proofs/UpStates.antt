@@ -1,5 +1,5 @@
 -- The states of an interval of a run in which some nodes stay up, and what each event makes of one of them: it stays, or makes a step.
-use Rattle.std.proofs.Common.{◌≡◌, ◌⊎◌, ◌||◌, Bool, true, false, List, [], ◌∷◌, Some, refl, sym, ap, ◌∙◌, inl, inr, subst}
+use Rattle.std.proofs.Common.{◌≡◌, ◌⊎◌, ◌||◌, Bool, true, false, List, [], ◌∷◌, Some, refl, sym, ap, ◌∙◌, inl, inr, subst, ℕ, arith}
 use Rattle.std.specs.Prelude.{IsTrue}
 use Rattle.std.specs.List.{list_any}
 use Rattle.std.proofs.lemmas.Bool.{eq-eqb}
@@ -19,11 +19,12 @@ use Rattle.sp_schedule_events.specs.declared.event.Event.{Event}
 use Rattle.laws_runs.specs.Premises.{Carries, ComesThrough}
 use Rattle.laws_runs.proofs.Ready.{Readied}
 use Rattle.laws_progress.specs.Calm.{is_life_of}
-use Rattle.laws_progress.specs.Delivery.{TopologyStays}
-use Rattle.laws_progress.proofs.Becomes.{Acts, Becomes, Begins, MovesNobody, Remains, becomes, runs_on, keeps_version}
+use Rattle.laws_progress.proofs.Becomes.{Acts, Becomes, Begins, MovesNobody, Remains, becomes, readied_keeps, runs_on}
+use Rattle.laws_progress.proofs.Adopting as adopting
 use Rattle.laws_progress.proofs.Facts.{Goes, Stays, Steps}
-use Rattle.laws_progress.proofs.States.{Follow, Follows, State, stays_at}
-use Rattle.laws_progress.proofs.Versions.{UnderFirst, under_first}
+use Rattle.laws_progress.proofs.States.{Follow, Follows, State}
+use Rattle.laws_progress.proofs.Versions.{Under}
+use Rattle.std.proofs.lemmas.Option.{same_Some}
 
 -- ---- a node that no event starts or stops runs on
 
@@ -31,23 +32,36 @@ pub off_first : (a b : Bool) → (a || b) ≡ false → (a ≡ false) × (b ≡ 
 off_first true b off = absurd (let f : true ≡ false = off in cc)
 off_first false b off = (refl, off)
 
+-- it runs on, and its version doesn't fall
+pub record RunsOn (arts : Arts) (x : Setting) (all : List Event) (y : State arts x all) (u : NodeId) (n : NodeState) : Type 0 where
+  pub node : NodeState
+  pub there : node_in y.world.nodes u ≡ Some node
+  pub later : adopting.Follows n node
+
 run_on : (arts : Arts) (x : Setting) (all : List Event) → SettingFits arts x → Carries x.topology.format arts → (w y : State arts x all) (e : Event)
-    → Follows arts x all w e y → (u : NodeId) → is_life_of u e ≡ false → (n : NodeState) × (node_in w.world.nodes u ≡ Some n)
-    → (n : NodeState) × (node_in y.world.nodes u ≡ Some n)
-run_on arts x all fits carries w y e (Follow j events journal range turn unforged) u quiet n =
-    runs_on arts x w.events w.journal w.world e j y.world fits carries w.run turn u quiet n.0 n.1
+    → Follows arts x all w e y → (u : NodeId) → is_life_of u e ≡ false → (n : NodeState) → node_in w.world.nodes u ≡ Some n → RunsOn arts x all y u n
+run_on arts x all fits carries w y e (Follow j events journal range turn unforged) u quiet n at =
+    let m = runs_on arts x w.events w.journal w.world e j y.world fits carries w.run turn u quiet n at in
+    record {
+      node = m.0;
+      there = m.1;
+      later = adopting.node_follows arts x w.events w.journal w.world y.world e j fits carries w.run u n m.0 at
+          (becomes arts x w.events w.journal w.world e j y.world fits carries w.run range turn unforged u m.0 m.1);
+    }
 
 pub runs_through : (arts : Arts) (x : Setting) (all : List Event) → SettingFits arts x → Carries x.topology.format arts → (es : List Event)
     (w y : State arts x all) → Goes (State arts x all) (Follows arts x all) w es y → (u : NodeId) → list_any (is_life_of u) es ≡ false
-    → (n : NodeState) × (node_in w.world.nodes u ≡ Some n) → (n : NodeState) × (node_in y.world.nodes u ≡ Some n)
-runs_through arts x all fits carries [] w y Stays u quiet n = n
-runs_through arts x all fits carries (e ∷ es) w y (Steps {x = m} step g) u quiet n =
+    → (n : NodeState) → node_in w.world.nodes u ≡ Some n → RunsOn arts x all y u n
+runs_through arts x all fits carries [] w y Stays u quiet n at = record { node = n; there = at; later = adopting.same_follows n }
+runs_through arts x all fits carries (e ∷ es) w y (Steps {x = m} step g) u quiet n at =
     let off = off_first (is_life_of u e) (list_any (is_life_of u) es) quiet in
-    runs_through arts x all fits carries es m y g u off.1 (run_on arts x all fits carries w m e step u off.0 n)
+    let first = run_on arts x all fits carries w m e step u off.0 n at in
+    let rest = runs_through arts x all fits carries es m y g u off.1 first.node first.there in
+    record { node = rest.node; there = rest.there; later = adopting.then_follows n first.node rest.node first.later rest.later }
 
 -- ---- the states of an interval
 
--- a run with epochs, of these events, which publish nothing, and correct nodes that stay up in an interval of it
+-- a run with epochs, of these events, and correct nodes that stay up in an interval of it, under one version
 pub record Interval : Type 1 where
   pub arts : Arts
   pub x : Setting
@@ -56,13 +70,15 @@ pub record Interval : Type 1 where
   pub fits : SettingFits arts x
   pub reads : ComesThrough x.topology.format arts x.signature_len
   pub epochs : x.epochs ≡ true
-  pub stays : TopologyStays all
+  pub version : ℕ
+  pub weights : List ℕ
   pub correct : (u : NodeId) → Up u → IsTrue (is_correct x u)
 
--- a state in which each of these nodes runs
+-- a state in which each of these nodes runs, under the version
 pub record UpState (c : Interval) : Type 0 where
   pub state : State c.arts c.x c.all
   pub runs : (u : NodeId) → c.Up u → (n : NodeState) × (node_in state.world.nodes u ≡ Some n)
+  pub under : (u : NodeId) → c.Up u → (n : NodeState) → node_in state.world.nodes u ≡ Some n → Under c.version c.weights n
 
 -- one event leads from one to the next, which starts and stops none of them
 pub record UpNext (c : Interval) (w : UpState c) (e : Event) (y : UpState c) : Type 0 where
@@ -72,19 +88,39 @@ pub record UpNext (c : Interval) (w : UpState c) (e : Event) (y : UpState c) : T
 -- ---- an interval in which none of them starts or stops
 
 pub record UpTo (c : Interval) (w : UpState c) (es : List Event) (y : State c.arts c.x c.all) : Type 0 where
-  pub runs : (u : NodeId) → c.Up u → (n : NodeState) × (node_in y.world.nodes u ≡ Some n)
-  pub goes : Goes (UpState c) (UpNext c) w es (record { state = y; runs = runs })
+  pub last : UpState c
+  pub is : last.state ≡ y
+  pub goes : Goes (UpState c) (UpNext c) w es last
+
+-- between two states under the version each is
+between : (c : Interval) (n m q : NodeState) → Under c.version c.weights n → adopting.Follows n m → adopting.Follows m q → q.live.version ≡ c.version
+    → Under c.version c.weights m
+between c n m q first one two last =
+    let a = one.version in
+    let b = two.version in
+    let was = first.0 in
+    (omega (arith, a, b, was, last), one.live (omega (arith, a, b, was, last)) ∙ first.1)
 
 pub up_to : (c : Interval) (es : List Event) (w : UpState c) (y : State c.arts c.x c.all)
     → Goes (State c.arts c.x c.all) (Follows c.arts c.x c.all) w.state es y
-    → ((u : NodeId) → c.Up u → list_any (is_life_of u) es ≡ false) → UpTo c w es y
-up_to c [] w y Stays calm = record { runs = w.runs; goes = Stays }
-up_to c (e ∷ es) w y (Steps {x = m} step g) calm =
+    → ((u : NodeId) → c.Up u → list_any (is_life_of u) es ≡ false)
+    → ((u : NodeId) → c.Up u → (n : NodeState) → node_in y.world.nodes u ≡ Some n → n.live.version ≡ c.version) → UpTo c w es y
+up_to c [] w y Stays calm last = record { last = w; is = refl; goes = Stays }
+up_to c (e ∷ es) w y (Steps {x = m} step g) calm last =
     let off = λ (u : NodeId) (up : c.Up u). off_first (is_life_of u e) (list_any (is_life_of u) es) (calm u up) in
-    let mid : UpState c = record { state = m; runs = λ u up. run_on c.arts c.x c.all c.fits c.reads.carries w.state m e step u (off u up).0 (w.runs u up) } in
-    let rest = up_to c es mid y g (λ u up. (off u up).1) in
+    let on = λ (u : NodeId) (up : c.Up u). run_on c.arts c.x c.all c.fits c.reads.carries w.state m e step u (off u up).0 (w.runs u up).0 (w.runs u up).1 in
+    let mid : UpState c = record {
+      state = m;
+      runs = λ u up. ((on u up).node, (on u up).there);
+      under = λ u up n at.
+          let one = on u up in
+          let two = runs_through c.arts c.x c.all c.fits c.reads.carries es m y g u (off u up).1 one.node one.there in
+          subst (Under c.version c.weights) (same_Some one.node n (sym one.there ∙ at))
+          (between c (w.runs u up).0 one.node two.node (w.under u up (w.runs u up).0 (w.runs u up).1) one.later two.later (last u up two.node two.there));
+    } in
+    let rest = up_to c es mid y g (λ u up. (off u up).1) last in
     let next : UpNext c w e mid = record { follows = step; calm = λ u up. (off u up).0 } in
-    record { runs = rest.runs; goes = Steps {x = mid} next rest.goes }
+    record { last = rest.last; is = rest.is; goes = Steps {x = mid} next rest.goes }
 
 -- ---- what an event makes of one of them
 
@@ -111,10 +147,6 @@ pub record Took (arts : Arts) (x : Setting) (w y : World) (e : Event) (u : NodeI
   pub left : node_in y.nodes u ≡ Some after
   pub how : ((after ≡ node) × ((acting e ≡ u → ⊥) ⊎ MovesNobody w e)) ⊎ StepOf arts x w e u node after
 
-pub first_at : (c : Interval) (w : UpState c) (u : NodeId) (n : NodeState) → node_in w.state.world.nodes u ≡ Some n → UnderFirst c.x n
-first_at c w u n at =
-    under_first c.arts c.x w.state.events w.state.journal w.state.world c.fits c.reads.carries w.state.run (stays_at c.arts c.x c.all w.state c.stays) u n at
-
 pub took : (c : Interval) (w y : UpState c) (e : Event) → UpNext c w e y → (u : NodeId) → c.Up u → Took c.arts c.x w.state.world y.state.world e u
 took c w y e next u up = go next.follows
   where
@@ -135,7 +167,8 @@ took c w y e next u up = go next.follows
         reaches = q.reaches;
         output = q.output;
         step = q.step;
-        keeps = keeps_version c.x w.state.world b q.node q.after (first_at c w u b there) readied (subst (UnderFirst c.x) is (first_at c y u m at));
+        keeps = ap (λ (n : NodeState). n.live.version) (sym is) ∙ (y.under u up m at).0
+            ∙ sym (readied_keeps c.x w.state.world b q.node (λ n. n.live.version ≡ c.version) (λ upto h. h) readied (w.under u up b there).0);
         entry = j;
         journal = q.journal;
         unforged = unforged;

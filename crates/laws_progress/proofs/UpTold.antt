@@ -34,11 +34,13 @@ use Rattle.laws_progress.proofs.Passes.{datagram_link, pass_is}
 use Rattle.laws_progress.proofs.Places.{get_last}
 use Rattle.laws_progress.proofs.Polls.{none_polled, one_polled}
 use Rattle.laws_progress.proofs.SpreadFacts.{IsTold, Spreading}
-use Rattle.laws_progress.proofs.States.{Follow, Follows, seen_at, stays_at}
-use Rattle.laws_progress.proofs.UpFacts.{carries, carries_none, held_rises, place, row_there, sees, within}
+use Rattle.laws_progress.proofs.States.{Follow, Follows, seen_at}
+use Rattle.laws_progress.proofs.UpFacts.{knows_both, carries, carries_none, held_rises, place, row_there, sees, within}
+use Rattle.laws_progress.proofs.Versions.{has_heard}
+use Rattle.laws_runs.proofs.Lists.{both}
 use Rattle.laws_progress.proofs.UpFrames.{Awaits, Comes, Done, Frame, Lasts, LinkGoes, Quiet, UpHop, above_is, boot_of, boot_stays, done_now, done_on, frame}
-use Rattle.laws_progress.proofs.UpFrames.{framed_is, has_link, head_is, hop_of, known, lasts_on, link_goes, of_link, pair, taken_at, turned, waits_more}
-use Rattle.laws_progress.proofs.UpStates.{Interval, StepOf, Took, UpNext, UpState, first_at, took}
+use Rattle.laws_progress.proofs.UpFrames.{framed_is, has_link, head_is, hop_of, known, lasts_on, link_goes, of_link, pair, heard_now, read_at, turned, waits_more}
+use Rattle.laws_progress.proofs.UpStates.{Interval, StepOf, Took, UpNext, UpState, took}
 
 module _ (c : Interval) where
   abbrev arts : Arts
@@ -149,11 +151,11 @@ module _ (c : Interval) where
               sym (ap (option_map (Datagram u)) comes_in) ∙ sym (ap (input_of arts x (ready x y.state.world p) t.node) is) ∙ s.reaches in
               let input : s.input ≡ Datagram u (frame c f) = cc in
               let on = lasts_on c f y z p next (ap (is_poll u v) is) l in
-              let left = taken_at c f y z p t s input in
+              let left = read_at c f y z p t s input in
               let link = datagram_link arts t.node t.after u (frame c f) (has_link c y z p v u back t) left in
               let comes =
-              came arts x y.state.events y.state.journal y.state.world c.fits c.reads y.state.run (stays_at arts x c.all y.state c.stays) u v
-              (hop_of c u v f.hop) t.before t.there n (frame c f) (framed_is c f) ((first_at c w u n f.there).0 ∙ sym (first_at c y v t.before t.there).0) in
+              came arts x y.state.events y.state.journal y.state.world c.fits c.reads y.state.run u v
+              (hop_of c u v f.hop) t.before t.there n (frame c f) (framed_is c f) in
               let comes_now =
               readied_keeps x y.state.world t.before t.node (λ q. Came arts q u (frame c f))
               (λ upto h. extended_came arts t.before upto u (frame c f) h) t.readied comes in
@@ -177,11 +179,15 @@ module _ (c : Interval) where
             let boot : (link_in t.after u).peer_boot ≡ max (link_in t.node u).peer_boot (arts.head (frame c f)).boot =
             ap (λ (q : Link). q.peer_boot) (link ∙ left) in
             record {
-              learned = ap (seen_at false (λ m. (link_in m u).peer_boot == last_boot x z.state.world u)) t.left
-                  ∙ eq-eqb _ _ (omega (arith, boot, head, below, near));
+              learned =
+                  let now : ((link_in t.after u).peer_boot == last_boot x z.state.world u) ≡ true = eq-eqb _ _ (omega (arith, boot, head, below, near)) in
+                  let peer = ap (λ (q : Link). q.peer_boot) link in
+                  let heard = heard_now c f y z p next on t s input (omega (arith, peer, boot, head, below, near)) in
+                  ap (seen_at false (knows_both x c.version (last_boot x z.state.world u) u)) t.left ∙ rw (now, heard) refl;
               told = λ o knows carried.
                   let known : (link_in n v).peer_boot ≡ last_boot x w.state.world v =
-                  eqb-true _ _ (sym (ap (seen_at false (λ m. (link_in m v).peer_boot == last_boot x w.state.world v)) f.there) ∙ knows) in
+                  eqb-true _ _ (both ((link_in n v).peer_boot == last_boot x w.state.world v) (has_heard x c.version v n)
+                  (sym (ap (seen_at false (knows_both x c.version (last_boot x w.state.world v) v)) f.there) ∙ knows)).0 in
                   let echo = (framed_is c f).echo in
                   let mine = boot_of c y v t.before t.there in
                   let fixed = ap (λ (f : Fixed). f.boot) (readied_parts x y.state.world t.before t.node t.readied).1 in
@@ -233,7 +239,7 @@ module _ (c : Interval) where
     known = known c;
     one_polled = λ w y e u v hop next is. one_polled arts x c.all w.state y.state e u v next.follows is;
     none_polled = λ w y e u v hop next off. none_polled arts x c.all w.state y.state e u v next.follows off;
-    carries = λ w y e u v row hop next is carried. carries c w y e u v row hop.near hop.far hop.joined next is carried;
+    carries = λ w y e u v row hop next is knows carried. carries c w y e u v row hop.near hop.far hop.joined hop.open_edge next is knows carried;
     carries_none = λ w y e u v hop next off. carries_none c w y e u v hop.near hop.far next off;
     row_there = row_there c;
     within = within c;

@@ -9,7 +9,9 @@ use Rattle.laws_progress.proofs.Heads.{HeadsReadBack, heads_are}
 use Rattle.laws_progress.proofs.LastBoots.{held_below, held_none, last_boot, running_boot}
 use Rattle.laws_progress.proofs.States.{Era, Follow, Follows, IsEra, Leads, State, Watched}
 use Rattle.laws_progress.specs.Calm.{is_life_of}
-use Rattle.laws_progress.specs.Delivery.{TopologyStays}
+use Rattle.laws_progress.proofs.Adopting as adopting
+use Rattle.laws_node.specs.Withdrawals.{removed_now}
+use Rattle.sp_rules.specs.Rel.{is_one_of}
 use Rattle.laws_runs.proofs.Lives.{step_stays}
 use Rattle.laws_runs.proofs.Running.{found_there}
 use Rattle.laws_runs.specs.Past.{holds}
@@ -39,6 +41,9 @@ pub record UpAt (arts : Arts) (x : Setting) (all : List Event) (era : Era) (flow
   pub there : node_in w.world.nodes v ≡ Some node
   pub boot : node.fixed.boot ≡ era.life v
   pub held : holds node flow.src era.sboot flow.dst era.dboot ≡ true
+  -- no older version, and the weights that count where it is this one
+  pub version : era.version ≤ node.live.version
+  pub weights : node.live.version ≡ era.version → node.live.weights ≡ era.weights
 
 abbrev pub AllUp : (arts : Arts) (x : Setting) (all : List Event) (era : Era) (flow : Flow) → State arts x all → Type 0
 AllUp arts x all era flow w = (v : NodeId) → era.on v ≡ true → UpAt arts x all era flow w v
@@ -68,15 +73,30 @@ module _ (arts : Arts) (x : Setting) (all : List Event) (era : Era) (flow : Flow
   -- it goes on through an event that starts or stops none
   module _ (w y : State arts x all) (e : Event) (j : Entry) (range : InRange x w.events e) (turn : Turn arts x w.world e j y.world)
       (unforged : forged_in arts x w.events w.journal w.world e j y.world turn ≡ None) (idle : (v : NodeId) → era.on v ≡ true → is_life_of v e ≡ false) (up : AllUp arts x all era flow w) where
-    one_on : (v : NodeId) (on : era.on v ≡ true) → (n : NodeState) × (node_in y.world.nodes v ≡ Some n) × (n.fixed.boot ≡ era.life v) × ((z : NodeId) → held_boot (up v on).node.parts.lives z ≤ held_boot n.parts.lives z)
+    -- it runs, in the same life, holds no older boots, and runs under no older version
+    record One (v : NodeId) (b n : NodeState) : Type 0 where
+      there : node_in y.world.nodes v ≡ Some n
+      boot : n.fixed.boot ≡ era.life v
+      boots : (z : NodeId) → held_boot b.parts.lives z ≤ held_boot n.parts.lives z
+      later : adopting.Follows b n
+
+    one_on : (v : NodeId) (on : era.on v ≡ true) → (n : NodeState) × One v (up v on).node n
     one_on v on =
         let p = up v on in
         let n = runs_on arts x w.events w.journal w.world e j y.world fits reads w.run turn v (idle v on) p.node p.there in
-        let it = boots_of w.world y.world e j v p.node n.0 p.there (becomes arts x w.events w.journal w.world e j y.world fits reads w.run range turn unforged v n.0 n.1) in
-        (n.0, n.1, it.0 ∙ p.boot, it.1)
+        let how = becomes arts x w.events w.journal w.world e j y.world fits reads w.run range turn unforged v n.0 n.1 in
+        let it = boots_of w.world y.world e j v p.node n.0 p.there how in (
+          n.0,
+          record {
+            there = n.1;
+            boot = it.0 ∙ p.boot;
+            boots = it.1;
+            later = adopting.node_follows arts x w.events w.journal w.world y.world e j fits reads w.run v p.node n.0 p.there how;
+          },
+        )
 
     last_is : (v : NodeId) → era.on v ≡ true → last_boot x y.world v ≡ era.life v
-    last_is v on = let n = one_on v on in sym (running_boot arts x y.events y.journal y.world fits reads y.run v n.0 n.1) ∙ n.2
+    last_is v on = let n = one_on v on in sym (running_boot arts x y.events y.journal y.world fits reads y.run v n.0 n.1.there) ∙ n.1.boot
 
     all_on : AllUp arts x all era flow y
     all_on v on =
@@ -87,17 +107,22 @@ module _ (arts : Arts) (x : Setting) (all : List Event) (era : Era) (flow : Flow
         → held_boot n.0.parts.lives z ≡ k =
         λ z z_on correct k taken only was. elim (cases_Bool x.epochs) [
           | inl epochs ↦
-              let low = n.3 z in
-              let top = held_below arts x y.events y.journal y.world fits reads y.run v z n.0 n.1 correct in
+              let low = n.1.boots z in
+              let top = held_below arts x y.events y.journal y.world fits reads y.run v z n.0 n.1.there correct in
               let last = last_is z z_on in
               let is = taken epochs in
               omega (arith, low, top, last, is, was)
-          | inr off ↦ held_none arts x y.events y.journal y.world fits reads y.run off v n.0 n.1 z ∙ sym (only off)
+          | inr off ↦ held_none arts x y.events y.journal y.world fits reads y.run off v n.0 n.1.there z ∙ sym (only off)
         ] in
         record {
           node = n.0;
-          there = n.1;
-          boot = n.2;
+          there = n.1.there;
+          boot = n.1.boot;
+          version = let low = n.1.later.version in let least = p.version in omega (arith, low, least);
+          weights = λ same.
+              let low = n.1.later.version in
+              let least = p.version in
+              n.1.later.live (omega (arith, low, least, same)) ∙ p.weights (omega (arith, low, least, same));
           held = both_held n.0 flow.src flow.dst era.sboot era.dboot
               (here flow.src is_era.source is_era.right.from era.sboot (λ t. (is_era.taken t).0) (λ t. (is_era.only t).0) before.0)
               (here flow.dst is_era.end is_era.right.to era.dboot (λ t. (is_era.taken t).1) (λ t. (is_era.only t).1) before.1);
@@ -120,7 +145,10 @@ module _ (arts : Arts) (x : Setting) (all : List Event) (era : Era) (flow : Flow
       let p = up v on in
       let life = life_of era v p.node on p.boot in
       let held = p.held in
-      record { node = p.node; there = p.there; counts = rw (life, held) refl }
+      let least = p.version in
+      let most = w.most v on p.node p.there p.boot in
+      let version : p.node.live.version ≡ era.version = omega (arith, least, most) in
+      record { node = p.node; there = p.there; counts = rw (life, held) refl; runs = (version, p.weights version) }
 
   pub calmly_on : (es : List Event) (w y : Watched arts x all era) → Goes (Watched arts x all era) (Leads arts x all era) w es y → IsFree era es → AllUp arts x all era flow w.at
       → Goes (Watched arts x all era) (Calmly arts x all era flow) w es y
@@ -131,13 +159,16 @@ module _ (arts : Arts) (x : Setting) (all : List Event) (era : Era) (flow : Flow
       (calmly_on es m y g (λ v on. (off_first (is_life_of v e) (list_any (is_life_of v) es) (idle v on)).1) now)
 
   -- the last state is watched, where the frames of each life are counted by its end
-  pub watch : HeadsReadBack arts → TopologyStays all → (y : State arts x all) → AllUp arts x all era flow y
+  pub watch : HeadsReadBack arts → (y : State arts x all) → AllUp arts x all era flow y
+      → ((u : NodeId) → era.on u ≡ true → (n : NodeState) → node_in y.world.nodes u ≡ Some n → n.live.version ≤ era.version)
+      → ((u v : NodeId) → era.on u ≡ true → era.on v ≡ true → (n : NodeState) → node_in y.world.nodes u ≡ Some n → is_one_of (removed_now n) v ≡ false)
       → ((u v : NodeId) → era.on u ≡ true → (n : NodeState) → node_in y.world.nodes u ≡ Some n → era.early u v ≡ polls y.events u v - (link_in n v).sent)
       → ((u v : NodeId) → era.on u ≡ true → is_hop x u v ≡ true → (n : NodeState) → node_in y.world.nodes u ≡ Some n → (link_in n v).sent ≤ polls y.events u v)
       → Watched arts x all era
-  watch heads stays y up early within = record {
+  watch heads y up most joined early within = record {
     at = y;
-    stays = stays;
+    most = λ u on n at life. most u on n at;
+    joined = λ u v on v_on n at life. joined u v on v_on n at;
     latest = λ v on. let p = up v on in let last = running_boot arts x y.events y.journal y.world fits reads y.run v p.node p.there in let boot = p.boot in omega (arith, last, boot);
     runs = λ v on last. let p = up v on in (p.node, p.there);
     placed = λ u v on joined k bytes at life.
@@ -150,9 +181,11 @@ module _ (arts : Arts) (x : Setting) (all : List Event) (era : Era) (flow : Flow
         omega (arith, counter, number, is, most);
   }
 
-  pub watch_is : (heads : HeadsReadBack arts) (stays : TopologyStays all) (y : State arts x all) (up : AllUp arts x all era flow y)
+  pub watch_is : (heads : HeadsReadBack arts) (y : State arts x all) (up : AllUp arts x all era flow y)
+      (most : (u : NodeId) → era.on u ≡ true → (n : NodeState) → node_in y.world.nodes u ≡ Some n → n.live.version ≤ era.version)
+      (joined : (u v : NodeId) → era.on u ≡ true → era.on v ≡ true → (n : NodeState) → node_in y.world.nodes u ≡ Some n → is_one_of (removed_now n) v ≡ false)
       (early : (u v : NodeId) → era.on u ≡ true → (n : NodeState) → node_in y.world.nodes u ≡ Some n → era.early u v ≡ polls y.events u v - (link_in n v).sent)
       (within : (u v : NodeId) → era.on u ≡ true → is_hop x u v ≡ true → (n : NodeState) → node_in y.world.nodes u ≡ Some n → (link_in n v).sent ≤ polls y.events u v)
-      → (watch heads stays y up early within).at ≡ y
+      → (watch heads y up most joined early within).at ≡ y
   unfolding watch
-  watch_is heads stays y up early within = refl
+  watch_is heads y up most joined early within = refl

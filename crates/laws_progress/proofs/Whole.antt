@@ -6,34 +6,21 @@ use Rattle.laws_progress.proofs.Counting.{few_wait, waiting, within}
 use Rattle.laws_progress.proofs.MakesNow.{makes, serves_now}
 use Rattle.laws_progress.proofs.Polls.{between_back, none_polled, one_polled}
 use Rattle.laws_progress.proofs.Standing.{is_active, place_at, sound, stays_active}
-use Rattle.laws_progress.proofs.States.{Era, IsBetween, IsEra, Watched, heard_of, knows_life, seen_at, sight}
+use Rattle.laws_progress.proofs.States.{Era, IsBetween, IsEra, Watched, sight}
 use Rattle.laws_progress.proofs.Wires.{told_stays, wires}
 use Rattle.laws_runs.specs.Premises.{ComesThrough}
+use Rattle.laws_runs.proofs.Signed.{signs}
 use Rattle.sp_base.specs.declared.id.Flow.{Flow}
-use Rattle.sp_base.specs.declared.id.NodeId.{NodeId}
 use Rattle.sp_rules.specs.Arts.{Arts}
-use Rattle.sp_rules.specs.Node.{NodeState}
 use Rattle.sp_runs.specs.Rounds.{flow_count}
 use Rattle.sp_runs.specs.Settings.{Setting, SettingFits}
-use Rattle.sp_runs.specs.Worlds.{node_in}
 use Rattle.sp_schedule_events.specs.declared.event.Event.{Event}
-use Rattle.std.proofs.Common.{List, None, Option, Some, arith, false, inl, inr, refl, true, ℕ, ◌<◌, ◌≡◌, ◌≤◌}
-use Rattle.std.proofs.lemmas.Bool.{cases_Bool}
+use Rattle.std.proofs.Common.{List, arith, ℕ, ◌≤◌}
 use Rattle.laws_progress.proofs.Hops.{Steady}
+use Rattle.laws_progress.proofs.Versions.{served_there}
 use Rattle.laws_progress.proofs.Calms as calms
 use Rattle.laws_progress.proofs.Heeding as heeding
 use Rattle.laws_progress.proofs.Passing as passing
-
-seen_known : (arts : Arts) (x : Setting) (all : List Event) (era : Era) (flow : Flow) (w : Watched arts x all era) (u v : NodeId)
-    → 0 < (wires arts x all era flow).seen w v u → (sight arts x all era flow).knows w v u ≡ true
-seen_known arts x all era flow w u v some = go (node_in w.at.world.nodes v) some
-  where
-    go : (o : Option NodeState) → 0 < seen_at 0 (heard_of era v u) o → seen_at false (knows_life era v u) o ≡ true
-    go None some = absurd (omega (arith, some))
-    go (Some n) some = elim (cases_Bool (knows_life era v u n)) [
-      | inl t ↦ t
-      | inr t ↦ absurd (let zero : heard_of era v u n ≡ 0 = rw t refl in omega (arith, zero, some))
-    ]
 
 pub steady : (arts : Arts) (x : Setting) (all : List Event) (era : Era) (flow : Flow) (fits : SettingFits arts x) (reads : ComesThrough x.topology.format arts x.signature_len)
     → (is_era : IsEra x flow era) → 1 ≤ x.buffer → (least : ℕ) → flow_count x all ≤ least
@@ -48,19 +35,21 @@ steady arts x all era flow fits reads is_era one least enough = record {
   stays_active = λ w y e u c on. stays_active arts x all era flow fits reads.carries is_era w y e u c.leads on;
   one_polled = λ w y e u v hop c is. one_polled arts x all w.at y.at e u v c.leads is;
   none_polled = λ w y e u v hop c is. none_polled arts x all w.at y.at e u v c.leads is;
-  serves = λ w y e u v p hop c is turn. calms.serves arts x all era flow fits reads is_era w y e c u v p hop is turn;
+  serves = λ w y e u v p hop c is knows turn. calms.serves arts x all era flow fits reads is_era w y e c u v p hop is knows turn;
   serves_none = λ w y e u v hop c off. calms.serves_none arts x all era flow fits reads is_era w y e c u v hop off;
   makes_room = λ w y e c is. calms.makes_room arts x all era flow fits reads is_era w y e c one is;
   frames_stay = λ w y e u v k hop c low. told_stays arts x all era flow w y e u v k c.leads low;
   makes = λ w y e u v hop c poll. makes arts x all era flow fits reads w y e u v hop c.leads poll;
-  made_now = λ w y e u v hop c poll. let p = c.before u hop.first in serves_now arts x all era flow fits reads w y e u v hop c.leads poll p.node p.there p.counts;
+  made_now = λ w y e u v hop c poll.
+      let p = c.before u hop.first in
+      serves_now arts x all era flow fits reads w y e u v hop c.leads poll p.node p.there p.counts p.runs.0
+      (λ heard. served_there x era.version era.weights u v hop.hop.joined hop.open_edge p.node ((signs arts x w.at.events w.at.journal w.at.world fits reads.carries w.at.run).nodes u p.node p.there).fixed p.runs heard);
   hears = λ w y e u v hop c. heeding.hears arts x all era flow fits reads is_era w y e c u v hop;
-  learns = λ w y e u v k hop c pass here off. passing.learns arts x all era flow fits reads is_era w y e c u v hop k pass here off;
+  learns = λ w y e u v k hop c pass here. passing.learns arts x all era flow fits reads is_era w y e c u v hop k pass here;
   comes = λ w y e u v k hop c pass pos on. passing.comes arts x all era flow fits reads is_era w y e c u v hop k pass on;
   acknowledged = λ w y e u c. calms.acknowledged arts x all era flow fits reads is_era w c.before u;
   sent = λ w y e u c. calms.sent_most arts x all era flow fits reads is_era w c.before u;
   sound = λ w u. sound arts x all era flow fits reads.carries w u;
-  seen_known = λ w u v hop some. seen_known arts x all era flow w u v some;
   is_active = λ w u some. is_active arts x all era flow fits reads.carries w u some;
   among = waiting x all;
   within = λ w u. within arts x all era flow fits reads.carries w u;

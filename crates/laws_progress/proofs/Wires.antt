@@ -44,12 +44,17 @@ slot_in (Err refused) = None
 abbrev pub nothing_told : Told
 nothing_told = record { here = false; mine = false; echo = false; base = 0; have = 0; ack = false; next = 0 }
 
+-- it counts where its head has the version
+abbrev pub of_version : Bool → Told → Told
+of_version now f = record f { here = now }
+
 -- what a frame of u for v tells, where u made it in its life. What echoes another life of v is of no use there
 abbrev pub told_of : Arts → Setting → Era → Flow → NodeId → NodeId → Option (List ℕ) → Told
 told_of arts x era flow u v None = nothing_told
 told_of arts x era flow u v (Some bytes) =
     if (arts.head bytes).boot == era.life u
-    then told_slot era flow ((arts.head bytes).echo == era.life v) (slot_in (arts.sections x.signature_len bytes))
+    then of_version ((arts.head bytes).topology == era.version)
+    (told_slot era flow ((arts.head bytes).echo == era.life v) (slot_in (arts.sections x.signature_len bytes)))
     else nothing_told
 
 abbrev pub wires : (arts : Arts) (x : Setting) (all : List Event) (era : Era) → Flow → Wires (Watched arts x all era)

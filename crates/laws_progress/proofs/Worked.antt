@@ -1,8 +1,8 @@
 -- The worked examples are computed.
-use Rattle.std.proofs.Common.{◌≡◌, ℕ, zero, suc, ◌*◌, true, List, [], ◌∷◌, ◌++◌, refl, ap, arith}
+use Rattle.std.proofs.Common.{◌≡◌, ℕ, zero, suc, ◌*◌, false, true, List, [], ◌∷◌, ◌++◌, refl, ap, arith}
 use Rattle.std.specs.Prelude.{◌≢◌, IsTrue}
 use Rattle.std.specs.List.{AllPairs}
-use Rattle.std.proofs.lemmas.List.Elements.{All-cons, All-nil}
+use Rattle.std.proofs.lemmas.List.Elements.{All-cons, All-head, All-nil, All-tail}
 use Rattle.sp_base.specs.declared.id.NodeId.{NodeId}
 use Rattle.std.proofs.lemmas.List.Folds.{Any-from_list_any}
 use Rattle.sp_graph.specs.Walks.{Joined}
@@ -12,7 +12,9 @@ use Rattle.sp_runs.specs.Rounds.{CompleteRounds, IsCompleteRound, IsHopServed, I
 use Rattle.sp_runs.specs.Runs.{is_hop, polls}
 use Rattle.sp_runs.specs.Settings.{Setting, is_correct}
 use Rattle.sp_schedule_events.specs.declared.event.Event.{Event}
-use Rattle.laws_progress.specs.Worked.{FirstMessage, RoundsAreCounted, first_rounds, four_rounds, frames, later_rounds, line, line_path, line_round, node, send, square, square_path, square_round, take_it, tick}
+use Rattle.laws_progress.specs.Worked.{FirstMessage, RoundsAreCounted, first_rounds, four_rounds, frames, later_rounds, line, line_path, line_round, line_weights, node}
+use Rattle.laws_progress.specs.Worked.{send, square, square_path, square_round, square_weights, take_it, tick}
+use Rattle.laws_progress.specs.Within.{IsOpenHop, IsPathUnder}
 
 -- ---- paths of three nodes
 
@@ -44,6 +46,16 @@ three_path x a b c ab ac bc one two three first second =
         once = three_pairs (node a) (node b) (node c) (differ a b ab) (differ a c ac) (differ b c bc);
       };
       correct = All-cons Correct (node a) (node b ∷ node c ∷ []) one (All-cons Correct (node b) (node c ∷ []) two (All-cons Correct (node c) [] three (All-nil Correct)));
+    }
+
+-- and one of a version
+pub three_under : (x : Setting) (weights : List ℕ) (a b c : ℕ) → IsCorrectPath x (node a) (node c) (node a ∷ node b ∷ node c ∷ [])
+    → IsOpenHop x weights (node a, node b) → IsOpenHop x weights (node b, node c) → IsPathUnder x weights (node a) (node c) (node a ∷ node b ∷ node c ∷ [])
+three_under x weights a b c walks first second =
+    let Open = IsOpenHop x weights in
+    record {
+      walks = walks;
+      open_hops = All-cons Open (node a, node b) ((node b, node c) ∷ []) first (All-cons Open (node b, node c) [] second (All-nil Open));
     }
 
 -- ---- rounds of a path of three nodes
@@ -104,21 +116,24 @@ later_are =
 line_is_path : IsCorrectPath line (node 1) (node 3) line_path
 line_is_path = three_path line 1 2 3 (λ e. omega (arith, e)) (λ e. omega (arith, e)) (λ e. omega (arith, e)) refl refl refl refl refl
 
+line_under : IsPathUnder line line_weights (node 1) (node 3) line_path
+line_under = three_under line line_weights 1 2 3 line_is_path refl refl
+
 first_message : FirstMessage
 first_message = record {
-  path = line_is_path;
+  path = line_under;
   two_hops = refl;
   one_flow = refl;
   there = first_are;
-  is_delivered = λ arts js more w v n promise early run at has.
+  is_delivered = λ arts js more w v n promise early run under at has.
       let it =
-      promise send js w first_rounds more v early run refl (node 1) (node 3) line_path line_is_path n at 1 1 (omega arith) has (omega arith) 1 (omega arith)
+      promise send js w first_rounds more v early run 1 line_weights (node 1) (node 3) line_path line_under under n at 1 1 (omega arith) has (omega arith) 1 (omega arith)
       first_are in
       (it.payload, it.sent.there, it.delivered.there);
   back = later_are;
-  has_returned = λ arts js more w v n promise early run at is.
+  has_returned = λ arts js more w v n promise early run under at is.
       let before = send ++ (first_rounds ++ tick) in
-      let it = promise before js w later_rounds more v early run refl (node 1) (node 3) line_path line_is_path n at 1 (omega arith) later_are in
+      let it = promise before js w later_rounds more v early run 1 line_weights (node 1) (node 3) line_path line_under under n at 1 (omega arith) later_are in
       (omega (arith, it.base, is), λ low. it.room (omega (arith, low, is)));
 }
 
@@ -163,21 +178,34 @@ four_are =
 square_is_path : IsCorrectPath square (node 1) (node 3) square_path
 square_is_path = three_path square 1 4 3 (λ e. omega (arith, e)) (λ e. omega (arith, e)) (λ e. omega (arith, e)) refl refl refl refl refl
 
+square_under : (weights : List ℕ) → IsOpenHop square weights (node 1, node 4) → IsOpenHop square weights (node 4, node 3)
+    → IsPathUnder square weights (node 1) (node 3) square_path
+square_under weights first second = three_under square weights 1 4 3 square_is_path first second
+
 pub rounds_are_counted : RoundsAreCounted
 rounds_are_counted = record {
   first_message = first_message;
   compromised = record {
-    path = square_is_path;
+    path = square_under square_weights refl refl;
     two_hops = refl;
     seven_flows = refl;
     rounds = four_are;
-    is_delivered = λ arts js more w v n promise early run at has.
+    is_delivered = λ arts js more w v n promise early run under at has.
         let it =
-        promise send js w four_rounds more v early run refl (node 1) (node 3) square_path square_is_path n at 1 1 (omega arith) has (omega arith) 7
+        promise send js w four_rounds more v early run 1 square_weights (node 1) (node 3) square_path (square_under square_weights refl refl) under n at 1 1 (omega arith) has (omega arith) 7
         (omega arith) four_are in
         (it.payload, it.sent.there, it.delivered.there);
     events = refl;
     frames = refl;
+  };
+  version = record {
+    left = square_under (0 ∷ 10 ∷ 0 ∷ 10 ∷ []) refl refl;
+    first_hop = λ is.
+        let Open = IsOpenHop line (0 ∷ 10 ∷ []) in
+        (let f : true ≡ false = All-head Open (node 1, node 2) ((node 2, node 3) ∷ []) is.open_hops in cc);
+    last_hop = λ is.
+        let Open = IsOpenHop line (10 ∷ 0 ∷ []) in
+        (let f : true ≡ false = All-head Open (node 2, node 3) [] (All-tail Open (node 1, node 2) ((node 2, node 3) ∷ []) is.open_hops) in cc);
   };
   stays = record {
     rounds = refl;

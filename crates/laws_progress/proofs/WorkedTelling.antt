@@ -4,7 +4,6 @@ use Rattle.std.specs.Prelude.{◌&&◌, not}
 use Rattle.std.proofs.lemmas.Bool.{cases_Bool}
 use Rattle.std.proofs.lemmas.List.Elements.{All-cons, All-head, All-nil, All-tail}
 use Rattle.sp_base.specs.declared.id.NodeId.{NodeId}
-use Rattle.sp_runs.specs.Paths.{IsCorrectPath}
 use Rattle.sp_runs.specs.Rounds.{are_passed, is_pass, is_passed}
 use Rattle.sp_runs.specs.Runs.{is_poll, polls}
 use Rattle.sp_runs.specs.Worlds.{World, node_in}
@@ -13,12 +12,13 @@ use Rattle.sp_rules.specs.Node.{NodeState}
 use Rattle.sp_schedule_events.specs.declared.event.Event.{Event}
 use Rattle.laws_progress.specs.Calm.{KnowEachOther, StaysUpIn}
 use Rattle.laws_progress.specs.Telling.{HasSweep, IsTellingRound, None_left, Round, TellingRounds}
-use Rattle.laws_progress.specs.Worked.{frames, line_path, node}
+use Rattle.laws_progress.specs.Within.{IsPathUnder}
+use Rattle.laws_progress.specs.Worked.{line_weights, frames, line_path, node}
 use Rattle.laws_progress.specs.WorkedTelling.{TellingIsWorked, booted_at, late_round, row, short_round, starts, telling_round, three_rounds, untold}
 use Rattle.laws_progress.proofs.Along.{polls_append}
 use Rattle.laws_progress.proofs.Places.{nobody}
 use Rattle.laws_progress.proofs.Sweeps.{both, either, no_more, one_more}
-use Rattle.laws_progress.proofs.Worked.{sweep, three_path}
+use Rattle.laws_progress.proofs.Worked.{sweep, three_path, three_under}
 
 -- ---- a sweep that has all polls of its interval
 
@@ -112,8 +112,9 @@ rounds_are =
 abbrev place : ℕ → NodeId
 place i = get_or line_path i nobody
 
-row_path : IsCorrectPath row (node 1) (node 3) line_path
-row_path = three_path row 1 2 3 (λ e. omega (arith, e)) (λ e. omega (arith, e)) (λ e. omega (arith, e)) refl refl refl refl refl
+row_path : IsPathUnder row line_weights (node 1) (node 3) line_path
+row_path = three_under row line_weights 1 2 3
+    (three_path row 1 2 3 (λ e. omega (arith, e)) (λ e. omega (arith, e)) (λ e. omega (arith, e)) refl refl refl refl refl) refl refl
 
 -- what is known at a place of another
 at_place : (w : World) → KnowEachOther w line_path → (i j : ℕ) → i < 3 → j < 3 → (n m : NodeState) → node_in w.nodes (place i) ≡ Some n
@@ -128,12 +129,12 @@ telling_is_worked = record {
   rounds = rounds_are;
   events = refl;
   polls = refl;
-  told = λ arts js more w v one two three n m promise early run at_one at_two at_three at_n at_m.
+  told = λ arts js more w v one two three n m promise early run under at_one at_two at_three at_n at_m.
       let Up = StaysUpIn w three_rounds in
       let ups = All-cons Up (node 1) (node 2 ∷ node 3 ∷ []) (record { node = one; runs = at_one; stays = refl })
       (All-cons Up (node 2) (node 3 ∷ []) (record { node = two; runs = at_two; stays = refl })
       (All-cons Up (node 3) [] (record { node = three; runs = at_three; stays = refl }) (All-nil Up))) in
-      let known = promise starts js w three_rounds more v early run refl (node 1) (node 3) line_path row_path ups 3 (omega arith) rounds_are in
+      let known = promise starts js w three_rounds more v early run 1 line_weights (node 1) (node 3) line_path row_path under ups 3 (omega arith) rounds_are in
       (at_place v known 2 0 (omega arith) (omega arith) m n at_m at_n, at_place v known 0 2 (omega arith) (omega arith) n m at_n at_m);
   short = λ round.
       let sweeps = All-head (Serves starts short_round) (node 1, node 2) ((node 2, node 3) ∷ []) round in

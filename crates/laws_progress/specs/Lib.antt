@@ -1,4 +1,5 @@
 pub mod Positions
+pub mod Within
 pub mod Delivery
 pub mod Counts
 pub mod Worked

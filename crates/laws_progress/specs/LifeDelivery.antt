@@ -13,8 +13,9 @@ use Rattle.sp_runs.specs.Worlds.{World, node_in}
 use Rattle.sp_journal.specs.declared.entry.Entry.{Entry}
 use Rattle.sp_schedule_events.specs.declared.event.Event.{Event}
 use Rattle.laws_progress.specs.Calm.{IsCalm, KnowEachOther, StaysUpIn}
-use Rattle.laws_progress.specs.Delivery.{HasReturned, IsDelivered, TopologyStays}
+use Rattle.laws_progress.specs.Delivery.{HasReturned, IsDelivered}
 use Rattle.laws_progress.specs.Telling.{TellingRounds}
+use Rattle.laws_progress.specs.Within.{IsPathUnder, StaysUnder}
 use Rattle.laws_runs.specs.Flows.{flow_at}
 use Rattle.laws_runs.specs.LifeFlows.{acknowledged_under}
 use Rattle.laws_runs.specs.Past.{delivered_under, past, sent_under}
@@ -26,8 +27,8 @@ abbrev pub DeliversInLives : Arts → Setting → Type 0
 DeliversInLives arts x =
     -- a run without forgery, and how it went on
     (es : List Event) (js : List Entry) (w : World) (after : List Event) (more : List Entry) (v : World)
-    → (run : Clean arts x es js w) → (longer : Clean arts x (es ++ after) (js ++ more) v) → TopologyStays (es ++ after)
-    → (s d : NodeId) (path : List NodeId) → IsCorrectPath x s d path
+    → (run : Clean arts x es js w) → (longer : Clean arts x (es ++ after) (js ++ more) v)
+    → (version : ℕ) (weights : List ℕ) (s d : NodeId) (path : List NodeId) → IsPathUnder x weights s d path → StaysUnder version weights path w v
     → (a b : ℕ) → IsCalm w after s a d b path
     → (n : NodeState) → node_in w.nodes s ≡ Some n
     → (q k : ℕ) → 1 ≤ q → q ≤ length (sent_under (past arts x es js w run) s a d b) → q ≤ (flow_at n s d).at.base + k
@@ -39,8 +40,8 @@ DeliversInLives arts x =
 abbrev pub ReturnsInLives : Arts → Setting → Type 0
 ReturnsInLives arts x =
     (es : List Event) (js : List Entry) (w : World) (after : List Event) (more : List Entry) (v : World)
-    → Clean arts x es js w → Clean arts x (es ++ after) (js ++ more) v → TopologyStays (es ++ after)
-    → (s d : NodeId) (path : List NodeId) → IsCorrectPath x s d path
+    → Clean arts x es js w → Clean arts x (es ++ after) (js ++ more) v
+    → (version : ℕ) (weights : List ℕ) (s d : NodeId) (path : List NodeId) → IsPathUnder x weights s d path → StaysUnder version weights path w v
     → (a b : ℕ) → IsCalm w after s a d b path
     → (n : NodeState) → node_in v.nodes s ≡ Some n
     → (least : ℕ) → flow_count x (es ++ after) ≤ least → CompleteRounds least s d path (hops path + 1) es after
@@ -50,8 +51,9 @@ ReturnsInLives arts x =
 abbrev pub StartsAreTold : Arts → Setting → Type 0
 StartsAreTold arts x =
     (es : List Event) (js : List Entry) (w : World) (after : List Event) (more : List Entry) (v : World)
-    → Clean arts x es js w → Clean arts x (es ++ after) (js ++ more) v → TopologyStays (es ++ after)
-    → (s d : NodeId) (path : List NodeId) → IsCorrectPath x s d path → All (StaysUpIn w after) path
+    → Clean arts x es js w → Clean arts x (es ++ after) (js ++ more) v
+    → (version : ℕ) (weights : List ℕ) (s d : NodeId) (path : List NodeId) → IsPathUnder x weights s d path → StaysUnder version weights path w v
+    → All (StaysUpIn w after) path
     -- a sweep has at least as many polls as there are nodes
     → (least : ℕ) → length x.topology.nodes ≤ least → TellingRounds least path (hops path + 1) es after
     → KnowEachOther v path

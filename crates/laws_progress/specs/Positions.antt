@@ -1,6 +1,6 @@
 -- What counted delivery rests on, in every state of a run without forgery: where a flow between correct nodes stands at each node, what neighbours know of
 -- each other, and that each flow that waits for its turn is counted.
-use Rattle.std.specs.Prelude.{◌≡◌, ◌≤◌, ◌||◌, Bool, not, IsTrue, List, count_by, Some}
+use Rattle.std.specs.Prelude.{◌≡◌, ◌≤◌, ◌||◌, Bool, not, IsTrue, List, [], count_by, Some}
 use Rattle.std.specs.List.{All, list_any}
 use Rattle.sp_base.specs.Position.{IsPosition}
 use Rattle.sp_base.specs.declared.id.Flow.{Flow}
@@ -9,6 +9,7 @@ use Rattle.sp_rules.specs.Arts.{Arts}
 use Rattle.sp_rules.specs.Flow.{ends}
 use Rattle.sp_rules.specs.Node.{NodeState}
 use Rattle.sp_rules.specs.Rel.{View, peer_in, view_in}
+use Rattle.sp_runs.specs.Forgery.{lists_in}
 use Rattle.sp_runs.specs.Rounds.{flow_count, has_correct_ends, is_send}
 use Rattle.sp_runs.specs.Runs.{Clean, is_hop}
 use Rattle.sp_runs.specs.Settings.{Setting, StaysUp, is_correct}
@@ -16,7 +17,6 @@ use Rattle.sp_runs.specs.Told.{sent}
 use Rattle.sp_runs.specs.Worlds.{World, node_in}
 use Rattle.sp_journal.specs.declared.entry.Entry.{Entry}
 use Rattle.sp_schedule_events.specs.declared.event.Event.{Event}
-use Rattle.laws_progress.specs.Delivery.{TopologyStays}
 use Rattle.laws_runs.specs.Flows.{AreSent, IsVouchedFor, flow_at}
 use Rattle.laws_runs.specs.Premises.{ComesThrough}
 
@@ -50,7 +50,11 @@ pub record ProgressClaims (arts : Arts) (x : Setting) (es : List Event) (js : Li
   pub counted : (u : NodeId) (n : NodeState) → node_in w.nodes u ≡ Some n → All (λ f. IsTrue f.active → IsTrue (is_counted x es (ends f))) n.parts.rel.flows
   pub few : (u : NodeId) (n : NodeState) → node_in w.nodes u ≡ Some n → count_by (λ f. f.active) n.parts.rel.flows ≤ flow_count x es
 
--- of each run without forgery and without epochs
+-- the administrator publishes no version of the topology in these events, so that all nodes run under the first
+abbrev pub TopologyStays : List Event → Type 0
+TopologyStays es = lists_in es ≡ []
+
+-- of each run without forgery and without epochs in which the topology stays
 abbrev pub PositionsAreInOrder : Type 0
 PositionsAreInOrder = (arts : Arts) (x : Setting) (es : List Event) (js : List Entry) (w : World) → StaysUp arts x
     → ComesThrough x.topology.format arts x.signature_len

@@ -1,5 +1,6 @@
 -- Two worked examples of complete rounds, along three nodes in a row, and along a path round a compromised node: the first message is delivered by the end
--- of four, and its acknowledgement is back by the end of three more. And events in which nothing is published, as both are, and others in which something is.
+-- of four, and its acknowledgement is back by the end of three more. What a version withdraws of both. And events in which nothing is published, as both are,
+-- and others in which something is.
 use Rattle.std.specs.Prelude.{ℕ, zero, suc, ◌≡◌, ◌+◌, ◌*◌, ◌<◌, ◌≤◌, false, List, [], ◌∷◌, ◌++◌, length, map, slice_get, None, Some}
 use Rattle.sp_base.specs.declared.id.NodeId.{NodeId}
 use Rattle.sp_topology.specs.declared.topology.Edge.{Edge}
@@ -8,7 +9,7 @@ use Rattle.sp_topology.specs.declared.topology.NodeKey.{NodeKey}
 use Rattle.sp_rules.specs.Arts.{Arts}
 use Rattle.sp_rules.specs.Flow.{is_full}
 use Rattle.sp_rules.specs.Node.{NodeState}
-use Rattle.sp_runs.specs.Paths.{IsCorrectPath, hops}
+use Rattle.sp_runs.specs.Paths.{hops}
 use Rattle.sp_runs.specs.Rounds.{CompleteRounds, flow_count}
 use Rattle.sp_runs.specs.Runs.{Clean, polls}
 use Rattle.sp_runs.specs.Settings.{Setting}
@@ -19,7 +20,9 @@ use Rattle.sp_schedule_events.specs.declared.event.Event.{Event}
 use Rattle.sp_schedule_events.specs.declared.event.Event.TheVariants as events
 use Rattle.laws_runs.specs.Acknowledged.{acknowledged}
 use Rattle.laws_runs.specs.Flows.{flow_at}
-use Rattle.laws_progress.specs.Delivery.{DeliversInRounds, ReturnsInRounds, TopologyStays}
+use Rattle.laws_progress.specs.Delivery.{DeliversInRounds, ReturnsInRounds}
+use Rattle.laws_progress.specs.Positions.{TopologyStays}
+use Rattle.laws_progress.specs.Within.{IsPathUnder, StaysUnder}
 
 abbrev pub node : ℕ → NodeId
 node u = record { 0 = u }
@@ -68,18 +71,19 @@ tick = events.Tick (node 3) 5 ∷ []
 
 -- ---- what the two promises say of such a run, over whatever arts they hold
 
--- where 1 accepted the message, it is the first that 3 delivered by the end of these events, with its payload
-abbrev pub IsDeliveredBy : Setting → List Event → Type 0
-IsDeliveredBy x after = (arts : Arts) (js more : List Entry) (w v : World) (n : NodeState)
-    → DeliversInRounds arts x → Clean arts x send js w → Clean arts x (send ++ after) (js ++ more) v → node_in w.nodes (node 1) ≡ Some n
+-- Where the nodes of the path run under version 1, with these weights, all the time, and 1 accepted the message, it is the first that 3 delivered by the end of
+-- these events, with its payload.
+abbrev pub IsDeliveredBy : Setting → (weights : List ℕ) → (path : List NodeId) → List Event → Type 0
+IsDeliveredBy x weights path after = (arts : Arts) (js more : List Entry) (w v : World) (n : NodeState)
+    → DeliversInRounds arts x → Clean arts x send js w → Clean arts x (send ++ after) (js ++ more) v → StaysUnder 1 weights path w v → node_in w.nodes (node 1) ≡ Some n
     → 1 ≤ length (sent send js (node 1) (node 3))
     → (payload : List ℕ) × (slice_get (sent send js (node 1) (node 3)) 0 ≡ Some (1, payload))
     × (slice_get (delivered (send ++ after) (js ++ more) (node 1) (node 3)) 0 ≡ Some (1, payload))
 
 -- where 3 acknowledged it before, that is back at 1 by the end of these events, and 1 has room for messages 2 and 3
-abbrev pub HasReturnedBy : Setting → (before after : List Event) → Type 0
-HasReturnedBy x before after = (arts : Arts) (js more : List Entry) (w v : World) (n : NodeState)
-    → ReturnsInRounds arts x → Clean arts x before js w → Clean arts x (before ++ after) (js ++ more) v → node_in v.nodes (node 1) ≡ Some n
+abbrev pub HasReturnedBy : Setting → (weights : List ℕ) → (path : List NodeId) → (before after : List Event) → Type 0
+HasReturnedBy x weights path before after = (arts : Arts) (js more : List Entry) (w v : World) (n : NodeState)
+    → ReturnsInRounds arts x → Clean arts x before js w → Clean arts x (before ++ after) (js ++ more) v → StaysUnder 1 weights path w v → node_in v.nodes (node 1) ≡ Some n
     → acknowledged arts before js (node 1) (node 3) ≡ 1
     → (1 ≤ (flow_at n (node 1) (node 3)).at.base) × ((flow_at n (node 1) (node 3)).at.have < 3 → is_full 2 (flow_at n (node 1) (node 3)) ≡ false)
 
@@ -101,17 +105,21 @@ first_rounds = line_round 0 ++ (line_round 1 ++ (line_round 2 ++ (line_round 3 +
 abbrev pub later_rounds : List Event
 later_rounds = line_round 4 ++ (line_round 5 ++ (line_round 6 ++ []))
 
+-- the weights of version 1
+abbrev pub line_weights : List ℕ
+line_weights = 10 ∷ 10 ∷ []
+
 pub record FirstMessage : Type 0 where
-  pub path : IsCorrectPath line (node 1) (node 3) line_path
+  pub path : IsPathUnder line line_weights (node 1) (node 3) line_path
   pub two_hops : hops line_path ≡ 2
   -- the one flow that a client sends to
   pub one_flow : flow_count line (send ++ (first_rounds ++ (tick ++ later_rounds))) ≡ 1
   -- four rounds are enough for the first message: two hops, one above the base, and one
   pub there : CompleteRounds 1 (node 1) (node 3) line_path 4 send first_rounds
-  pub is_delivered : IsDeliveredBy line first_rounds
+  pub is_delivered : IsDeliveredBy line line_weights line_path first_rounds
   -- and three for its acknowledgement: two hops, and one
   pub back : CompleteRounds 1 (node 1) (node 3) line_path 3 (send ++ (first_rounds ++ tick)) later_rounds
-  pub has_returned : HasReturnedBy line (send ++ (first_rounds ++ tick)) later_rounds
+  pub has_returned : HasReturnedBy line line_weights line_path (send ++ (first_rounds ++ tick)) later_rounds
 
 -- ---- round a compromised node
 
@@ -129,16 +137,28 @@ square_round before = frames 4 1 (7 * before) 7 ++ (frames 1 4 (7 * before) 7 ++
 abbrev pub four_rounds : List Event
 four_rounds = square_round 0 ++ (square_round 1 ++ (square_round 2 ++ (square_round 3 ++ [])))
 
+abbrev pub square_weights : List ℕ
+square_weights = 10 ∷ 10 ∷ 10 ∷ 10 ∷ []
+
 pub record RoundACompromisedNode : Type 0 where
-  pub path : IsCorrectPath square (node 1) (node 3) square_path
+  pub path : IsPathUnder square square_weights (node 1) (node 3) square_path
   pub two_hops : hops square_path ≡ 2
   -- the flow that a client sends to, and the six that begin or end at 2
   pub seven_flows : flow_count square (send ++ four_rounds) ≡ 7
   -- four rounds, which are enough for the first message. Each has seven polls of each of its four directions
   pub rounds : CompleteRounds 7 (node 1) (node 3) square_path 4 send four_rounds
-  pub is_delivered : IsDeliveredBy square four_rounds
+  pub is_delivered : IsDeliveredBy square square_weights square_path four_rounds
   pub events : length four_rounds ≡ 4 * (4 * 7 * 2 + 1)
   pub frames : polls four_rounds (node 4) (node 3) ≡ 28
+
+-- ---- what a version withdraws
+
+pub record WithinAVersion : Type 0 where
+  -- one that withdraws both edges of the compromised node leaves the path that goes round it
+  pub left : IsPathUnder square (0 ∷ 10 ∷ 0 ∷ 10 ∷ []) (node 1) (node 3) square_path
+  -- a path over an edge that it withdraws is none, whether that is the first or the last
+  pub first_hop : IsPathUnder line (0 ∷ 10 ∷ []) (node 1) (node 3) line_path → ⊥
+  pub last_hop : IsPathUnder line (10 ∷ 0 ∷ []) (node 1) (node 3) line_path → ⊥
 
 -- ---- where the topology stays
 
@@ -168,4 +188,5 @@ pub record WhereItStays : Type 0 where
 pub record RoundsAreCounted : Type 0 where
   pub first_message : FirstMessage
   pub compromised : RoundACompromisedNode
+  pub version : WithinAVersion
   pub stays : WhereItStays

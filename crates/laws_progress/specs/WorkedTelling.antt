@@ -5,7 +5,7 @@ use Rattle.sp_base.specs.declared.format.TheConstants.{FORMAT_2}
 use Rattle.sp_rules.specs.Arts.{Arts}
 use Rattle.sp_rules.specs.Lives.{held_boot}
 use Rattle.sp_rules.specs.Node.{NodeState, booted}
-use Rattle.sp_runs.specs.Paths.{IsCorrectPath, hops}
+use Rattle.sp_runs.specs.Paths.{hops}
 use Rattle.sp_runs.specs.Runs.{Clean, polls}
 use Rattle.sp_runs.specs.Settings.{Setting, first_signer, fixed_at, link_keys}
 use Rattle.sp_runs.specs.Worlds.{World, node_in}
@@ -16,7 +16,8 @@ use Rattle.sp_schedule_events.specs.declared.event.Event.TheVariants as events
 use Rattle.laws_progress.specs.Calm.{KnowEachOther, StaysUpIn}
 use Rattle.laws_progress.specs.LifeDelivery.{StartsAreTold}
 use Rattle.laws_progress.specs.Telling.{IsTellingRound, TellingRounds}
-use Rattle.laws_progress.specs.Worked.{frames, line, line_path, node}
+use Rattle.laws_progress.specs.Within.{IsPathUnder, StaysUnder}
+use Rattle.laws_progress.specs.Worked.{frames, line, line_path, line_weights, node}
 
 -- ---- three nodes in a row, which start by events
 
@@ -37,7 +38,7 @@ three_rounds = telling_round 0 ++ (telling_round 1 ++ (telling_round 2 ++ []))
 abbrev pub EndsKnowEachOther : Type 0
 EndsKnowEachOther = (arts : Arts) (js more : List Entry) (w v : World) (one two three n m : NodeState)
     → StartsAreTold arts row → Clean arts row starts js w → Clean arts row (starts ++ three_rounds) (js ++ more) v
-    → node_in w.nodes (node 1) ≡ Some one → node_in w.nodes (node 2) ≡ Some two → node_in w.nodes (node 3) ≡ Some three
+    → StaysUnder 1 line_weights line_path w v → node_in w.nodes (node 1) ≡ Some one → node_in w.nodes (node 2) ≡ Some two → node_in w.nodes (node 3) ≡ Some three
     → node_in v.nodes (node 1) ≡ Some n → node_in v.nodes (node 3) ≡ Some m
     → (held_boot m.parts.lives (node 1) ≡ n.fixed.boot) × (held_boot n.parts.lives (node 3) ≡ m.fixed.boot)
 
@@ -68,7 +69,7 @@ abbrev pub untold : World
 untold = record { keys = []; nodes = booted_at 1 1 ∷ booted_at 2 2 ∷ booted_at 3 1 ∷ []; directions = []; crafted = []; published = none_published }
 
 pub record TellingIsWorked : Type 0 where
-  pub path : IsCorrectPath row (node 1) (node 3) line_path
+  pub path : IsPathUnder row line_weights (node 1) (node 3) line_path
   pub two_hops : hops line_path ≡ 2
   pub three_nodes : length row.topology.nodes ≡ 3
   -- three rounds are enough for two hops. Each has three polls of each of its four directions

@@ -1,7 +1,8 @@
 //! Counted delivery: what a source accepted is delivered, and its acknowledgement is back, after so many complete rounds of a path of correct nodes. Of runs in
 //! which nodes start and stop it is claimed while those of the path stay in their lives and know those of its ends.
 //! And told starts: while the nodes of a path stay up, each holds the boot of each other's life after so many rounds that tell starts.
-//! What is counted is claimed of runs in which the administrator publishes no version of the topology, so that all nodes run under the first.
+//! What is counted is claimed within a version of the topology: while each node of the path runs under one version, which withdraws no edge of the path. Other
+//! nodes may run under others, and the administrator may publish more.
 #![tactic(auto)]
 
 ghost use Rattle.laws_progress.specs.Counts.{FlowCountNeverFalls};

@@ -162,7 +162,7 @@ acted arts x es js w new e j m fits carries reach asked same unforged is =
     }
 
 -- what stands in a frame
-contents_keep : (P : Kept → Type 0) (n : NodeState) (v : NodeId) → AllKeep P (pieces_of (contents_to n.fixed n.parts v)) → AllKeep P (pieces_of (contents_at n v))
+pub contents_keep : (P : Kept → Type 0) (n : NodeState) (v : NodeId) → AllKeep P (pieces_of (contents_to n.fixed n.parts v)) → AllKeep P (pieces_of (contents_at n v))
 contents_keep P n v h =
     cond_either (λ (c : Contents). AllKeep P (pieces_of c)) (is_behind n v) (with_document n.live.document)
     (cond (is_shut_to n v) no_contents (contents_to n.fixed n.parts v)) (tt, tt)

@@ -12,6 +12,7 @@ use Rattle.sp_rules.specs.Arts.{Arts, is_right}
 use Rattle.sp_rules.specs.Pieces.{pieces_of}
 use Rattle.sp_topology.specs.declared.topology.LmsHeight.{LmsHeight}
 use Rattle.laws_node.specs.Inputs.{ReadsBack}
+use Rattle.laws_node.specs.Nodes.{FitsAFrame}
 use Rattle.laws_node.specs.Objects.{objects_in}
 
 -- the payload and the signature of a message are bytes
@@ -56,6 +57,9 @@ pub record ComesThrough (format : ℕ) (arts : Arts) (len : ℕ) : Type 0 where
   -- its length, its name and its version are right
   pub opens : (h : Head) (s : Contents) (key : List ℕ) → IsHead h → h.format ≡ format → IsPlain s → IsContentsIn format len s → HasGoodMessages arts s
       → arts.opened (written arts h s key) ≡ Ok (written arts h s key)
+  -- so are those of a document that a frame has room for
+  pub documents_open : (h : Head) (document key : List ℕ) → IsHead h → h.format ≡ format → IsContentsIn format len (with_document document)
+      → FitsAFrame document → arts.opened (written arts h (with_document document) key) ≡ Ok (written arts h (with_document document) key)
   -- its head is read back, its tag is right under the key, and its sections are read back by `back`
   pub heads : (h : Head) (s : Contents) (key : List ℕ) → IsHead h → arts.head (written arts h s key) ≡ h
   pub tags_are_right : (h : Head) (s : Contents) (key : List ℕ) → is_right arts key (written arts h s key) ≡ true

@@ -7,12 +7,12 @@ use Rattle.std.proofs.lemmas.List.{length-append}
 use Rattle.sp_frame.proofs.HeadLemmas.{head_is_read}
 use Rattle.sp_frame.specs.Frames.{head_bytes, head_of, opened_in, tagged_part, tag_part}
 use Rattle.sp_frame.specs.Ranges.{IsContentsIn, IsHead}
-use Rattle.sp_frame.specs.Sections.{Contents, sections_bytes_in}
+use Rattle.sp_frame.specs.Sections.{Contents, sections_bytes_in, with_document}
 use Rattle.sp_frame.specs.declared.head.Head.{Head}
 use Rattle.sp_hmac.proofs.Lengths.{length-hmac}
 use Rattle.sp_hmac.specs.Hmac.{hmac}
 use Rattle.sp_hss.specs.KeyTree.{signature_len}
-use Rattle.sp_node_format.proofs.PolledFrames.{read_back, sections_len, signatures_are_short}
+use Rattle.sp_node_format.proofs.PolledFrames.{document_len, most_sections, read_back, sections_len, signatures_are_short}
 use Rattle.sp_node_format.specs.Format.{format_in}
 use Rattle.sp_node_format.specs.PolledFrames.{most_signature}
 use Rattle.sp_runs.specs.Scenarios.{setting_of}
@@ -30,16 +30,24 @@ use Rattle.laws_runs_format.proofs.ReadBack.{format_carries}
 
 -- ---- it opens
 
+-- where a frame has room for its sections
+with_room : (format len : ℕ) (h : Head) (s : Contents) (key : List ℕ) → IsHead h → h.format ≡ format → IsContentsIn format len s
+    → length (sections_bytes_in h.format s) ≤ most_sections
+    → (format_in format).opened (written (format_in format) h s key) ≡ Ok (written (format_in format) h s key)
+with_room format len h s key range same is size =
+    let bytes = written (format_in format) h s key in
+    let fits = subst (λ (f : ℕ). IsContentsIn f len s) (sym same) is in
+    let back = read_back len h s (hmac key (head_bytes h ++ sections_bytes_in h.format s)) size range fits
+    (length-hmac key (head_bytes h ++ sections_bytes_in h.format s)) in
+    subst (λ (f : ℕ). opened_in f bytes ≡ Ok bytes) same back.opens
+
 opens : (format len : ℕ) → len ≤ most_signature → (h : Head) (s : Contents) (key : List ℕ) → IsHead h → h.format ≡ format → IsPlain s
     → IsContentsIn format len s
     → (format_in format).opened (written (format_in format) h s key) ≡ Ok (written (format_in format) h s key)
 opens format len small h s key range same plain is =
-    let bytes = written (format_in format) h s key in
     let fits = subst (λ (f : ℕ). IsContentsIn f len s) (sym same) is in
-    let size = sections_len h.format len small s (record { document = plain.document; paths = plain.paths; probe = plain.probe }) fits in
-    let back = read_back len h s (hmac key (head_bytes h ++ sections_bytes_in h.format s)) size range fits
-    (length-hmac key (head_bytes h ++ sections_bytes_in h.format s)) in
-    subst (λ (f : ℕ). opened_in f bytes ≡ Ok bytes) same back.opens
+    with_room format len h s key range same is
+    (sections_len h.format len small s (record { document = plain.document; paths = plain.paths; probe = plain.probe }) fits)
 
 -- ---- its tag
 
@@ -59,6 +67,8 @@ pub format_comes_through : FormatComesThrough
 format_comes_through format height = record {
   carries = format_carries format;
   opens = λ h s key range same plain is good. opens format (signature_len (param_of height)) (signatures_are_short height) h s key range same plain is;
+  documents_open = λ h document key range same is fits.
+      with_room format (signature_len (param_of height)) h (with_document document) key range same is (document_len h.format document fits.1);
   heads = λ h s key is.
       let sections = sections_bytes_in h.format s in
       let tag = hmac key (head_bytes h ++ sections) in

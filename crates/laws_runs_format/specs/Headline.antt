@@ -53,8 +53,7 @@ pub record RunClaims (x : Setting) (es : List Event) (js : List Entry) : Type 0 
   pub reached : (n : ℕ) → (w : World) × Clean (arts_of x) x (take n es) (take n js) w
   pub one : (n : ℕ) (w v : World) → Clean (arts_of x) x (take n es) (take n js) w → Clean (arts_of x) x (take n es) (take n js) v → w ≡ v
   pub claims : (n : ℕ) (w : World) → Clean (arts_of x) x (take n es) (take n js) w → Claims x (take n es) (take n js) w
-  -- Where nothing is published: what was accepted is delivered, and what was acknowledged has returned, after so many complete rounds of a path of correct
-  -- nodes
+  -- Within a version: what was accepted is delivered, and what was acknowledged has returned, after so many complete rounds of a path of correct nodes
   pub delivered : DeliversInRounds (arts_of x) x
   pub returned : ReturnsInRounds (arts_of x) x
 
@@ -106,7 +105,7 @@ pub record RunLives (x : Setting) (es : List Event) (js : List Entry) : Type 0 w
   pub reached : (n : ℕ) → (w : World) × Clean (arts_of x) x (take n es) (take n js) w
   pub one : (n : ℕ) (w v : World) → Clean (arts_of x) x (take n es) (take n js) w → Clean (arts_of x) x (take n es) (take n js) v → w ≡ v
   pub claims : (n : ℕ) (w : World) → (run : Clean (arts_of x) x (take n es) (take n js) w) → LivesClaims x (take n es) (take n js) w run
-  -- Where nothing is published, while the nodes of a path stay up: after so many rounds that tell starts each holds the boot of each other's life, and from
+  -- Within a version, while the nodes of a path stay up: after so many rounds that tell starts each holds the boot of each other's life, and from
   -- then on what is accepted is delivered, and what is acknowledged returns, after as many complete rounds as without epochs, whatever all other nodes do
   pub told : x.epochs ≡ true → StartsAreTold (arts_of x) x
   pub delivered : DeliversInLives (arts_of x) x

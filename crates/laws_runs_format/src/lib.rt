@@ -35,8 +35,8 @@ pub fn headers_fit()
 {}
 
 /// The headline: of every run of a schedule without forgery, after each of its events, deliveries are a prefix of what was sent, priority messages are
-/// authentic and come once, buffers are bounded, evictions leave fair shares, weights are what their ends said, and while the administrator publishes nothing,
-/// what was accepted is delivered after a counted number of rounds of a correct path. So it is without epochs. Where nodes start and stop, the same holds of
+/// authentic and come once, buffers are bounded, evictions leave fair shares, weights are what their ends said, and what was accepted is delivered after a
+/// counted number of rounds of a correct path, within a version. So it is without epochs. Where nodes start and stop, the same holds of
 /// each pair of lives of two nodes, only correct nodes run, with the boots and bounds of their key files, no index signs twice, and each version of the
 /// topology that a correct node runs under was handed out.
 pub fn every_run()
@@ -83,7 +83,7 @@ pub fn generated_forge_nothing()
 {}
 
 /// A law: in the setting of every header in its ranges, what a source accepted is delivered, and what a destination acknowledged has returned, after so many
-/// complete rounds of a path, in runs in which nothing is published. Where nodes start and stop so it is in the lives of a path that stays up, once its nodes
+/// complete rounds of a path whose nodes run under one version meanwhile. Where nodes start and stop so it is in the lives of a path that stays up, once its nodes
 /// hold the boots of its ends: after so many rounds that tell starts they do.
 pub fn schedules_deliver_in_rounds()
     ensures delivered { SchedulesDeliver }
