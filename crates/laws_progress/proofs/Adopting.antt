@@ -59,7 +59,8 @@ node_follows arts x es js old new e j fits reads run u b n at (Acts acts c there
     let is = (signs arts x es js old fits reads run).nodes u c there in
     let size = readied_keeps x old c m.node IsSized (λ upto h. record { weights = h.weights; me = h.me }) readied
     (sized (sizes_at x (Good arts x es js) u) c is.holds) in
-    let first = readied_keeps x old c m.node (Follows c) (λ upto h. record { version = h.version; removed = h.removed; live = h.live }) readied (same_follows c) in
+    let first = readied_keeps x old c m.node (Follows c) (λ upto h. record { version = h.version; removed = h.removed; live = h.live }) readied
+    (same_follows c) in
     let then_ = changed arts m.node m.after (versions_rise arts m.node m.input m.output m.after size m.step)
     (only_the_administrator_changes arts m.node m.input m.output m.after size m.step) in
     subst (λ (q : NodeState). Follows q n) same (subst (Follows c) (sym after) (then_follows c m.node m.after first then_))

@@ -14,7 +14,8 @@ use Rattle.sp_rules.specs.Rel.{View, is_one_of, is_peer, is_view, new_peer, no_v
 use Rattle.sp_runs.specs.Runs.{polls, Clean, Starts, Turned}
 use Rattle.sp_runs.specs.Settings.{SettingFits, Setting, fixed_of, link_keys}
 use Rattle.sp_runs.specs.Worlds.{frames_in, World, at_start, node_in}
-use Rattle.std.proofs.Common.{◌∙◌, Bool, arith, cond, false, true, ◌&&◌, ◌+◌, ◌≡◌, ℕ, List, [], ◌∷◌, ◌++◌, map, zip, Option, Some, None, refl, sym, ap, subst, ◌∙◌, inl, inr}
+use Rattle.std.proofs.Common.{◌∙◌, Bool, arith, cond, false, true, ◌&&◌, ◌+◌, ◌≡◌, ℕ, List, [], ◌∷◌, ◌++◌, map, zip, Option, Some, None, refl, sym, ap}
+use Rattle.std.proofs.Common.{subst, ◌∙◌, inl, inr}
 use Rattle.std.proofs.lemmas.Option.{slice_get_within}
 use Rattle.std.specs.Prelude.{slice_get}
 use Rattle.std.proofs.lemmas.Bool.{cases_Bool}

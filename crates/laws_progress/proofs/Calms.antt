@@ -189,7 +189,8 @@ module _ (arts : Arts) (x : Setting) (all : List Event) (era : Era) (flow : Flow
         let a = m.act in
         let heard : has_heard x era.version v a.node ≡ true =
         same_read x w.at.world a.before a.node (has_heard x era.version v) (λ upto. refl) a.readied
-        ∙ (both (knows_life era u v a.before) (has_heard x era.version v a.before) (sym (lit false (knows_now x era u v) (node_in w.at.world.nodes u) a.before a.there) ∙ known)).1 in
+        ∙ (both (knows_life era u v a.before) (has_heard x era.version v a.before)
+        (sym (lit false (knows_now x era u v) (node_in w.at.world.nodes u) a.before a.there) ∙ known)).1 in
         let poll = poll_is u v e is in
         let in_is : Some (Poll v) ≡ Some a.input = sym (ap (input_of arts x (ready x w.at.world e) a.node) poll) ∙ a.reaches in
         let input : a.input ≡ Poll v = cc in
@@ -197,8 +198,10 @@ module _ (arts : Arts) (x : Setting) (all : List Event) (era : Era) (flow : Flow
         let word = ap (λ (o : Output). reply_word x (runs.next_frame (ready x w.at.world e) e) o.reply) (sym step.0) ∙ a.journal.reply in
         let free = answered x (runs.next_frame (ready x w.at.world e) e) (call_refusal a.node v) _ a.entry.reply word in
         let rel = ap (λ (n : NodeState). n.parts.rel) step.1 ∙ polled_rel a.node v free
-        (served_there x era.version era.weights u v hop.hop.joined hop.open_edge a.node (acted_is arts x all era fits reads.carries w y e u a).fixed (moved_runs u hop.first m) heard) in
-        let rows : RowsAre x u a.node = readied_keeps x w.at.world a.before a.node (RowsAre x u) (λ upto h. record { peers = h.peers; links = h.links; heard = h.heard }) a.readied
+        (served_there x era.version era.weights u v hop.hop.joined hop.open_edge a.node (acted_is arts x all era fits reads.carries w y e u a).fixed
+        (moved_runs u hop.first m) heard) in
+        let rows : RowsAre x u a.node = readied_keeps x w.at.world a.before a.node (RowsAre x u)
+        (λ upto h. record { peers = h.peers; links = h.links; heard = h.heard }) a.readied
         (rows_are arts x w.at.events w.at.journal w.at.world fits reads.carries w.at.run u a.before a.there) in
         let there = peer_there x u v a.node rows hop.hop.joined in
         let last_is : (sight arts x all era flow).last w u v ≡ (peer_in a.node.parts.rel.peers v).last =

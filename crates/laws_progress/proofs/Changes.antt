@@ -79,7 +79,8 @@ pub same_read : {X : Type 0} (x : Setting) (w : World) (b n : NodeState) (read :
 same_read x w b n read same is = readied_keeps x w b n (λ m. read m ≡ read b) (λ upto h. same upto) is refl
 
 -- the flow goes on at each watched node in its life
-pub not_over : (arts : Arts) (x : Setting) (all : List Event) (era : Era) → SettingFits arts x → Carries x.topology.format arts → (flow : Flow) → IsEra x flow era
+pub not_over : (arts : Arts) (x : Setting) (all : List Event) (era : Era) → SettingFits arts x → Carries x.topology.format arts → (flow : Flow)
+    → IsEra x flow era
     → (z : Watched arts x all era) (u : NodeId) (n : NodeState) → node_in z.at.world.nodes u ≡ Some n → in_life era u n ≡ true
     → is_over n.parts.rel.removed flow ≡ false
 not_over arts x all era fits reads flow is_era z u n at life =

@@ -71,7 +71,8 @@ no_life arts x es js w off (Turned {es = es'} {js = js'} {old = old} {e = e} {j 
     other es (events.Publish a b) may = refl
     other es (events.CraftDocument a b c f g) may = refl
 
-module _ (arts : Arts) (x : Setting) (fits : StaysUp arts x) (through : ComesThrough x.topology.format arts x.signature_len) (version : ℕ) (weights : List ℕ) (s d : NodeId) (path : List NodeId)
+module _ (arts : Arts) (x : Setting) (fits : StaysUp arts x) (through : ComesThrough x.topology.format arts x.signature_len) (version : ℕ) (weights : List ℕ)
+    (s d : NodeId) (path : List NodeId)
     (way : IsPathUnder x weights s d path) where
   is : IsCorrectPath x s d path
   is = way.walks
@@ -159,7 +160,8 @@ delivery_is_counted arts x fits through one es js w after more v early run versi
     let sent_is = same_sent arts x fits through version weights s d path is es js w early under.begins in
     let came_is = same_delivered arts x fits through version weights s d path is (es ++ after) (js ++ more) v run under.ends in
     let it =
-    delivers arts x es js w after more v fits.fits through early run version weights s d path is under 0 0 calm one least enough n at q b (omega (arith, has, sent_is)) near
+    delivers arts x es js w after more v fits.fits through early run version weights s d path is under 0 0 calm one least enough n at q b
+    (omega (arith, has, sent_is)) near
     rounds in
     let ends = plain_claims arts x fits through version weights s d path is (es ++ after) (js ++ more) v run in
     let prefix = ends.prefix right.from in

@@ -109,12 +109,12 @@ served_sections arts x u v node bytes f on = f.sections ∙ ap Ok (served_conten
 
 -- ---- what becomes of it at the link of v
 
-data Answers (l : Link) (h : Head) (right : Bool) (mine : ℕ) : Type 0 where
+pub data Answers (l : Link) (h : Head) (right : Bool) (mine : ℕ) : Type 0 where
   Learn : (h.echo == mine) ≡ false → link_answer l h right ≡ answers.Learned (max l.peer_boot h.boot) → Answers l h right mine
   Late : (h.echo == mine) ≡ true → is_above (pair_of h) l.seen ≡ false → link_answer l h right ≡ answers.Stale l.seen.0 l.seen.1 → Answers l h right mine
   Take : (h.echo == mine) ≡ true → is_above (pair_of h) l.seen ≡ true → link_answer l h right ≡ answers.Fresh → Answers l h right mine
 
-answers_for : (l : Link) (h : Head) (right : Bool) (u v : NodeId) (mine : ℕ) → h.from ≡ u → h.to ≡ v → l.peer ≡ u → l.me ≡ v → l.boot ≡ mine → right ≡ true → Answers l h right mine
+pub answers_for : (l : Link) (h : Head) (right : Bool) (u v : NodeId) (mine : ℕ) → h.from ≡ u → h.to ≡ v → l.peer ≡ u → l.me ≡ v → l.boot ≡ mine → right ≡ true → Answers l h right mine
 answers_for l h right u v mine sender end peer me boot r =
     let from : (h.from.0 == l.peer.0) ≡ true = eq-eqb _ _ (ap (λ (n : NodeId). n.0) (sender ∙ sym peer)) in
     let to : (h.to.0 == l.me.0) ≡ true = eq-eqb _ _ (ap (λ (n : NodeId). n.0) (end ∙ sym me)) in

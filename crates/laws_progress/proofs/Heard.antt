@@ -100,7 +100,8 @@ since_step W Next Hop at on place bound least s d steady w x y e u v n f hop pos
                         let here_k : (on.told x u v k).here ≡ true = rw told here in
                         let mine_k : (on.told x u v k).mine ≡ true = rw told mine in
                         let behind = holds.frames k (omega (arith, is, pos)) made mine_k in
-                        let heeded : IsHeeded W at place bound d x y u v f = rw told at (hearing.2 here_k mine_k (fit W Next Hop at on place bound least s d steady x y e u v step (on.told x u v k) behind)) in
+                        let heeded : IsHeeded W at place bound d x y u v f = rw told at
+                        (hearing.2 here_k mine_k (fit W Next Hop at on place bound least s d steady x y e u v step (on.told x u v k) behind)) in
                         record {
                           base = heeded.base;
                           have = heeded.have;

@@ -9,7 +9,8 @@ use Rattle.std.specs.List.{list_any}
 use Rattle.laws_progress.proofs.Standing.{same_flow}
 use Rattle.laws_runs.specs.Past.{holds}
 use Rattle.sp_runs.specs.Lives.{ready}
-use Rattle.std.proofs.Common.{◌≡◌, ◌≤◌, ◌<◌, ◌⊎◌, ℕ, Bool, true, false, cond, max, List, [], ◌∷◌, ◌++◌, map, Option, Some, None, Ok, Result, option_map, refl, sym, ap, subst, ◌∙◌, inl, inr, arith, ◌==◌, not, ne_eqb, ltb-false}
+use Rattle.std.proofs.Common.{◌≡◌, ◌≤◌, ◌<◌, ◌⊎◌, ℕ, Bool, true, false, cond, max, List, [], ◌∷◌, ◌++◌, map, Option, Some, None, Ok, Result, option_map}
+use Rattle.std.proofs.Common.{refl, sym, ap, subst, ◌∙◌, inl, inr, arith, ◌==◌, not, ne_eqb, ltb-false}
 use Rattle.std.specs.Prelude.{nat_lt, ◌&&◌, ◌||◌}
 use Rattle.std.proofs.lemmas.Bool.{cases_eq, ltb-true, cases_lt, cases_Bool}
 use Rattle.sp_base.specs.declared.id.Flow.{Flow}
@@ -19,7 +20,8 @@ use Rattle.sp_frame.specs.Sections.{Contents}
 use Rattle.sp_frame.specs.Views.{as_list}
 use Rattle.sp_msg.specs.declared.kept.Kept.{Kept}
 use Rattle.sp_rules.specs.Arts.{Arts}
-use Rattle.sp_rules.specs.Arrivals.{arrival_at, heeded, link_after, parts_met, pieces_in, pieces_where, reply_at, sections_in, has_risen, before_document, document_at, document_in, document_where, not_taken, or_fresh, read_by}
+use Rattle.sp_rules.specs.Arrivals.{arrival_at, heeded, link_after, parts_met, pieces_in, pieces_where, reply_at, sections_in, has_risen, before_document}
+use Rattle.sp_rules.specs.Arrivals.{document_at, document_in, document_where, not_taken, or_fresh, read_by}
 use Rattle.sp_rules.specs.Handle.{handle_all}
 use Rattle.sp_rules.specs.Link.{Link, is_above, pair_of}
 use Rattle.sp_rules.specs.Node.{NodeState, link_in, is_link, is_shut_to}
@@ -303,12 +305,14 @@ module _ (arts : Arts) (x : Setting) (all : List Event) (era : Era) (flow : Flow
         ∙ ap (λ ls. in_life era v n && ((held_boot ls flow.src == era.sboot) && (held_boot ls flow.dst == era.dboot))) lives in
         ap (λ t. cond (t && has_met x era u m) (view_in (peer_in m.parts.rel.peers u).views flow) (no_view flow)) here
         ∙ ap (λ (l : Link). cond (in_era era flow v n && (not x.epochs || (l.peer_boot == era.life u))) (view_in (peer_in m.parts.rel.peers u).views flow) (no_view flow)) link_is_now
-        ∙ ap (λ ps. cond (in_era era flow v n && (not x.epochs || ((link_after arts n u bytes).peer_boot == era.life u))) (view_in (peer_in ps u).views flow) (no_view flow)) quiet.1
+        ∙ ap (λ ps. cond (in_era era flow v n && (not x.epochs || ((link_after arts n u bytes).peer_boot == era.life u)))
+        (view_in (peer_in ps u).views flow) (no_view flow)) quiet.1
         ∙ met_seen
 
     no_pieces_left : ((ps : List Piece) → pieces_where (reply_at arts n u bytes) ps ≡ []) → Quiet
     no_pieces_left never =
-        let none = ap (λ ps. (handle_all arts (arrival_at n u) (parts_met arts n u bytes) ps).parts) (never (pieces_in n.fixed (sections_in arts n.fixed bytes))) in
+        let none = ap (λ ps. (handle_all arts (arrival_at n u) (parts_met arts n u bytes) ps).parts)
+        (never (pieces_in n.fixed (sections_in arts n.fixed bytes))) in
         (left_known.lives ∙ ap (λ (p : Parts). p.lives) none, left_known.peers ∙ ap (λ (p : Parts). p.rel.peers) none)
 
     -- of another life, or of none that is known
@@ -364,7 +368,8 @@ module _ (arts : Arts) (x : Setting) (all : List Event) (era : Era) (flow : Flow
 
         parts_are : is_served it.from.node v ≡ true → reply_at arts n u bytes ≡ replies.Fresh
             → m.parts
-            ≡ (handle_all arts (arrival_at n u) (parts_met arts n u bytes) (pieces_of (heeded n.fixed (contents_to it.from.node.fixed it.from.node.parts v)))).parts
+            ≡ (handle_all arts (arrival_at n u) (parts_met arts n u bytes)
+            (pieces_of (heeded n.fixed (contents_to it.from.node.fixed it.from.node.parts v)))).parts
         parts_are served fresh =
             let sections = sections_are served in
             let document : document_at arts n u bytes ≡ None =

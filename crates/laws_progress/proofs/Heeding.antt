@@ -167,7 +167,8 @@ module _ (arts : Arts) (x : Setting) (all : List Event) (era : Era) (flow : Flow
         slot_parts (sizes_at x (Good arts x it.arrived.from.events it.arrived.from.journal) u) maker.signer.index maker.parts.rel v maker.fixed.topology.format maker.parts.lives flow t
         maker_is.holds.parts.rel maker_is.acks is m)
         (signed_in arts x w.at.events w.at.journal w.at.world (signs arts x w.at.events w.at.journal w.at.world fits reads.carries w.at.run) u v k it.bytes
-        (contents_to maker.fixed maker.parts v) n.fixed n.fixed.boot is_node.fixed it.arrived.there (served_sections arts x u v maker it.bytes it.arrived.framed handled.served)) are_dated mine (record {
+        (contents_to maker.fixed maker.parts v) n.fixed n.fixed.boot is_node.fixed it.arrived.there
+        (served_sections arts x u v maker it.bytes it.arrived.framed handled.served)) are_dated mine (record {
           window = fit.window;
           no_ack = λ z. let q = fit.no_ack z in omega (arith, q, fb);
           next_there = fit.next_there;
@@ -244,7 +245,8 @@ module _ (arts : Arts) (x : Setting) (all : List Event) (era : Era) (flow : Flow
       served : is_served met.it.arrived.from.node v ≡ true
       served = elim (cases_Bool (is_served met.it.arrived.from.node v)) [
         | inl on ↦ on
-        | inr off ↦ absurd (of_slot (contents_at met.it.arrived.from.node v).slot (unserved_slot met.it.arrived.from.node v off) (ap (λ (g : Told). g.mine) (sym told) ∙ mine))
+        | inr off ↦ absurd (of_slot (contents_at met.it.arrived.from.node v).slot (unserved_slot met.it.arrived.from.node v off)
+            (ap (λ (g : Told). g.mine) (sym told) ∙ mine))
       ]
 
       runs : RunsAt era mv.act.node

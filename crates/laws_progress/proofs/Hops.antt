@@ -144,7 +144,8 @@ pub record Steady (W : Type 0) (Next : W → Event → W → Type 0) (Hop : Node
   pub made_now : (w x : W) (e : Event) (u v : NodeId) → Hop u v → Next w e x → is_poll u v e ≡ true → IsServed W at place d w u v (on.told x u v (at.polled x u v))
   -- a node hears a neighbour by fresh frames alone and heeds them, and a frame that is passed is fresh, or one as late was
   pub hears : (w x : W) (e : Event) (u v : NodeId) → Hop u v → Next w e x → IsDeaf W at on w x u v ⊎ ((k : ℕ) × IsHearing W at on w x u v k
-      × ((on.told w u v k).here ≡ true → (on.told w u v k).mine ≡ true → IsFit W at bound s d w v (on.told w u v k) → IsHeeded W at place bound d w x u v (on.told w u v k)))
+      × ((on.told w u v k).here ≡ true → (on.told w u v k).mine ≡ true → IsFit W at bound s d w v (on.told w u v k)
+      → IsHeeded W at place bound d w x u v (on.told w u v k)))
   pub learns : (w x : W) (e : Event) (u v : NodeId) (k : ℕ) → Hop u v → Next w e x → is_pass u v k e ≡ true → (on.told w u v k).here ≡ true
       → at.knows x v u ≡ true
   pub comes : (w x : W) (e : Event) (u v : NodeId) (k : ℕ) → Hop u v → Next w e x → is_pass u v k e ≡ true → 0 < k → (on.told w u v k).echo ≡ true → k ≤ on.seen x v u

@@ -1,4 +1,4 @@
--- The version that a node keeps of a neighbour never falls while that one's known boot doesn't rise; and a frame of its life lets it keep the version of its head.
+-- The version that a node keeps of a neighbour never falls while that one's known boot doesn't rise.
 use Rattle.std.proofs.Common.{◌≡◌, ◌≤◌, ℕ, ◌==◌, Bool, true, false, cond, List, [], ◌∷◌, Option, Some, None, refl, sym, ap, subst, ◌∙◌}
 use Rattle.std.proofs.Common.{arith}
 use Rattle.std.proofs.lemmas.Bool.{eqb-true}
@@ -21,7 +21,8 @@ use Rattle.laws_progress.proofs.Versions.{read_known}
 -- ---- the row of a neighbour
 
 -- another version in the row of u
-put_heard : (rows : List Heard) (u v : NodeId) (version : ℕ) → (u ≡ v → version_in rows v ≤ version) → version_in rows v ≤ version_in (with_version rows u version) v
+put_heard : (rows : List Heard) (u v : NodeId) (version : ℕ) → (u ≡ v → version_in rows v ≤ version)
+    → version_in rows v ≤ version_in (with_version rows u version) v
 put_heard [] u v version low = omega arith
 put_heard (h ∷ rows) u v version low = go (put_heard rows u v version) (is_heard_of u h) refl (is_heard_of v h) refl (u.0 == v.0) refl
   where

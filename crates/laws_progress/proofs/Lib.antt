@@ -71,7 +71,13 @@ pub mod Watching
 pub mod UpStates
 pub mod UpFacts
 pub mod UpFrames
+pub mod Awaited
 pub mod UpTold
+-- ---- what they keep of the versions of their neighbours, and what their frames bring of their own
+pub mod KeptSteps
+pub mod VersionRuns
+pub mod VersionFrames
+pub mod VersionTold
 -- ---- the laws
 pub mod Positions
 pub mod RunStates
@@ -79,9 +85,13 @@ pub mod LifeDelivery
 pub mod Delivery
 pub mod StartsTold
 pub mod ToldPaths
+pub mod VersionsSpread
+pub mod SpreadPathsRun
+pub mod Rising
 pub mod Counts
 pub mod Worked
 pub mod WorkedPositions
 pub mod WorkedTelling
 pub mod WorkedLives
+pub mod WorkedSpreading
 pub mod Within

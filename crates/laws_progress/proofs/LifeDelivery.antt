@@ -165,7 +165,14 @@ module _ (arts : Arts) (x : Setting) (es : List Event) (js : List Entry) (w : Wo
   unfolding start
   up_first v on =
       let c = calm_at v on in
-      record { node = c.up.node; there = ap (λ (z : World). node_in z.nodes v) start.world ∙ c.up.runs; boot = life_at v c; held = c.held; version = least v c on; weights = λ same. (starts v on).weights_are c.up.node c.up.runs }
+      record {
+        node = c.up.node;
+        there = ap (λ (z : World). node_in z.nodes v) start.world ∙ c.up.runs;
+        boot = life_at v c;
+        held = c.held;
+        version = least v c on;
+        weights = λ same. (starts v on).weights_are c.up.node c.up.runs;
+      }
     where
       starts : (v : NodeId) → is_in path v ≡ true → RunsUnder version weights w v
       starts v on = of_path (RunsUnder version weights w) path under.begins v on
@@ -328,7 +335,8 @@ module _ (arts : Arts) (x : Setting) (es : List Event) (js : List Entry) (w : Wo
 -- ---- the laws
 
 pub delivery_is_counted_in_lives : CountedDeliveryInLives
-delivery_is_counted_in_lives arts x fits reads one es js w after more v run longer version weights s d path is under a b calm n at q k pos has near least enough rounds =
+delivery_is_counted_in_lives arts x fits reads one es js w after more v run longer version weights s d path is under a b calm n at q k pos has near least
+    enough rounds =
     found arts x es js w after more v fits reads run longer version weights s d path is under a b calm q pos has
     (delivers arts x es js w after more v fits reads run longer version weights s d path is under a b calm one least enough n at q k has near rounds)
 

@@ -9,7 +9,8 @@ use Rattle.laws_runs.proofs.Running.{found_there}
 use Rattle.laws_runs.specs.Past.{holds}
 use Rattle.std.proofs.lemmas.Option.{same_Some}
 use Rattle.laws_progress.proofs.Facts.{Sight}
-use Rattle.std.proofs.Common.{◌≡◌, ◌≤◌, ◌⊎◌, ℕ, suc, ◌+◌, ◌==◌, Bool, true, false, max, List, [], ◌∷◌, ◌++◌, length, map, Option, Some, None, option_map, refl, sym, ap, subst, ◌∙◌, inl, inr, arith, eq-eqb, not, cond}
+use Rattle.std.proofs.Common.{◌≡◌, ◌≤◌, ◌⊎◌, ℕ, suc, ◌+◌, ◌==◌, Bool, true, false, max, List, [], ◌∷◌, ◌++◌, length, map, Option, Some, None, option_map}
+use Rattle.std.proofs.Common.{refl, sym, ap, subst, ◌∙◌, inl, inr, arith, eq-eqb, not, cond}
 use Rattle.std.specs.Prelude.{option_and_then, slice_get, ◌&&◌, ◌||◌}
 use Rattle.std.specs.Option.{option_and_then}
 use Rattle.std.proofs.lemmas.Bool.{cases_Bool, eqb-true, ne_eqb}
@@ -66,14 +67,16 @@ two_true true true e = (refl, refl)
 two_true true false e = absurd (let f : false ≡ true = e in cc)
 two_true false b e = absurd (let f : false ≡ true = e in cc)
 
-made_by : (era : Era) (k : Sizes) (index format : ℕ) (flow : Flow) (nodes : List NodeId) (n : NodeState) (u v : NodeId) (served echo : Bool) → k.me ≡ u → k.nodes ≡ nodes
+made_by : (era : Era) (k : Sizes) (index format : ℕ) (flow : Flow) (nodes : List NodeId) (n : NodeState) (u v : NodeId) (served echo : Bool) → k.me ≡ u
+    → k.nodes ≡ nodes
     → RelHolds k index n.parts.rel → RelAck n.parts.rel
     → MadeBy era flow (place_in (pairs_of nodes) flow) n u v served echo
     (told_slot era flow echo (option_map (dated format n.parts.lives) (slot_for n.parts.rel v)))
 made_by era k index format flow nodes n u v served echo me same h acks = go (next_flow n.parts.rel v) refl
   where
     go : (o : Option Flow) → next_flow n.parts.rel v ≡ o
-        → MadeBy era flow (place_in (pairs_of nodes) flow) n u v served echo (told_slot era flow echo (option_map (dated format n.parts.lives) (option_map (slot_of n.parts.rel v) o)))
+        → MadeBy era flow (place_in (pairs_of nodes) flow) n u v served echo
+        (told_slot era flow echo (option_map (dated format n.parts.lives) (option_map (slot_of n.parts.rel v) o)))
     go None e = record {
       held = λ z. absurd (let f : false ≡ true = z in cc);
       mine = λ carried knows held turn.
@@ -135,7 +138,8 @@ pub frame_told : (arts : Arts) (x : Setting) (era : Era) (flow : Flow) (u v : No
     ≡ of_version (n.live.version == era.version) (told_slot era flow ((link_in n v).peer_boot == era.life v) (contents_at n v).slot)
 frame_told arts x era flow u v n bytes f life =
     let here : ((arts.head bytes).boot == era.life u) ≡ true = eq-eqb _ _ (f.head.boot_is ∙ life) in
-    rw here (ap (λ t. of_version (t == era.version) (told_slot era flow ((arts.head bytes).echo == era.life v) (slot_in (arts.sections x.signature_len bytes)))) f.topology
+    rw here (ap (λ t. of_version (t == era.version)
+    (told_slot era flow ((arts.head bytes).echo == era.life v) (slot_in (arts.sections x.signature_len bytes)))) f.topology
     ∙ ap (λ e. of_version (n.live.version == era.version) (told_slot era flow (e == era.life v) (slot_in (arts.sections x.signature_len bytes)))) f.echo
     ∙ ap (λ s. of_version (n.live.version == era.version) (told_slot era flow ((link_in n v).peer_boot == era.life v) (slot_in s))) f.sections)
 
@@ -157,7 +161,8 @@ none_made W at w u v = record {
 made_version : {W : Type 0} {at : Sight W} {w : W} {u v : NodeId} (now : Bool) (f : Told) → IsMade W at w u v f → IsMade W at w u v (of_version now f)
 made_version now f h = record { base = h.base; have = h.have; no_ack = h.no_ack; next_there = h.next_there; next_near = h.next_near }
 
-served_version : {W : Type 0} {at : Sight W} {place : ℕ} {d : NodeId} {w : W} {u v : NodeId} (now : Bool) (f : Told) → now ≡ true → IsServed W at place d w u v f
+served_version : {W : Type 0} {at : Sight W} {place : ℕ} {d : NodeId} {w : W} {u v : NodeId} (now : Bool) (f : Told) → now ≡ true
+    → IsServed W at place d w u v f
     → IsServed W at place d w u v (of_version now f)
 served_version now f is h = record { here = is; mine = h.mine; echo = h.echo; next_is = h.next_is }
 
@@ -259,7 +264,8 @@ module _ (arts : Arts) (x : Setting) (all : List Event) (era : Era) (flow : Flow
     | inr made ↦ elim (cases_Bool (made.0.fixed.boot == era.life u)) [
       | inl same ↦
           let is = ap (told_of arts x era flow u v) made.1.at ∙ frame_told arts x era flow u v made.0 (frame_to arts made.0 v) made.1.framed (eqb-true _ _ same) in
-          subst (IsMade (Watched arts x all era) (sight arts x all era flow) w u v) (sym is) (made_version (made.0.live.version == era.version) _ (of_node made.0 made.1 same))
+          subst (IsMade (Watched arts x all era) (sight arts x all era flow) w u v) (sym is)
+          (made_version (made.0.live.version == era.version) _ (of_node made.0 made.1 same))
       | inr other ↦
           let off : ((arts.head (frame_to arts made.0 v)).boot == era.life u) ≡ false = ap (λ b. b == era.life u) made.1.framed.head.boot_is ∙ other in
           let is = ap (told_of arts x era flow u v) made.1.at ∙ other_told arts x era flow u v (frame_to arts made.0 v) off in
@@ -276,7 +282,8 @@ module _ (arts : Arts) (x : Setting) (all : List Event) (era : Era) (flow : Flow
           let era_of : f.mine ≡ true → in_era era flow u b ≡ true = λ z. let on = hop.first in let held = made.held z in rw (on, same) held in
           let flow_of_it : f.mine ≡ true → flow_seen arts x all era flow w u ≡ flow_in b.parts.rel.flows flow =
           λ z. seen_flow arts x all era flow w u b p.there (era_of z) in
-          let echo_of : f.mine ≡ true → ((link_in b v).peer_boot == era.life v) ≡ true = mine_echo era flow ((link_in b v).peer_boot == era.life v) (contents_at b v).slot in
+          let echo_of : f.mine ≡ true → ((link_in b v).peer_boot == era.life v) ≡ true = mine_echo era flow ((link_in b v).peer_boot == era.life v)
+          (contents_at b v).slot in
           let view_of_it : f.mine ≡ true → view_seen arts x all era flow w u v ≡ view_in (peer_in b.parts.rel.peers v).views flow =
           λ z. seen_view arts x all era flow w u v b p.there (era_of z) (met_of b (echo_of z)) in
           record {
@@ -306,7 +313,8 @@ module _ (arts : Arts) (x : Setting) (all : List Event) (era : Era) (flow : Flow
         let p = subst (Polled arts x all era flow w y u v) same made.1 in
         let life = (life_is era u b (era_is era flow u b counts).0).1 in
         let is = ap (told_of arts x era flow u v) p.at ∙ frame_told arts x era flow u v b (frame_to arts b v) p.framed life in
-        subst (IsServed (Watched arts x all era) (sight arts x all era flow) (place_at x flow) flow.dst w u v) (sym is) (served_version (b.live.version == era.version) _ (eq-eqb _ _ version) (of_served b p))
+        subst (IsServed (Watched arts x all era) (sight arts x all era flow) (place_at x flow) flow.dst w u v) (sym is)
+        (served_version (b.live.version == era.version) _ (eq-eqb _ _ version) (of_served b p))
   ]
     where
       of_served : (b : NodeState) → Polled arts x all era flow w y u v b

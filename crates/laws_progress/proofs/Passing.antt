@@ -144,7 +144,8 @@ module _ (arts : Arts) (x : Setting) (all : List Event) (era : Era) (flow : Flow
         }) in
         subst (λ (q : NodeState). (arts.head bytes).topology ≤ version_of q u) (sym step.1) least
 
-    done_by : (j : ℕ) → k ≡ suc j → Arrived arts x w.at.events w.at.world u v mv.act.node bytes j → Came arts mv.act.node u bytes → PassDone ((arts.head bytes).topology == era.version) ((arts.head bytes).echo == era.life v)
+    done_by : (j : ℕ) → k ≡ suc j → Arrived arts x w.at.events w.at.world u v mv.act.node bytes j → Came arts mv.act.node u bytes
+        → PassDone ((arts.head bytes).topology == era.version) ((arts.head bytes).echo == era.life v)
     done_by j k_is it came = go came
       where
         n : NodeState
@@ -168,7 +169,8 @@ module _ (arts : Arts) (x : Setting) (all : List Event) (era : Era) (flow : Flow
         known_at : (link_in mv.act.after u).peer_boot ≡ era.life u → knows_life era v u mv.act.after ≡ true
         known_at is = let t : ((link_in mv.act.after u).peer_boot == era.life u) ≡ true = eq-eqb _ _ is in let z = second in rw (z, t) refl
 
-        heard_at : (link_in mv.act.after u).peer_boot ≡ era.life u → ((arts.head bytes).topology == era.version) ≡ true → has_heard x era.version u mv.act.after ≡ true
+        heard_at : (link_in mv.act.after u).peer_boot ≡ era.life u → ((arts.head bytes).topology == era.version) ≡ true
+            → has_heard x era.version u mv.act.after ≡ true
         heard_at is version =
             heard_least x era.version u mv.act.after
             (λ may.
@@ -231,13 +233,15 @@ module _ (arts : Arts) (x : Setting) (all : List Event) (era : Era) (flow : Flow
     done_at j k_is there =
         let a = mv.act in
         let before = frame_arrived arts x w.at.events w.at.journal w.at.world fits reads w.at.run u v hop.hop a.before a.there j bytes there in
-        let it = readied_keeps x w.at.world a.before a.node (λ q. Arrived arts x w.at.events w.at.world u v q bytes j) (λ upto h. extended_arrived arts x w.at.events w.at.world u v a.before upto bytes j h) a.readied before in
+        let it = readied_keeps x w.at.world a.before a.node (λ q. Arrived arts x w.at.events w.at.world u v q bytes j)
+        (λ upto h. extended_arrived arts x w.at.events w.at.world u v a.before upto bytes j h) a.readied before in
         done_by j k_is it it.came
 
     done : PassDone ((arts.head bytes).topology == era.version) ((arts.head bytes).echo == era.life v)
     done = go k refl frame
       where
-        go : (j : ℕ) → k ≡ j → frame_in w.at.world.directions u v j ≡ Some bytes → PassDone ((arts.head bytes).topology == era.version) ((arts.head bytes).echo == era.life v)
+        go : (j : ℕ) → k ≡ j → frame_in w.at.world.directions u v j ≡ Some bytes
+            → PassDone ((arts.head bytes).topology == era.version) ((arts.head bytes).echo == era.life v)
         go zero k_is at = absurd (let f : None ≡ Some bytes = at in cc)
         go (suc j) k_is at = done_at j k_is (in_place (slice_get (frames_in w.at.world.directions u v) j) bytes at)
 

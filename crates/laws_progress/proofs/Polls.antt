@@ -1,5 +1,6 @@
 -- Polls: how many, and which flow each serves.
-use Rattle.std.proofs.Common.{◌≡◌, ℕ, ◌+◌, true, false, cond, List, [], ◌∷◌, ◌++◌, Option, Some, None, refl, sym, inl, inr, ap, ◌∙◌, arith, ◌≤◌, Bool, ◌&&◌, ◌||◌, ◌==◌}
+use Rattle.std.proofs.Common.{◌≡◌, ℕ, ◌+◌, true, false, cond, List, [], ◌∷◌, ◌++◌, Option, Some, None, refl, sym, inl, inr, ap, ◌∙◌, arith, ◌≤◌, Bool, ◌&&◌}
+use Rattle.std.proofs.Common.{◌||◌, ◌==◌}
 use Rattle.std.specs.List.{position_or_len}
 use Rattle.sp_topology.specs.Neighbours.{joins}
 use Rattle.sp_topology.specs.declared.topology.Edge.{Edge}
@@ -94,7 +95,12 @@ both_ways x u v h = record { first = h.second; second = h.first; joined = hop_ba
 
 pub between_back : (x : Setting) (era : Era) (u v : NodeId) → IsBetween x era u v → IsBetween x era v u
 between_back x era u v h =
-    record { hop = both_ways x u v h.hop; first = h.second; second = h.first; open_edge = ap (is_shut era.weights) (same_place v.0 u.0 x.topology.edges) ∙ h.open_edge }
+    record {
+      hop = both_ways x u v h.hop;
+      first = h.second;
+      second = h.first;
+      open_edge = ap (is_shut era.weights) (same_place v.0 u.0 x.topology.edges) ∙ h.open_edge;
+    }
 
 -- ---- which flow
 

@@ -90,7 +90,15 @@ module _ (arts : Arts) (x : Setting) (es : List Event) (js : List Entry) (w : Wo
 
     -- every correct node is watched in its only life
     abbrev era : Era
-    era = record { on = is_correct x; life = λ u. 1; version = x.topology.version; weights = weights_in x.topology.edges; sboot = 0; dboot = 0; early = λ u v. polls es u v - seen_at 0 (λ q. (link_in q v).sent) (node_in w.nodes u) }
+    era = record {
+      on = is_correct x;
+      life = λ u. 1;
+      version = x.topology.version;
+      weights = weights_in x.topology.edges;
+      sboot = 0;
+      dboot = 0;
+      early = λ u v. polls es u v - seen_at 0 (λ q. (link_in q v).sent) (node_in w.nodes u);
+    }
 
     right : IsRight x (record { src = s; dst = d })
     right = record { from = from; to = to; different = different }
@@ -125,7 +133,8 @@ module _ (arts : Arts) (x : Setting) (es : List Event) (js : List Entry) (w : Wo
 
     joined : (u v : NodeId) → is_correct x u ≡ true → is_correct x v ≡ true → (n : NodeState) → node_in w.nodes u ≡ Some n → is_one_of (removed_now n) v ≡ false
     joined u v on v_on n at =
-        ap (λ gone. is_one_of gone v) (gone_at arts x fits.fits (Good arts x es js) u n ((signs arts x es js w fits.fits through.carries run).nodes u n at) (first_at u n at))
+        ap (λ gone. is_one_of gone v)
+        (gone_at arts x fits.fits (Good arts x es js) u n ((signs arts x es js w fits.fits through.carries run).nodes u n at) (first_at u n at))
 
     early_is : (u v : NodeId) → is_correct x u ≡ true → (n : NodeState) → node_in w.nodes u ≡ Some n
         → polls es u v - seen_at 0 (λ (q : NodeState). (link_in q v).sent) (node_in w.nodes u) ≡ polls es u v - (link_in n v).sent
@@ -150,7 +159,8 @@ module _ (arts : Arts) (x : Setting) (es : List Event) (js : List Entry) (w : Wo
         let flow : Flow = record { src = s; dst = d } in
         let u_on = correct_at u n at in
         let v_on = correct_at v m there in
-        let back : IsBetween x era v u = record { hop = both_ways x u v (record { first = u_on; second = v_on; joined = joined }); first = v_on; second = u_on; open_edge = first_open x fits.fits v u (both_ways x u v (record { first = u_on; second = v_on; joined = joined })).joined } in
+        let back : IsBetween x era v u = record
+        { hop = both_ways x u v (record { first = u_on; second = v_on; joined = joined }); first = v_on; second = u_on; open_edge = first_open x fits.fits v u (both_ways x u v (record { first = u_on; second = v_on; joined = joined })).joined } in
         let h = always arts x es era flow fits.fits through is_era watched v u back in
         let world = ap (λ (z : State arts x es). z.world) watched_at in
         let at_u : node_in watched.at.world.nodes u ≡ Some n = ap (λ (z : World). node_in z.nodes u) world ∙ at in

@@ -27,7 +27,9 @@ use Rattle.sp_rules.specs.Lives.{are_held, boot_said, held_boot, is_dated, judge
 use Rattle.sp_rules.specs.Node.{NodeState, call_refusal, kept_or, link_in, signed_now, called, with_link}
 use Rattle.sp_rules.specs.Parts.{Parts, is_signed}
 use Rattle.sp_rules.specs.Pieces.{Piece, AckPiece, PrioAckPiece, PrioPiece, RelPiece, ReportPiece, WeightPiece, EpochPiece}
-use Rattle.sp_rules.specs.Rel.{RelPeer, RelState, View, is_end, is_over, is_peer, is_view, no_view, restarted, view_in, view_less, viewed, views_less, admit_ack, admit_rel, judge_ack_of, judge_rel_of, pushed_in, due_place, flow_in, flow_to_me, is_to, next_place, put_flow, reported, served, served_at, settled, settled_at, told, took, with_flow, with_peer, peer_in}
+use Rattle.sp_rules.specs.Rel.{RelPeer, RelState, View, is_end, is_over, is_peer, is_view, no_view, restarted, view_in, view_less, viewed, views_less}
+use Rattle.sp_rules.specs.Rel.{admit_ack, admit_rel, judge_ack_of, judge_rel_of, pushed_in, due_place, flow_in, flow_to_me, is_to, next_place, put_flow}
+use Rattle.sp_rules.specs.Rel.{reported, served, served_at, settled, settled_at, told, took, with_flow, with_peer, peer_in}
 use Rattle.sp_rules.specs.Sends.{rel_body, rel_refusal, send_prio_refusal, signer_refusal, weight_refusal}
 use Rattle.sp_rules.specs.Steps.{Input, NodeStep, Output, Poll, Datagram, Tick, SendRel, SendPrio, SetWeight, TakeRel, TakePrio, Publish}
 use Rattle.sp_rules.specs.Ticks.{at_time, due_now, settled_by}

@@ -119,7 +119,7 @@ or_true : (a : Bool) → (a || true) ≡ true
 or_true true = refl
 or_true false = refl
 
-neighbour_there : (u v : NodeId) (place : ℕ) (edges : List Edge) → list_any (joins u.0 v.0) edges ≡ true → list_any (is_id v) (map (λ n. n.0) (neighbours_from u.0 place edges)) ≡ true
+pub neighbour_there : (u v : NodeId) (place : ℕ) (edges : List Edge) → list_any (joins u.0 v.0) edges ≡ true → list_any (is_id v) (map (λ n. n.0) (neighbours_from u.0 place edges)) ≡ true
 neighbour_there u v place [] some = absurd (let e : false ≡ true = some in cc)
 neighbour_there u v place (e ∷ edges) some = elim (cases_Bool (joins u.0 v.0 e)) [
   | inl t ↦
@@ -135,7 +135,7 @@ neighbour_there u v place (e ∷ edges) some = elim (cases_Bool (joins u.0 v.0 e
     later None rest = rest
     later (Some w) rest = rw rest (or_true (w.0 == v.0))
 
-keyed : {X : Type 0} (key : X → NodeId) (v : NodeId) (xs : List X) → list_any (is_id v) (map key xs) ≡ true → list_any (λ x. (key x).0 == v.0) xs ≡ true
+pub keyed : {X : Type 0} (key : X → NodeId) (v : NodeId) (xs : List X) → list_any (is_id v) (map key xs) ≡ true → list_any (λ x. (key x).0 == v.0) xs ≡ true
 keyed key v [] some = absurd (let e : false ≡ true = some in cc)
 keyed key v (x ∷ xs) some = elim (cases_Bool (eqb (key x).0 v.0)) [
   | inl t ↦ rw t refl

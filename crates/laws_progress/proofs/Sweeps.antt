@@ -181,7 +181,8 @@ module _ (t : Turning) where
   ]
 
   -- a frame that serves the place, where its distance is at most the number of frames
-  served_soon : (u v : NodeId) → t.Hop u v → (es : List Event) (w y : t.State) → Path w es y → are_passed u v (t.polled w u v) es ≡ true → t.Holds w u → t.Serves w u v
+  served_soon : (u v : NodeId) → t.Hop u v → (es : List Event) (w y : t.State) → Path w es y → are_passed u v (t.polled w u v) es ≡ true → t.Holds w u
+      → t.Serves w u v
       → 1 ≤ polls es u v → distance t.among (t.last w u v) t.place ≤ polls es u v → Served u v w y
   unfolding heard_here later_heard
   served_soon u v hop [] w y g passes holds serves one near = absurd (omega (arith, one))

@@ -178,7 +178,8 @@ module _ (arts : Arts) (x : Setting) (all : List Event) (era : Era) (flow : Flow
         ≡ view_in (peer_in (parts_met arts a.node u it.bytes).rel.peers u).views flow = rw (first, held, met) refl in
         sym is ∙ seen
 
-    pub after_view : HandledAt arts u v a.node a.after it.arrived.from.node it.bytes → view_at x era flow v u a.after ≡ view_in (peer_in rel_after.peers u).views flow
+    pub after_view : HandledAt arts u v a.node a.after it.arrived.from.node it.bytes → view_at x era flow v u a.after
+        ≡ view_in (peer_in rel_after.peers u).views flow
     after_view handled =
         let now = stay.0 in
         let met : has_met x era u a.after ≡ true = ap (λ (l : Link). not x.epochs || (l.peer_boot == era.life u)) it.link ∙ met_life in

@@ -1,9 +1,6 @@
 -- What is seen of the nodes that stay up in an interval: the boots that they hold, the rows of what they hold of starts, and the cycles of their neighbours.
 use Rattle.laws_progress.proofs.Becomes.{readied_keeps}
-use Rattle.laws_progress.proofs.Versions.{has_heard, served_there}
-use Rattle.sp_rules.specs.Topologies.{is_shut}
-use Rattle.sp_topology.specs.Neighbours.{joins}
-use Rattle.std.specs.List.{position_or_len}
+use Rattle.laws_progress.proofs.Versions.{has_heard}
 use Rattle.std.specs.Prelude.{◌&&◌}
 use Rattle.std.proofs.Common.{◌≡◌, ◌<◌, ◌≤◌, ℕ, ◌==◌, true, false, List, [], ◌∷◌, length, map, Option, Some, None, refl, sym, ap, subst, ◌∙◌, Bool, cond}
 use Rattle.std.proofs.Common.{inl, inr, arith}
@@ -55,17 +52,27 @@ read none what w u = seen_at none what (node_in w.nodes u)
 abbrev pub last_of : Setting → NodeId → NodeState → Option ℕ
 last_of x v n = last_to n.parts.origins (place x v)
 
+abbrev pub sees : (c : Interval) → Sees (UpState c)
+sees c = record {
+  held = λ w u o. read 0 (λ n. held_boot n.parts.lives o) w.state.world u;
+  knows = λ w u v. read false (λ n. (link_in n v).peer_boot == last_boot c.x w.state.world v) w.state.world u;
+  polled = λ w u v. polls w.state.events u v;
+  rows = λ w u. read [] (λ n. rows_held n.parts.lives) w.state.world u;
+  last = λ w u v. read None (last_of c.x v) w.state.world u;
+}
+
 -- it knows the boot of a neighbour, and heard of the version
 abbrev pub knows_both : Setting → (version boot : ℕ) → NodeId → NodeState → Bool
 knows_both x version boot v n = ((link_in n v).peer_boot == boot) && has_heard x version v n
 
-abbrev pub sees : (c : Interval) → Sees (UpState c)
-sees c = record {
-  held = λ w u o. read 0 (λ n. held_boot n.parts.lives o) w.state.world u;
-  knows = λ w u v. read false (knows_both c.x c.version (last_boot c.x w.state.world v) v) w.state.world u;
-  polled = λ w u v. polls w.state.events u v;
-  rows = λ w u. read [] (λ n. rows_held n.parts.lives) w.state.world u;
-  last = λ w u v. read None (last_of c.x v) w.state.world u;
+-- where they run under one version, what a node knows of a neighbour is both
+abbrev pub sees_under : (c : Interval) → ℕ → Sees (UpState c)
+sees_under c version = record {
+  held = (sees c).held;
+  knows = λ w u v. read false (knows_both c.x version (last_boot c.x w.state.world v) v) w.state.world u;
+  polled = (sees c).polled;
+  rows = (sees c).rows;
+  last = (sees c).last;
 }
 
 -- a correct node is one of the topology
@@ -136,11 +143,12 @@ module _ (c : Interval) where
   next_of w u v p n there carried =
       subst (λ (z : Option NodeState). next_after (seen_at None (last_of x v) z) (seen_at [] (λ m. rows_held m.parts.lives) z) ≡ Some p) there carried
 
-  pub carries : (w y : W) (e : Event) (u v : NodeId) (p : ℕ) → c.Up u → c.Up v → is_hop x u v ≡ true
-      → is_shut c.weights (position_or_len (joins u.0 v.0) x.topology.edges) ≡ false → UpNext c w e y
-      → is_poll u v e ≡ true → at.knows w u v ≡ true → IsCarried W at p w u v
+  -- where the frame carries what is in turn, the row in turn went last
+  pub carries : (w y : W) (e : Event) (u v : NodeId) (p : ℕ) → c.Up u → c.Up v
+      → ((n : NodeState) → node_in w.state.world.nodes u ≡ Some n → is_served n v ≡ true) → UpNext c w e y
+      → is_poll u v e ≡ true → IsCarried W at p w u v
       → at.last y u v ≡ Some p
-  carries w y e u v p up near hop open_edge next is knows carried =
+  carries w y e u v p up near serves next is carried =
       let t = took c w y e next u up in
       elim t.how [
         | inl still ↦ absurd (let wrong : true ≡ false = sym is ∙ idle_poll w.state.world e u v still.1 in cc)
@@ -164,10 +172,7 @@ module _ (c : Interval) where
             (moved_here t.node.parts.lives t.node.parts.origins (place x v) p (omega (arith, many, low)) row_now) in
             let done = called t.node (with_link t.node v (advanced (link_in t.node v))) (parts_after t.node v) in
             let served : is_served t.node v ≡ true =
-            readied_keeps x w.state.world t.before t.node (λ m. is_served m v ≡ true) (λ upto on. on) t.readied
-            (served_there x c.version c.weights u v hop open_edge t.before (is_node_of w u t.before t.there).fixed (w.under u up t.before t.there)
-            (both ((link_in t.before v).peer_boot == last_boot x w.state.world v) (has_heard x c.version v t.before)
-            (sym (ap (seen_at false (knows_both x c.version (last_boot x w.state.world v) v)) t.there) ∙ knows)).1) in
+            readied_keeps x w.state.world t.before t.node (λ m. is_served m v ≡ true) (λ upto on. on) t.readied (serves t.before t.there) in
             ap (seen_at None (last_of x v)) t.left ∙ ap (last_of x v) step.1
             ∙ ap (λ (r : Option NodeRefused). last_of x v (kept_or r t.node done)) free
             ∙ ap (λ (b : Bool). last_to (cond b (polled t.node.fixed t.node.parts v) t.node.parts).origins (place x v)) served

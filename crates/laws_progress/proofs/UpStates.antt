@@ -61,7 +61,11 @@ runs_through arts x all fits carries (e ∷ es) w y (Steps {x = m} step g) u qui
 
 -- ---- the states of an interval
 
--- a run with epochs, of these events, and correct nodes that stay up in an interval of it, under one version
+-- what holds of a node that runs on, if it holds before and after
+abbrev pub Between : (NodeState → Type 0) → Type 0
+Between Holds = (n m q : NodeState) → Holds n → adopting.Follows n m → adopting.Follows m q → Holds q → Holds m
+
+-- a run of these events, and correct nodes that stay up in an interval of it, of each of which something holds meanwhile
 pub record Interval : Type 1 where
   pub arts : Arts
   pub x : Setting
@@ -69,16 +73,15 @@ pub record Interval : Type 1 where
   pub Up : NodeId → Type 0
   pub fits : SettingFits arts x
   pub reads : ComesThrough x.topology.format arts x.signature_len
-  pub epochs : x.epochs ≡ true
-  pub version : ℕ
-  pub weights : List ℕ
+  pub Holds : NodeState → Type 0
+  pub between : Between Holds
   pub correct : (u : NodeId) → Up u → IsTrue (is_correct x u)
 
--- a state in which each of these nodes runs, under the version
+-- a state in which each of these nodes runs, and that holds of it
 pub record UpState (c : Interval) : Type 0 where
   pub state : State c.arts c.x c.all
   pub runs : (u : NodeId) → c.Up u → (n : NodeState) × (node_in state.world.nodes u ≡ Some n)
-  pub under : (u : NodeId) → c.Up u → (n : NodeState) → node_in state.world.nodes u ≡ Some n → Under c.version c.weights n
+  pub holds : (u : NodeId) → c.Up u → (n : NodeState) → node_in state.world.nodes u ≡ Some n → c.Holds n
 
 -- one event leads from one to the next, which starts and stops none of them
 pub record UpNext (c : Interval) (w : UpState c) (e : Event) (y : UpState c) : Type 0 where
@@ -92,19 +95,10 @@ pub record UpTo (c : Interval) (w : UpState c) (es : List Event) (y : State c.ar
   pub is : last.state ≡ y
   pub goes : Goes (UpState c) (UpNext c) w es last
 
--- between two states under the version each is
-between : (c : Interval) (n m q : NodeState) → Under c.version c.weights n → adopting.Follows n m → adopting.Follows m q → q.live.version ≡ c.version
-    → Under c.version c.weights m
-between c n m q first one two last =
-    let a = one.version in
-    let b = two.version in
-    let was = first.0 in
-    (omega (arith, a, b, was, last), one.live (omega (arith, a, b, was, last)) ∙ first.1)
-
 pub up_to : (c : Interval) (es : List Event) (w : UpState c) (y : State c.arts c.x c.all)
     → Goes (State c.arts c.x c.all) (Follows c.arts c.x c.all) w.state es y
     → ((u : NodeId) → c.Up u → list_any (is_life_of u) es ≡ false)
-    → ((u : NodeId) → c.Up u → (n : NodeState) → node_in y.world.nodes u ≡ Some n → n.live.version ≡ c.version) → UpTo c w es y
+    → ((u : NodeId) → c.Up u → (n : NodeState) → node_in y.world.nodes u ≡ Some n → c.Holds n) → UpTo c w es y
 up_to c [] w y Stays calm last = record { last = w; is = refl; goes = Stays }
 up_to c (e ∷ es) w y (Steps {x = m} step g) calm last =
     let off = λ (u : NodeId) (up : c.Up u). off_first (is_life_of u e) (list_any (is_life_of u) es) (calm u up) in
@@ -112,11 +106,11 @@ up_to c (e ∷ es) w y (Steps {x = m} step g) calm last =
     let mid : UpState c = record {
       state = m;
       runs = λ u up. ((on u up).node, (on u up).there);
-      under = λ u up n at.
+      holds = λ u up n at.
           let one = on u up in
           let two = runs_through c.arts c.x c.all c.fits c.reads.carries es m y g u (off u up).1 one.node one.there in
-          subst (Under c.version c.weights) (same_Some one.node n (sym one.there ∙ at))
-          (between c (w.runs u up).0 one.node two.node (w.under u up (w.runs u up).0 (w.runs u up).1) one.later two.later (last u up two.node two.there));
+          subst c.Holds (same_Some one.node n (sym one.there ∙ at))
+          (c.between (w.runs u up).0 one.node two.node (w.holds u up (w.runs u up).0 (w.runs u up).1) one.later two.later (last u up two.node two.there));
     } in
     let rest = up_to c es mid y g (λ u up. (off u up).1) last in
     let next : UpNext c w e mid = record { follows = step; calm = λ u up. (off u up).0 } in
@@ -132,7 +126,6 @@ pub record StepOf (arts : Arts) (x : Setting) (w : World) (e : Event) (u : NodeI
   pub output : Output
   pub step : NodeStep arts n input output m
   -- under the version that it ran under
-  pub keeps : m.live.version ≡ n.live.version
   pub entry : Entry
   pub journal : Says x (next_frame (ready x w e) e) output entry
   pub unforged : has_forged_tag arts x (ready x w e) n input ≡ false
@@ -167,8 +160,6 @@ took c w y e next u up = go next.follows
         reaches = q.reaches;
         output = q.output;
         step = q.step;
-        keeps = ap (λ (n : NodeState). n.live.version) (sym is) ∙ (y.under u up m at).0
-            ∙ sym (readied_keeps c.x w.state.world b q.node (λ n. n.live.version ≡ c.version) (λ upto h. h) readied (w.under u up b there).0);
         entry = j;
         journal = q.journal;
         unforged = unforged;
@@ -181,3 +172,28 @@ took c w y e next u up = go next.follows
     go (Follow j events journal range turn unforged) =
         let m = y.runs u up in
         of j m.0 m.1 (becomes c.arts c.x w.state.events w.state.journal w.state.world e j y.state.world c.fits c.reads.carries w.state.run range turn unforged u m.0 m.1)
+
+-- ---- where nodes run with epochs, and these under one version
+
+pub record IsTelling (c : Interval) : Type 0 where
+  pub epochs : c.x.epochs ≡ true
+  pub version : ℕ
+  pub weights : List ℕ
+  pub under : (n : NodeState) → c.Holds n → Under version weights n
+
+-- between two states under the version each is
+pub stays_under : (version : ℕ) (weights : List ℕ) → Between (Under version weights)
+stays_under version weights n m q first one two last =
+    let a = one.version in
+    let b = two.version in
+    let was = first.0 in
+    let is = last.0 in
+    (omega (arith, a, b, was, is), one.live (omega (arith, a, b, was, is)) ∙ first.1)
+
+-- a step is made under the version that its node ran under
+pub keeps_at : (c : Interval) → IsTelling c → (w y : UpState c) (e : Event) (u : NodeId) → c.Up u
+    → (t : Took c.arts c.x w.state.world y.state.world e u) → t.after.live.version ≡ t.node.live.version
+keeps_at c telling w y e u up t =
+    (telling.under t.after (y.holds u up t.after t.left)).0
+    ∙ sym (readied_keeps c.x w.state.world t.before t.node (λ n. n.live.version ≡ telling.version) (λ upto h. h) t.readied
+    (telling.under t.before (w.holds u up t.before t.there)).0)

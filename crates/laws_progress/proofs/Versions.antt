@@ -68,13 +68,15 @@ datagram_same arts n v bytes new is same = is ∙ go (call_refusal n v) (ap (λ 
     go None e = read_same arts left (document_at arts n v bytes) e
 
 -- a flow without a removed end goes on as it was
-pub closed_flow : (gone : List NodeId) (flow : Flow) (fs : List FlowState) → is_over gone flow ≡ false → flow_in (map (ended_where gone) fs) flow ≡ flow_in fs flow
+pub closed_flow : (gone : List NodeId) (flow : Flow) (fs : List FlowState) → is_over gone flow ≡ false → flow_in (map (ended_where gone) fs) flow
+    ≡ flow_in fs flow
 closed_flow gone flow [] on = refl
 closed_flow gone flow (f ∷ fs) on = elim (cases_Bool (is_flow flow f)) [
   | inl t ↦
       let parts = both (f.src.0 == flow.src.0) (f.dst.0 == flow.dst.0) t in
       let over : is_over gone (ends f) ≡ false =
-      ap₂ (λ (a b : NodeId). is_one_of gone a || is_one_of gone b) (same_node f.src flow.src (eqb-true _ _ parts.0)) (same_node f.dst flow.dst (eqb-true _ _ parts.1))
+      ap₂ (λ (a b : NodeId). is_one_of gone a || is_one_of gone b) (same_node f.src flow.src (eqb-true _ _ parts.0))
+      (same_node f.dst flow.dst (eqb-true _ _ parts.1))
       ∙ on in
       let same : ended_where gone f ≡ f = ap (λ (z : Bool). cond (f.active && z) (ended f) f) over ∙ either f.active in
       ap (λ (g : FlowState). flow_in (g ∷ map (ended_where gone) fs) flow) same ∙ rw t refl
@@ -172,17 +174,20 @@ has_heard x version v n = not (may_change x) || nat_le version (version_of n v)
 
 -- so it withdraws no edge that is open in the version, and serves whom it knows
 pub edge_at : (x : Setting) (version : ℕ) (weights : List ℕ) (u v : NodeId) → is_hop x u v ≡ true
-    → is_shut weights (position_or_len (joins u.0 v.0) x.topology.edges) ≡ false → (n : NodeState) → n.fixed ≡ fixed_at x u n.fixed.boot → Under version weights n
+    → is_shut weights (position_or_len (joins u.0 v.0) x.topology.edges) ≡ false → (n : NodeState) → n.fixed ≡ fixed_at x u n.fixed.boot
+    → Under version weights n
     → is_shut_to n v ≡ false
 edge_at x version weights u v joined open_edge n fixed runs =
     ap (λ (f : Fixed). is_shut_at n (position (joins f.me.0 v.0) f.topology.edges)) fixed
     ∙ open_at n (joins u.0 v.0) x.topology.edges joined (ap (λ ws. is_shut ws (position_or_len (joins u.0 v.0) x.topology.edges)) runs.1 ∙ open_edge)
 
 pub served_there : (x : Setting) (version : ℕ) (weights : List ℕ) (u v : NodeId) → is_hop x u v ≡ true
-    → is_shut weights (position_or_len (joins u.0 v.0) x.topology.edges) ≡ false → (n : NodeState) → n.fixed ≡ fixed_at x u n.fixed.boot → Under version weights n
+    → is_shut weights (position_or_len (joins u.0 v.0) x.topology.edges) ≡ false → (n : NodeState) → n.fixed ≡ fixed_at x u n.fixed.boot
+    → Under version weights n
     → has_heard x version v n ≡ true → is_served n v ≡ true
 served_there x version weights u v joined open_edge n fixed runs heard =
-    served_where n v (λ on. go (may_change x) (sym (ap (λ (f : Fixed). changes f) fixed) ∙ on) heard) (edge_at x version weights u v joined open_edge n fixed runs)
+    served_where n v (λ on. go (may_change x) (sym (ap (λ (f : Fixed). changes f) fixed) ∙ on) heard)
+    (edge_at x version weights u v joined open_edge n fixed runs)
   where
     go : (t : Bool) → t ≡ true → (not t || nat_le version (version_of n v)) ≡ true → n.live.version ≤ version_of n v
     go true on some = let same = runs.0 in let least : version ≤ version_of n v = grind (arith, nat_tests, some) in omega (arith, same, least)

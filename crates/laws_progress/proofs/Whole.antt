@@ -43,7 +43,8 @@ steady arts x all era flow fits reads is_era one least enough = record {
   made_now = λ w y e u v hop c poll.
       let p = c.before u hop.first in
       serves_now arts x all era flow fits reads w y e u v hop c.leads poll p.node p.there p.counts p.runs.0
-      (λ heard. served_there x era.version era.weights u v hop.hop.joined hop.open_edge p.node ((signs arts x w.at.events w.at.journal w.at.world fits reads.carries w.at.run).nodes u p.node p.there).fixed p.runs heard);
+      (λ heard. served_there x era.version era.weights u v hop.hop.joined hop.open_edge p.node
+      ((signs arts x w.at.events w.at.journal w.at.world fits reads.carries w.at.run).nodes u p.node p.there).fixed p.runs heard);
   hears = λ w y e u v hop c. heeding.hears arts x all era flow fits reads is_era w y e c u v hop;
   learns = λ w y e u v k hop c pass here. passing.learns arts x all era flow fits reads is_era w y e c u v hop k pass here;
   comes = λ w y e u v k hop c pass pos on. passing.comes arts x all era flow fits reads is_era w y e c u v hop k pass on;

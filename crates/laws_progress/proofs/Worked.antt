@@ -12,7 +12,8 @@ use Rattle.sp_runs.specs.Rounds.{CompleteRounds, IsCompleteRound, IsHopServed, I
 use Rattle.sp_runs.specs.Runs.{is_hop, polls}
 use Rattle.sp_runs.specs.Settings.{Setting, is_correct}
 use Rattle.sp_schedule_events.specs.declared.event.Event.{Event}
-use Rattle.laws_progress.specs.Worked.{FirstMessage, RoundsAreCounted, first_rounds, four_rounds, frames, later_rounds, line, line_path, line_round, line_weights, node}
+use Rattle.laws_progress.specs.Worked.{FirstMessage, RoundsAreCounted, first_rounds, four_rounds, frames, later_rounds, line, line_path, line_round}
+use Rattle.laws_progress.specs.Worked.{line_weights, node}
 use Rattle.laws_progress.specs.Worked.{send, square, square_path, square_round, square_weights, take_it, tick}
 use Rattle.laws_progress.specs.Within.{IsOpenHop, IsPathUnder}
 
@@ -127,7 +128,8 @@ first_message = record {
   there = first_are;
   is_delivered = λ arts js more w v n promise early run under at has.
       let it =
-      promise send js w first_rounds more v early run 1 line_weights (node 1) (node 3) line_path line_under under n at 1 1 (omega arith) has (omega arith) 1 (omega arith)
+      promise send js w first_rounds more v early run 1 line_weights (node 1) (node 3) line_path line_under under n at 1 1 (omega arith) has (omega arith) 1
+      (omega arith)
       first_are in
       (it.payload, it.sent.there, it.delivered.there);
   back = later_are;
@@ -192,7 +194,8 @@ rounds_are_counted = record {
     rounds = four_are;
     is_delivered = λ arts js more w v n promise early run under at has.
         let it =
-        promise send js w four_rounds more v early run 1 square_weights (node 1) (node 3) square_path (square_under square_weights refl refl) under n at 1 1 (omega arith) has (omega arith) 7
+        promise send js w four_rounds more v early run 1 square_weights (node 1) (node 3) square_path (square_under square_weights refl refl) under n at 1 1
+        (omega arith) has (omega arith) 7
         (omega arith) four_are in
         (it.payload, it.sent.there, it.delivered.there);
     events = refl;

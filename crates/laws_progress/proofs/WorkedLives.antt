@@ -49,7 +49,7 @@ runs_one u at = record {
   weights_are = λ n is. ap (λ (m : NodeState). m.live.weights) (same_Some n (holding u 1 1) (sym is ∙ at));
 }
 
-all_run : All (RunsUnder 1 line_weights told) line_path
+pub all_run : All (RunsUnder 1 line_weights told) line_path
 all_run =
     let Runs = RunsUnder 1 line_weights told in
     All-cons Runs (node 1) (node 2 ∷ node 3 ∷ []) (runs_one 1 refl)

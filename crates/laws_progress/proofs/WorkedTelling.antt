@@ -102,7 +102,7 @@ round_is before k one two three four =
     )
     (All-nil (Serves before (telling_round k))))
 
-rounds_are : TellingRounds 3 line_path 3 starts three_rounds
+pub rounds_are : TellingRounds 3 line_path 3 starts three_rounds
 rounds_are =
     Round [] (telling_round 0) (round_is (starts ++ []) 0 refl refl refl refl)
     (Round [] (telling_round 1) (round_is _ 1 refl refl refl refl)
@@ -112,7 +112,7 @@ rounds_are =
 abbrev place : ℕ → NodeId
 place i = get_or line_path i nobody
 
-row_path : IsPathUnder row line_weights (node 1) (node 3) line_path
+pub row_path : IsPathUnder row line_weights (node 1) (node 3) line_path
 row_path = three_under row line_weights 1 2 3
     (three_path row 1 2 3 (λ e. omega (arith, e)) (λ e. omega (arith, e)) (λ e. omega (arith, e)) refl refl refl refl refl) refl refl
 

@@ -7,5 +7,8 @@ pub mod WorkedPositions
 pub mod Calm
 pub mod Telling
 pub mod LifeDelivery
+pub mod Spreading
+pub mod Rising
 pub mod WorkedTelling
 pub mod WorkedLives
+pub mod WorkedSpreading

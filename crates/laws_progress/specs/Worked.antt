@@ -75,7 +75,8 @@ tick = events.Tick (node 3) 5 ∷ []
 -- these events, with its payload.
 abbrev pub IsDeliveredBy : Setting → (weights : List ℕ) → (path : List NodeId) → List Event → Type 0
 IsDeliveredBy x weights path after = (arts : Arts) (js more : List Entry) (w v : World) (n : NodeState)
-    → DeliversInRounds arts x → Clean arts x send js w → Clean arts x (send ++ after) (js ++ more) v → StaysUnder 1 weights path w v → node_in w.nodes (node 1) ≡ Some n
+    → DeliversInRounds arts x → Clean arts x send js w → Clean arts x (send ++ after) (js ++ more) v → StaysUnder 1 weights path w v
+    → node_in w.nodes (node 1) ≡ Some n
     → 1 ≤ length (sent send js (node 1) (node 3))
     → (payload : List ℕ) × (slice_get (sent send js (node 1) (node 3)) 0 ≡ Some (1, payload))
     × (slice_get (delivered (send ++ after) (js ++ more) (node 1) (node 3)) 0 ≡ Some (1, payload))
@@ -83,7 +84,8 @@ IsDeliveredBy x weights path after = (arts : Arts) (js more : List Entry) (w v :
 -- where 3 acknowledged it before, that is back at 1 by the end of these events, and 1 has room for messages 2 and 3
 abbrev pub HasReturnedBy : Setting → (weights : List ℕ) → (path : List NodeId) → (before after : List Event) → Type 0
 HasReturnedBy x weights path before after = (arts : Arts) (js more : List Entry) (w v : World) (n : NodeState)
-    → ReturnsInRounds arts x → Clean arts x before js w → Clean arts x (before ++ after) (js ++ more) v → StaysUnder 1 weights path w v → node_in v.nodes (node 1) ≡ Some n
+    → ReturnsInRounds arts x → Clean arts x before js w → Clean arts x (before ++ after) (js ++ more) v → StaysUnder 1 weights path w v
+    → node_in v.nodes (node 1) ≡ Some n
     → acknowledged arts before js (node 1) (node 3) ≡ 1
     → (1 ≤ (flow_at n (node 1) (node 3)).at.base) × ((flow_at n (node 1) (node 3)).at.have < 3 → is_full 2 (flow_at n (node 1) (node 3)) ≡ false)
 

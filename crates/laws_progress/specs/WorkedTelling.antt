@@ -38,7 +38,8 @@ three_rounds = telling_round 0 ++ (telling_round 1 ++ (telling_round 2 ++ []))
 abbrev pub EndsKnowEachOther : Type 0
 EndsKnowEachOther = (arts : Arts) (js more : List Entry) (w v : World) (one two three n m : NodeState)
     → StartsAreTold arts row → Clean arts row starts js w → Clean arts row (starts ++ three_rounds) (js ++ more) v
-    → StaysUnder 1 line_weights line_path w v → node_in w.nodes (node 1) ≡ Some one → node_in w.nodes (node 2) ≡ Some two → node_in w.nodes (node 3) ≡ Some three
+    → StaysUnder 1 line_weights line_path w v → node_in w.nodes (node 1) ≡ Some one → node_in w.nodes (node 2) ≡ Some two → node_in w.nodes (node 3)
+    ≡ Some three
     → node_in v.nodes (node 1) ≡ Some n → node_in v.nodes (node 3) ≡ Some m
     → (held_boot m.parts.lives (node 1) ≡ n.fixed.boot) × (held_boot n.parts.lives (node 3) ≡ m.fixed.boot)
 

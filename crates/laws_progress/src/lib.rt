@@ -3,15 +3,19 @@
 //! And told starts: while the nodes of a path stay up, each holds the boot of each other's life after so many rounds that tell starts.
 //! What is counted is claimed within a version of the topology: while each node of the path runs under one version, which withdraws no edge of the path. Other
 //! nodes may run under others, and the administrator may publish more.
+//! Whatever is published, while the nodes of a path stay up, a version under which one of them runs comes to all after so many rounds.
 #![tactic(auto)]
 
 ghost use Rattle.laws_progress.specs.Counts.{FlowCountNeverFalls};
 ghost use Rattle.laws_progress.specs.Delivery.{CountedDelivery, CountedReturn};
 ghost use Rattle.laws_progress.specs.LifeDelivery.{CountedDeliveryInLives, CountedReturnInLives, CountedStarts, ToldPathsAreCalm};
 ghost use Rattle.laws_progress.specs.Positions.{PositionsAreInOrder};
+ghost use Rattle.laws_progress.specs.Rising.{VersionsRiseInLives};
+ghost use Rattle.laws_progress.specs.Spreading.{SpreadPathsRunUnder, VersionsSpreadInRounds};
 ghost use Rattle.laws_progress.specs.Worked.{RoundsAreCounted};
 ghost use Rattle.laws_progress.specs.WorkedLives.{LivesAreCounted};
 ghost use Rattle.laws_progress.specs.WorkedPositions.{PositionsAreWorked};
+ghost use Rattle.laws_progress.specs.WorkedSpreading.{SpreadingIsWorked};
 ghost use Rattle.laws_progress.specs.WorkedTelling.{TellingIsWorked};
 
 /// A law: in every state no node's position of a flow between correct nodes is ahead of that flow's ends, its list is the source's messages, what it knows
@@ -73,6 +77,30 @@ pub fn starts_are_told_in_rounds()
 /// message arrives are those that tell starts, and then those of its delivery.
 pub fn told_paths_are_calm()
     ensures { ToldPathsAreCalm }
+{}
+
+/// A law: while the nodes of a path stay up, each runs after hops + 1 rounds of at least one frame each way over each hop under at least the version that any
+/// of them ran under before, over withdrawn edges too. So what an administrator publishes at one node reaches all of them.
+pub fn versions_spread_in_rounds()
+    ensures { VersionsSpreadInRounds }
+{}
+
+/// A law: where a node of a path ran under the last version, and it has spread over the path, each node of the path runs under it, with its weights. So from a
+/// publication the rounds until a path runs under a version are counted, and from there those of a delivery within it.
+pub fn spread_paths_run_under()
+    ensures { SpreadPathsRunUnder }
+{}
+
+/// A law: while a node stays in its life, the version that it runs under never falls, and who is removed at it stays removed.
+pub fn versions_never_fall()
+    ensures { VersionsRiseInLives }
+{}
+
+/// A law: in a worked example three nodes in a row start, and by the end of three rounds the last runs under at least the version of the first, by the promise;
+/// and where a node took another version alone, that one hasn't spread, and the node doesn't
+/// go back while it stays up.
+pub fn spreading_is_worked()
+    ensures { SpreadingIsWorked }
 {}
 
 /// A law: in a worked example three nodes in a row start, and by the end of three rounds that tell starts each end holds the boot of the other's life, by the

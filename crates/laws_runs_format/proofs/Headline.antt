@@ -6,6 +6,7 @@ use Rattle.sp_runs.specs.Runs.{Clean}
 use Rattle.sp_runs.specs.Worlds.{World}
 use Rattle.sp_journal.specs.declared.entry.Entry.{Entry}
 use Rattle.sp_schedule_events.specs.declared.event.Event.{Event}
+use Rattle.laws_progress.proofs.Rising.{versions_never_fall}
 use Rattle.laws_runs.specs.Premises.{Carries}
 use Rattle.laws_runs.proofs.Beginnings.{beginnings_are_clean}
 use Rattle.laws_runs.proofs.Bounds.{buffers_stay_bounded}
@@ -18,6 +19,7 @@ use Rattle.laws_runs.proofs.Kept.{what_is_kept_was_signed}
 use Rattle.laws_runs.proofs.LifeKeys.{keys_rise}
 use Rattle.laws_runs.proofs.PlaceRuns.{evictions_leave_shares, evictions_leave_shares_over_lives}
 use Rattle.laws_runs.proofs.PrioRuns.{life_priority_is_kept, priority_is_kept}
+use Rattle.laws_runs.proofs.Signed.{signs}
 use Rattle.laws_runs.proofs.There.{correct_nodes_are_there, only_correct_nodes_run}
 use Rattle.laws_runs.proofs.Versions.{later_versions_follow, versions_are_published}
 use Rattle.laws_runs.proofs.WeightRuns.{weights_are_kept, weights_are_kept_over_lives}
@@ -26,6 +28,7 @@ use Rattle.laws_runs_format.specs.Headline.{Claims, EveryLife, EveryRun, LivesCl
 use Rattle.laws_runs_format.proofs.Headers.{headers_fit, plain_headers_fit}
 use Rattle.laws_runs_format.proofs.Opens.{schedules_deliver, schedules_deliver_in_lives, schedules_return, schedules_return_in_lives, schedules_tell_starts}
 use Rattle.laws_runs_format.proofs.ReadBack.{format_carries}
+use Rattle.laws_runs_format.proofs.Spreading.{schedules_spread_versions}
 
 all_claims : (x : Setting) (es : List Event) (js : List Entry) (w : World) → StaysUp (arts_of x) x → Carries x.topology.format (arts_of x)
     → Clean (arts_of x) x es js w → Claims x es js w
@@ -70,6 +73,7 @@ lives_claims x es js w fits carries run = record {
   versions = record {
     published = versions_are_published (arts_of x) x es js w fits carries run;
     follow = later_versions_follow (arts_of x) x es js w fits carries run;
+    obey = λ u n at. ((signs (arts_of x) x es js w fits carries run).nodes u n at).obeys;
   };
 }
 
@@ -82,5 +86,7 @@ every_life s es js w graph some run =
       told = λ epochs. schedules_tell_starts s graph epochs;
       delivered = schedules_deliver_in_lives s graph some;
       returned = schedules_return_in_lives s graph some;
+      spread = λ may. schedules_spread_versions s graph may;
+      rise = versions_never_fall (arts_of x) x (headers_fit s graph) (format_carries x.topology.format);
       claims = λ n v beginning. lives_claims x _ _ v (headers_fit s graph) (format_carries x.topology.format) beginning;
     }

@@ -21,3 +21,4 @@ pub mod Turned
 pub mod Hostile
 pub mod Unforged
 pub mod Generated
+pub mod Spreading

@@ -51,7 +51,7 @@ opens format len small h s key range same plain is =
 
 -- ---- its tag
 
-front : (body tag : List ℕ) → length tag ≡ 32 → tagged_part (body ++ tag) ≡ body
+pub front : (body tag : List ℕ) → length tag ≡ 32 → tagged_part (body ++ tag) ≡ body
 front body tag long =
     let all : length (body ++ tag) - 32 ≡ length body = omega (arith, length-append body tag, long) in
     ap (λ n. take n (body ++ tag)) all ∙ take-append_seam body tag

@@ -8,13 +8,16 @@ use Rattle.sp_runs.specs.Bounds.{IsBounded}
 use Rattle.sp_runs.specs.Held.{AreShares}
 use Rattle.sp_runs.specs.Runs.{Clean}
 use Rattle.sp_runs.specs.Scenarios.{IsHeader, setting_of}
-use Rattle.sp_runs.specs.Settings.{Setting, fixed_at, is_correct, is_node}
+use Rattle.sp_runs.specs.Settings.{Setting, fixed_at, is_correct, is_node, may_change}
 use Rattle.sp_runs.specs.Told.{effects_at}
 use Rattle.sp_runs.specs.Worlds.{World, node_in}
 use Rattle.sp_schedule_events.specs.declared.event.Event.{Event}
 use Rattle.sp_schedule_events.specs.declared.scenario.Scenario.{Scenario}
 use Rattle.laws_progress.specs.Delivery.{DeliversInRounds, ReturnsInRounds}
 use Rattle.laws_progress.specs.LifeDelivery.{DeliversInLives, ReturnsInLives, StartsAreTold}
+use Rattle.laws_progress.specs.Rising.{VersionsNeverFall}
+use Rattle.laws_progress.specs.Spreading.{SpreadsInRounds}
+use Rattle.laws_node.specs.Withdrawals.{Obeys}
 use Rattle.laws_runs.specs.Flows.{FlowClaims}
 use Rattle.laws_runs.specs.HeldBoots.{BootClaims}
 use Rattle.laws_runs.specs.KeyFiles.{KeysStand}
@@ -71,6 +74,8 @@ pub record VersionClaims (x : Setting) (es : List Event) (w : World) : Type 0 wh
   -- of two nodes the topology of the one with the higher version follows that of the other, however many versions lie between
   pub follow : (u v : NodeId) (n m : NodeState) → node_in w.nodes u ≡ Some n → node_in w.nodes v ≡ Some m → n.live.version < m.live.version
       → IsTrue (succeeds (topology_now n) (topology_now m))
+  -- nothing waits at a node for an edge that its version withdraws, nor for or from a node that is removed in it, and no flow of such a node goes on
+  pub obey : (u : NodeId) (n : NodeState) → node_in w.nodes u ≡ Some n → Obeys n
 
 -- what holds of every run of these events, whether nodes start and stop or not
 pub record LivesClaims (x : Setting) (es : List Event) (js : List Entry) (w : World) (run : Clean (arts_of x) x es js w) : Type 0 where
@@ -97,7 +102,7 @@ pub record LivesClaims (x : Setting) (es : List Event) (js : List Entry) (w : Wo
   pub weights : LifeWeightClaims (arts_of x) x es js w
   -- whatever a correct node keeps or sends bears its signer's valid signature, and a correct signer signed it in this run, in one of its lives
   pub signed : SignClaims (arts_of x) x es js w
-  -- no correct node runs under a version that the administrator didn't hand out, and a later one follows an earlier one
+  -- no correct node runs under a version that the administrator didn't hand out, a later one follows an earlier one, and none keeps what its own withdraws
   pub versions : VersionClaims x es w
 
 -- A run of this setting without forgery, with epochs or without. After each of its events, as after all, there is one world, of which the claims hold.
@@ -110,6 +115,11 @@ pub record RunLives (x : Setting) (es : List Event) (js : List Entry) : Type 0 w
   pub told : x.epochs ≡ true → StartsAreTold (arts_of x) x
   pub delivered : DeliversInLives (arts_of x) x
   pub returned : ReturnsInLives (arts_of x) x
+  -- And where the topology may change, whatever is published: after so many rounds each node of a path that stays up runs under at least the version of each
+  -- of them before, over withdrawn edges too
+  pub spread : may_change x ≡ true → SpreadsInRounds (arts_of x) x
+  -- and while a node stays in its life, its version never falls, and who is removed at it stays removed
+  pub rise : VersionsNeverFall (arts_of x) x
 
 -- Of each run of a header in its ranges, with room for one message a flow at least, as each schedule has it.
 abbrev pub EveryLife : Type 0

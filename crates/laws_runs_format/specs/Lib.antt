@@ -11,3 +11,4 @@ pub mod ComesThrough
 pub mod Delivery
 pub mod Hostile
 pub mod Unforged
+pub mod Spreading

@@ -12,6 +12,7 @@ ghost use Rattle.laws_runs_format.specs.Hostile.{OnlyHostileEventsAreForged};
 ghost use Rattle.laws_runs_format.specs.Journals.{JournalsAreCountable};
 ghost use Rattle.laws_runs_format.specs.Frames.{FramesHaveTheirLength};
 ghost use Rattle.laws_runs_format.specs.Schedules.{ScheduledEventsAreInRange};
+ghost use Rattle.laws_runs_format.specs.Spreading.{FormatBringsDocuments, SchedulesSpreadVersions};
 ghost use Rattle.laws_runs_format.specs.Turns.{EachRequestHasAChoice, ScheduledEventsHaveTurns};
 ghost use Rattle.laws_runs_format.specs.Unforged.{GeneratedForgeNothing, HarmlessSchedulesForgeNothing};
 
@@ -91,6 +92,13 @@ pub fn schedules_deliver_in_rounds()
     ensures told { SchedulesTellStarts }
     ensures delivered_in_lives { SchedulesDeliverInLives }
     ensures returned_in_lives { SchedulesReturnInLives }
+{}
+
+/// A law: a frame of this format with a document begins as one at the other end of its edge; and so in the setting of every header in its
+/// ranges whose topology may change, what is published at a node of a path that stays up comes to all of them in hops + 1 rounds.
+pub fn versions_spread_over_schedules()
+    ensures documents { FormatBringsDocuments }
+    ensures spread { SchedulesSpreadVersions }
 {}
 
 /// A law: whatever the weights are, a priority message has a choice of its edges; and so each event that may come in a run of a schedule has a turn.
