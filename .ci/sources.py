@@ -22,7 +22,7 @@ TAKES = re.compile(r"closing_room|with_edge|with_bad|alloc|reserve|\.push\(|push
 
 
 def product():
-    for pattern in ("crates/sp_*/src/*.rt", "crates/spinesd/src/*.rt"):
+    for pattern in ("crates/sp_*/src/*.rt", "crates/spinesd*/src/*.rt"):
         yield from sorted(glob.glob(os.path.join(ROOT, pattern)))
 
 

@@ -21,23 +21,32 @@ an_open_begins height seed found None after state told finds = absurd (none-some
 an_open_begins height seed found (Some d) after state told finds =
     let bytes : bytes_of d ≡ found = ap bytes_of (same_some d (still found) told) ∙ bytes_of-still found in
     let numbers = numbers_of state in (
-      record { file = found; slot = state.slot; numbers = numbers; signer = record { height = height; seed = seed; index = numbers.bound; bound = numbers.bound } },
+      record {
+        file = found;
+        slot = state.slot;
+        numbers = numbers;
+        signer =
+            record { height = height; seed = seed; index = numbers.bound; bound = numbers.bound };
+      },
       record { file = refl; opens = sym (finds.1 ∙ ap in_use bytes); signer = refl },
       record { disk = finds.0 ∙ ap (λ (l : List ℕ). Some (still l)) bytes; slot = refl; numbers = refl },
     )
 
 -- ---- a change
 
-changed_file : (told after : Option Disk) (file : List ℕ) (at : ℕ) (next : Numbers) → told ≡ Some (still file) → Changes told after at next → after ≡ Some (still (changed file at next))
+changed_file : (told after : Option Disk) (file : List ℕ) (at : ℕ) (next : Numbers) → told ≡ Some (still file) → Changes told after at next
+    → after ≡ Some (still (changed file at next))
 changed_file None after file at next is changes = absurd (none-some (still file) is)
-changed_file (Some d) after file at next is changes = changes ∙ ap (λ (l : List ℕ). Some (still (changed l at next))) (ap bytes_of (same_some d (still file) is) ∙ bytes_of-still file)
+changed_file (Some d) after file at next is changes =
+    changes ∙ ap (λ (l : List ℕ). Some (still (changed l at next))) (ap bytes_of (same_some d (still file) is) ∙ bytes_of-still file)
 
 serial_same : (state : KeyState) (standing : Standing) (bound boot : ℕ) → numbers_of state ≡ standing.numbers
     → next_numbers state bound boot ≡ record { serial = standing.numbers.serial + 1; bound = bound; boot = boot }
 serial_same state standing bound boot is = ap (λ (n : Numbers). record { serial = n.serial + 1; bound = bound; boot = boot }) is
 
 at_after : (standing : Standing) (told after : Option Disk) (state new : KeyState) (bound boot : ℕ) → IsAt told state standing
-    → Changes told after (place (other state.slot)) (next_numbers state bound boot) → new ≡ changed_state state bound boot → IsAt after new (written standing (next_numbers state bound boot))
+    → Changes told after (place (other state.slot)) (next_numbers state bound boot) → new ≡ changed_state state bound boot
+    → IsAt after new (written standing (next_numbers state bound boot))
 at_after standing told after state new bound boot here changes is = record {
   disk = changed_file told after standing.file (place (other state.slot)) (next_numbers state bound boot) here.disk changes
       ∙ ap (λ (x : Slot). Some (still (changed standing.file (place (other x)) (next_numbers state bound boot)))) here.slot;
@@ -45,7 +54,8 @@ at_after standing told after state new bound boot here changes is = record {
   numbers = ap numbers_of is;
 }
 
-change_of : (standing : Standing) (told : Option Disk) (state : KeyState) (bound boot : ℕ) → IsAt told state standing → IsInRange (next_numbers state bound boot) → state.bound ≤ bound → state.boot ≤ boot
+change_of : (standing : Standing) (told : Option Disk) (state : KeyState) (bound boot : ℕ) → IsAt told state standing
+    → IsInRange (next_numbers state bound boot) → state.bound ≤ bound → state.boot ≤ boot
     → IsChange standing.numbers (next_numbers state bound boot)
 change_of standing told state bound boot here range a b =
     subst (λ (n : Numbers). IsChange n (next_numbers state bound boot)) here.numbers (record { range = range; serial = refl; bound = a; boot = b })
@@ -64,7 +74,11 @@ a_boot_is_an_act standing told after state new here range changes is =
     let next = next_numbers state state.bound (state.boot + 1) in
     let same : next ≡ with_boot standing.numbers (state.boot + 1) = ap (λ (n : Numbers). with_boot n (state.boot + 1)) here.numbers in (
       written standing next,
-      (ap (λ (n : Numbers). n.boot + 1) here.numbers, subst (IsChange standing.numbers) same (change_of standing told state state.bound (state.boot + 1) here range (omega arith) (omega arith)), ap (written standing) same),
+      (
+        ap (λ (n : Numbers). n.boot + 1) here.numbers,
+        subst (IsChange standing.numbers) same (change_of standing told state state.bound (state.boot + 1) here range (omega arith) (omega arith)),
+        ap (written standing) same,
+      ),
       at_after standing told after state new state.bound (state.boot + 1) here changes is,
     )
 
@@ -72,5 +86,6 @@ pub a_crash_leaves : ACrashLeavesWhatAStartMay
 a_crash_leaves standing told past now state bound boot here range a b moments =
     let next = next_numbers state bound boot in
     since_weaker past now (MayLeave standing.file (place (other state.slot)) next) (Leaves standing)
-    (λ c may. During next (change_of standing told state bound boot here range a b) (subst (λ (x : Slot). MayLeave standing.file (place (other x)) next c) here.slot may))
+    (λ c may. During next (change_of standing told state bound boot here range a b)
+    (subst (λ (x : Slot). MayLeave standing.file (place (other x)) next c) here.slot may))
     (moments standing.file here.disk)

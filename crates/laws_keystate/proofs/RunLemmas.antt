@@ -30,7 +30,8 @@ use Rattle.laws_keystate.proofs.CallLemmas.{a_reserve_is_an_act}
 
 pub does_on : (a b c : Standing) (xs ys : List Act) → DoesAll a xs b → DoesAll b ys c → DoesAll a (xs ++ ys) c
 does_on a b c xs ys (Nothing_more s) later = later
-does_on a b c xs ys (And_then old between new act acts does more) later = And_then old between c act (acts ++ ys) does (does_on between new c acts ys more later)
+does_on a b c xs ys (And_then old between new act acts does more) later =
+    And_then old between c act (acts ++ ys) does (does_on between new c acts ys more later)
 
 pub signings_on : (xs ys : List Act) → signings_of (xs ++ ys) ≡ signings_of xs ++ signings_of ys
 signings_on [] ys = refl
@@ -109,7 +110,8 @@ signs_next s told keys i j message fits apart is =
         go false is = absurd (apart (let high : b ≤ a = grind (arith, nat_tests) in omega (arith, order, high)))
 
 -- a step that takes the next index or none, with what was signed in it
-pub signs_one : (s : Standing) (told : Option Disk) (keys : KeyState) (i j : Indexes) (signed : List Signing) → Fits s told keys i → TakesNext i j → SignsOne i j signed
+pub signs_one : (s : Standing) (told : Option Disk) (keys : KeyState) (i j : Indexes) (signed : List Signing) → Fits s told keys i → TakesNext i j
+    → SignsOne i j signed
     → Went s told keys j signed
 signs_one s told keys i j signed fits (inl same) (Nothing_signed is) = went_none s told keys j (subst (Fits s told keys) (sym same) fits)
 signs_one s told keys i j signed fits (inl same) (One_signed message is) = absurd (omega (arith, is, ap (λ (x : Indexes). x.index) same))
@@ -180,11 +182,13 @@ module _ {N : Type 0} (steps : Steps N) (indexes : N → Indexes) (orderly : Sig
   stays : (old new : N) → new ≡ old → TakesNext (indexes old) (indexes new)
   stays old new is = inl (ap indexes is)
 
-  heard_from : (node : Option NodeId) (arrived bytes : List ℕ) (old new : N) → HearsFrom steps node arrived old bytes new → TakesNext (indexes old) (indexes new)
+  heard_from : (node : Option NodeId) (arrived bytes : List ℕ) (old new : N) → HearsFrom steps node arrived old bytes new
+      → TakesNext (indexes old) (indexes new)
   heard_from (Some node) arrived bytes old new hears = orderly old new (Datagram node bytes) arrived hears
   heard_from None arrived bytes old new hears = stays old new hears
 
-  pub heard : (peers : List Peer) (arrived : List ℕ) (old : N) (got : Got) (new : N) → Hears steps peers arrived old got new → TakesNext (indexes old) (indexes new)
+  pub heard : (peers : List Peer) (arrived : List ℕ) (old : N) (got : Got) (new : N) → Hears steps peers arrived old got new
+      → TakesNext (indexes old) (indexes new)
   heard peers arrived old (Came port bytes) new hears = heard_from (node_at peers port) arrived bytes old new hears
   heard peers arrived old Nothing new hears = stays old new hears
   heard peers arrived old Lost new hears = stays old new hears
@@ -198,14 +202,17 @@ module _ {N : Type 0} (steps : Steps N) (indexes : N → Indexes) (orderly : Sig
   polled_next frame old (Some peer) new polls = orderly old new (Poll peer.node) frame polls
   polled_next frame old None new polls = stays old new polls
 
-  restocked : (reserved : Option ℕ) (s : Standing) (keys : KeyState) (f g : KeptFile) (old new : N) → Fits s f.disk keys (indexes old) → reserved ≡ reserved_by (indexes old)
-      → (keys_after keys reserved).serial < 2 ^ 64 → FileMoves reserved keys f g → Restocks steps reserved old new → Went s g.disk (keys_after keys reserved) (indexes new) []
+  restocked : (reserved : Option ℕ) (s : Standing) (keys : KeyState) (f g : KeptFile) (old new : N) → Fits s f.disk keys (indexes old)
+      → reserved ≡ reserved_by (indexes old)
+      → (keys_after keys reserved).serial < 2 ^ 64 → FileMoves reserved keys f g → Restocks steps reserved old new
+      → Went s g.disk (keys_after keys reserved) (indexes new) []
   restocked None s keys f g old new fits due serial moves restocks =
       let disk : Fits s g.disk keys (indexes old) = subst (λ (k : KeptFile). Fits s k.disk keys (indexes old)) (sym moves) fits in
       went_none s g.disk keys (indexes new) (subst (λ (n : N). Fits s g.disk keys (indexes n)) (sym restocks) disk)
   restocked (Some upto) s keys f g old new fits due serial moves restocks =
       let bounds = due_bound (indexes old) upto due in
-      reserves_more s f.disk g.disk keys (indexes old) (indexes new) upto fits due serial moves.change (orderly old new (Reserve upto) [] restocks bounds.0 bounds.1)
+      reserves_more s f.disk g.disk keys (indexes old) (indexes new) upto fits due serial moves.change
+      (orderly old new (Reserve upto) [] restocks bounds.0 bounds.1)
 
   pub turn_goes : (peers : List Peer) (polled : Option Peer) (t : Turn) (s : Standing) (keys : KeyState) (f g : KeptFile) (old new : N) (signed : List Signing)
       → Fits s f.disk keys (indexes old) → (keys_after keys t.reserved).serial < 2 ^ 64 → FileMoves t.reserved keys f g

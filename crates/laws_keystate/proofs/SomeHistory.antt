@@ -9,7 +9,8 @@ use Rattle.laws_keystate.specs.Histories.{formatted}
 use Rattle.laws_keystate.specs.Laws.{AHistorySigns}
 
 abbrev at_first : LmsParam → List ℕ → Standing
-at_first height seed = record { file = formatted; slot = First; numbers = first_numbers; signer = record { height = height; seed = seed; index = 0; bound = 0 } }
+at_first height seed =
+    record { file = formatted; slot = First; numbers = first_numbers; signer = record { height = height; seed = seed; index = 0; bound = 0 } }
 
 abbrev reserved : LmsParam → List ℕ → Standing
 reserved height seed = written (at_first height seed) (with_bound first_numbers 32)

@@ -21,7 +21,8 @@ use Rattle.sp_service_turns.specs.Turns.{Moves, Turn}
 use Rattle.sp_service_turns.specs.declared.indexes.Indexes.{Indexes}
 use Rattle.laws_keystate.specs.Histories.{formatted}
 use Rattle.laws_keystate.specs.RunLaws.{ARunSigns, indexes_of, sign_at_ticks}
-use Rattle.laws_keystate.specs.Runs.{As_it_stands, HasRun, In_turns, IsStopped, Nothing_signed, One_signed, SignsInOrder, SignsInTurn, SignsOne, TakesNext, indexes_at}
+use Rattle.laws_keystate.specs.Runs.{As_it_stands, HasRun, In_turns, IsStopped, Nothing_signed, One_signed, SignsInOrder, SignsInTurn, SignsOne, TakesNext}
+use Rattle.laws_keystate.specs.Runs.{indexes_at}
 
 orderly : SignsInOrder sign_at_ticks indexes_of
 orderly old new (Reserve upto) answer step = λ above within. step

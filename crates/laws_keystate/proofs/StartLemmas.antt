@@ -11,7 +11,8 @@ use Rattle.sp_keystate.specs.Slots.{in_slot, in_use, other}
 use Rattle.sp_keystate.specs.Soundness.{IsSound, Keeps}
 use Rattle.sp_keystate.proofs.Pieces.{same_some}
 use Rattle.sp_keystate.proofs.SoundLemmas.{change_keeps, change_sound}
-use Rattle.laws_keystate.specs.Starts.{Act, And_then, Begins, Between, Boots, Does, DoesAll, During, Extends, IsChange, Kept, Leaves, Nothing_more, Reserves, Signs, Standing, boots_of, signings_of, with_boot, with_bound, written}
+use Rattle.laws_keystate.specs.Starts.{Act, And_then, Begins, Between, Boots, Does, DoesAll, During, Extends, IsChange, Kept, Leaves, Nothing_more, Reserves}
+use Rattle.laws_keystate.specs.Starts.{Signs, Standing, boots_of, signings_of, with_boot, with_bound, written}
 use Rattle.laws_keystate.specs.Histories.{AllRise}
 use Rattle.laws_keystate.proofs.Elements.{first_or_other}
 
@@ -64,13 +65,17 @@ all_no_lower old new acts (And_then s between t act rest does more) =
 same_state : (file : List ℕ) (u v : InUse) → in_use file ≡ Some u → in_use file ≡ Some v → u ≡ v
 same_state file u v one other = same_some u v (sym one ∙ other)
 
-pub begins_as : (height : LmsParam) (seed found : List ℕ) (begin : Standing) (slot : Slot) (numbers : Numbers) → Begins height seed found begin → IsSound slot numbers found
+pub begins_as : (height : LmsParam) (seed found : List ℕ) (begin : Standing) (slot : Slot) (numbers : Numbers) → Begins height seed found begin
+    → IsSound slot numbers found
     → in_slot begin.slot begin.numbers ≡ in_slot slot numbers
-begins_as height seed found begin slot numbers begins sound = same_state found (in_slot begin.slot begin.numbers) (in_slot slot numbers) begins.opens sound.stands
+begins_as height seed found begin slot numbers begins sound =
+    same_state found (in_slot begin.slot begin.numbers) (in_slot slot numbers) begins.opens sound.stands
 
-pub begins_well : (height : LmsParam) (seed found : List ℕ) (begin : Standing) (slot : Slot) (numbers : Numbers) → Begins height seed found begin → IsSound slot numbers found → IsWell begin
+pub begins_well : (height : LmsParam) (seed found : List ℕ) (begin : Standing) (slot : Slot) (numbers : Numbers) → Begins height seed found begin
+    → IsSound slot numbers found → IsWell begin
 begins_well height seed found begin slot numbers begins sound = record {
-  sound = subst (λ (u : InUse). IsSound u.slot u.numbers begin.file) (sym (begins_as height seed found begin slot numbers begins sound)) (subst (IsSound slot numbers) (sym begins.file) sound);
+  sound = subst (λ (u : InUse). IsSound u.slot u.numbers begin.file) (sym (begins_as height seed found begin slot numbers begins sound))
+      (subst (IsSound slot numbers) (sym begins.file) sound);
   signer = (let a = index in let b = bound in omega (arith, a, b));
   reserved = (let b = bound in omega (arith, b));
 }
@@ -83,9 +88,17 @@ begins_well height seed found begin slot numbers begins sound = record {
 
 pub leaves_keep : (end : Standing) (left : List ℕ) → IsWell end → Leaves end left → Keeps end.numbers.bound end.numbers.boot left
 leaves_keep end left well (Between is) =
-    record { slot = end.slot; numbers = end.numbers; sound = subst (IsSound end.slot end.numbers) (sym is) well.sound; bound_kept = omega arith; boot_kept = omega arith }
+    record {
+      slot = end.slot;
+      numbers = end.numbers;
+      sound = subst (IsSound end.slot end.numbers) (sym is) well.sound;
+      bound_kept = omega arith;
+      boot_kept =
+          omega arith;
+    }
 leaves_keep end left well (During next change may) =
-    change_keeps end.slot end.numbers next end.file left well.sound change.range (record { serial = omega (arith, change.serial); bound = change.bound; boot = change.boot }) may
+    change_keeps end.slot end.numbers next end.file left well.sound change.range
+    (record { serial = omega (arith, change.serial); bound = change.bound; boot = change.boot }) may
 leaves_keep end left well (Kept keeps) = keeps
 
 -- ---- what it signs
@@ -95,18 +108,22 @@ rising_from low high [] up rises = tt
 rising_from low high (s ∷ ss) up rises = (omega (arith, up, rises.0), rises.1)
 
 -- one act more in front
-rise_on : (old between : Standing) (act : Act) (rest : List Act) (later : List Signing) → Does old act between → Rising between.signer.index (signings_of rest ++ later)
+rise_on : (old between : Standing) (act : Act) (rest : List Act) (later : List Signing) → Does old act between
+    → Rising between.signer.index (signings_of rest ++ later)
     → Rising old.signer.index (signings_of (act ∷ rest) ++ later)
 rise_on old between (Boots boot) rest later d next = subst (λ (z : Standing). Rising z.signer.index (signings_of rest ++ later)) d.2 next
 rise_on old between (Reserves bound) rest later d next = subst (λ (z : Standing). Rising z.signer.index (signings_of rest ++ later)) d.1 next
 rise_on old between (Extends upto) rest later d next = subst (λ (z : Standing). Rising z.signer.index (signings_of rest ++ later)) d.2 next
 rise_on old between (Signs index message) rest later d next =
-    let here : Rising (old.signer.index + 1) (signings_of rest ++ later) = subst (λ (z : Standing). Rising z.signer.index (signings_of rest ++ later)) d.2 next in
+    let here : Rising (old.signer.index + 1) (signings_of rest ++ later) =
+    subst (λ (z : Standing). Rising z.signer.index (signings_of rest ++ later)) d.2 next in
     ((let a = d.0 in omega (arith, a)), subst (λ (n : ℕ). Rising (n + 1) (signings_of rest ++ later)) (sym d.0) here)
 
 -- its indexes rise, and those of what comes after it, from what is reserved at its end on
-pub all_rise : (old new : Standing) (acts : List Act) (later : List Signing) → IsWell old → DoesAll old acts new → Rising new.numbers.bound later → Rising old.signer.index (signings_of acts ++ later)
-all_rise old new acts later well (Nothing_more s) rises = rising_from s.signer.index s.numbers.bound later (let a = well.signer in let b = well.reserved in omega (arith, a, b)) rises
+pub all_rise : (old new : Standing) (acts : List Act) (later : List Signing) → IsWell old → DoesAll old acts new → Rising new.numbers.bound later
+    → Rising old.signer.index (signings_of acts ++ later)
+all_rise old new acts later well (Nothing_more s) rises =
+    rising_from s.signer.index s.numbers.bound later (let a = well.signer in let b = well.reserved in omega (arith, a, b)) rises
 all_rise old new acts later well (And_then s between t act rest does more) rises =
     rise_on s between act rest later does (all_rise between t rest later (does_well s between act well does) more rises)
 
@@ -135,10 +152,12 @@ within_on old between new (Signs index message) rest signing well kept d later c
     ]
 
 -- each index is above the first, and below what is reserved at its end
-pub all_within : (old new : Standing) (acts : List Act) → IsWell old → DoesAll old acts new → (signing : Signing) → Contains (signings_of acts) signing → IsBetween old new signing
+pub all_within : (old new : Standing) (acts : List Act) → IsWell old → DoesAll old acts new → (signing : Signing) → Contains (signings_of acts) signing
+    → IsBetween old new signing
 all_within old new acts well (Nothing_more s) signing one = absurd (omega (arith, one.1))
 all_within old new acts well (And_then s between t act rest does more) signing one =
-    within_on s between t act rest signing well (all_no_lower between t rest more) does (all_within between t rest (does_well s between act well does) more signing) one
+    within_on s between t act rest signing well (all_no_lower between t rest more) does
+    (all_within between t rest (does_well s between act well does) more signing) one
 
 -- ---- its boots
 
@@ -146,7 +165,8 @@ pub rise_from : (low high : ℕ) (ns : List ℕ) → low ≤ high → AllRise hi
 rise_from low high [] up rises = tt
 rise_from low high (n ∷ ns) up rises = (omega (arith, up, rises.0), rises.1)
 
-boots_on : (old between : Standing) (act : Act) (rest : List Act) (later : List ℕ) → Does old act between → AllRise between.numbers.boot (boots_of rest ++ later)
+boots_on : (old between : Standing) (act : Act) (rest : List Act) (later : List ℕ) → Does old act between
+    → AllRise between.numbers.boot (boots_of rest ++ later)
     → AllRise old.numbers.boot (boots_of (act ∷ rest) ++ later)
 boots_on old between (Boots boot) rest later d next =
     let above = d.0 in
@@ -156,6 +176,8 @@ boots_on old between (Reserves bound) rest later d next = subst (λ (z : Standin
 boots_on old between (Extends upto) rest later d next = subst (λ (z : Standing). AllRise z.numbers.boot (boots_of rest ++ later)) d.2 next
 boots_on old between (Signs index message) rest later d next = subst (λ (z : Standing). AllRise z.numbers.boot (boots_of rest ++ later)) d.2 next
 
-pub boots_rise : (old new : Standing) (acts : List Act) (later : List ℕ) → DoesAll old acts new → AllRise new.numbers.boot later → AllRise old.numbers.boot (boots_of acts ++ later)
+pub boots_rise : (old new : Standing) (acts : List Act) (later : List ℕ) → DoesAll old acts new → AllRise new.numbers.boot later
+    → AllRise old.numbers.boot (boots_of acts ++ later)
 boots_rise old new acts later (Nothing_more s) rises = rises
-boots_rise old new acts later (And_then s between t act rest does more) rises = boots_on s between act rest later does (boots_rise between t rest later more rises)
+boots_rise old new acts later (And_then s between t act rest does more) rises =
+    boots_on s between act rest later does (boots_rise between t rest later more rises)

@@ -24,7 +24,8 @@ use Rattle.sp_service_turns.specs.Runs.{keys_on}
 use Rattle.sp_service_turns.specs.declared.indexes.Indexes.{Indexes}
 use Rattle.laws_keystate.specs.Histories.{FollowOn, IsSomeSound, IsStart, Start, formatted, signings_in}
 use Rattle.laws_keystate.specs.RunLaws.{ARunIsAStart, NoRunSignsAgain, RunsAreAHistory}
-use Rattle.laws_keystate.specs.Runs.{After_its_reserve, As_it_stands, At_start, HasRun, In_its_reserve, In_turns, IsLeftNow, IsStopped, MayBeLeft, Run, RunsFollow, SignsInOrder, TurnLeaves, Without_reserve, indexes_at, signed_in}
+use Rattle.laws_keystate.specs.Runs.{After_its_reserve, As_it_stands, At_start, HasRun, In_its_reserve, In_turns, IsLeftNow, IsStopped, MayBeLeft, Run}
+use Rattle.laws_keystate.specs.Runs.{RunsFollow, SignsInOrder, TurnLeaves, Without_reserve, indexes_at, signed_in}
 use Rattle.laws_keystate.specs.Starts.{Between, Kept, Leaves, Nothing_more, Standing, signings_of}
 use Rattle.laws_keystate.proofs.Elements.{once}
 use Rattle.laws_keystate.proofs.HistoryLemmas.{indexes_rise, left_keeps}
@@ -39,7 +40,8 @@ get_all Q [] n disk all there = absurd (none-some disk there)
 get_all Q (x ∷ xs) zero disk all there = subst Q (same_some x disk there) all.0
 get_all Q (x ∷ xs) (suc n) disk all there = get_all Q xs n disk all.1 there
 
-in_added : (Q : Disk → Type 0) (old added : List Disk) (n : ℕ) (disk : Disk) → length old ≤ n → slice_get (old ++ added) n ≡ Some disk → AllByRecursion Q added → Q disk
+in_added : (Q : Disk → Type 0) (old added : List Disk) (n : ℕ) (disk : Disk) → length old ≤ n → slice_get (old ++ added) n ≡ Some disk → AllByRecursion Q added
+    → Q disk
 in_added Q [] added n disk later there all = get_all Q added n disk all there
 in_added Q (x ∷ old) added zero disk later there all = absurd (omega (arith, later))
 in_added Q (x ∷ old) added (suc n) disk later there all = in_added Q old added n disk (omega (arith, later)) there all
@@ -62,14 +64,22 @@ left_after : (told : Option Disk) (keys : KeyState) (left : List ℕ) → IfSome
 left_after None keys left sound now = absurd now
 left_after (Some disk) keys left sound now =
     let is : left ≡ sound.file = only_image sound.file left (subst (λ (d : Disk). IsImage d left) sound.still now) in
-    record { slot = keys.slot; numbers = numbers_of keys; sound = subst (IsSound keys.slot (numbers_of keys)) (sym is) sound.sound; bound_kept = omega arith; boot_kept = omega arith }
+    record {
+      slot = keys.slot;
+      numbers = numbers_of keys;
+      sound = subst (IsSound keys.slot (numbers_of keys)) (sym is) sound.sound;
+      bound_kept =
+          omega arith;
+      boot_kept = omega arith;
+    }
 
 module _ (s : Standing) (told : Option Disk) (keys : KeyState) (i : Indexes) (well : IsWell s) (fits : Fits s told keys i) where
   sound_now : IsSoundAt told keys
   sound_now = subst (λ (o : Option Disk). IsSoundAt o keys) (sym fits.at.disk) (record { file = s.file; still = refl; sound = sound })
     where
       sound : IsSound keys.slot (numbers_of keys) s.file
-      sound = subst (λ (n : Numbers). IsSound keys.slot n s.file) (sym fits.at.numbers) (subst (λ (x : Slot). IsSound x s.numbers s.file) (sym fits.at.slot) well.sound)
+      sound = subst (λ (n : Numbers). IsSound keys.slot n s.file) (sym fits.at.numbers)
+          (subst (λ (x : Slot). IsSound x s.numbers s.file) (sym fits.at.slot) well.sound)
 
   kept_leaves : (left : List ℕ) → Keeps keys.bound keys.boot left → Leaves s left
   kept_leaves left keeps = Kept (subst (λ (n : Numbers). Keeps n.bound n.boot left) fits.at.numbers keeps)
@@ -77,9 +87,11 @@ module _ (s : Standing) (told : Option Disk) (keys : KeyState) (i : Indexes) (we
   moment_leaves : (past now : Option (List Disk)) (left : List ℕ) → KeepsKeys keys told past now → MayBeLeft past now left → Leaves s left
   moment_leaves past now left keeps may = kept_leaves left (since_has past now (Keeps keys.bound keys.boot) left (keeps sound_now) may)
 
-turn_leaves : (s : Standing) (keys : KeyState) (now : KeptFile) (i : Indexes) (left : List ℕ) → IsWell s → Fits s now.disk keys i → TurnLeaves i keys now left → Leaves s left
+turn_leaves : (s : Standing) (keys : KeyState) (now : KeptFile) (i : Indexes) (left : List ℕ) → IsWell s → Fits s now.disk keys i → TurnLeaves i keys now left
+    → Leaves s left
 turn_leaves s keys now i left well fits (As_it_stands stands) = Between (left_now now.disk s.file left fits.at.disk stands)
-turn_leaves s keys now i left well fits (In_its_reserve upto after due reserve may) = moment_leaves s now.disk keys i well fits now.past after.past left reserve.kept may
+turn_leaves s keys now i left well fits (In_its_reserve upto after due reserve may) =
+    moment_leaves s now.disk keys i well fits now.past after.past left reserve.kept may
 turn_leaves s keys now i left well fits (After_its_reserve upto after due reserve stands) =
     let keeps = left_after after.disk (changed_state keys upto keys.boot) left reserve.sound stands in
     let low = (due_bound i upto due).0 in
@@ -87,7 +99,8 @@ turn_leaves s keys now i left well fits (After_its_reserve upto after due reserv
     let more = keeps.bound_kept in
     kept_leaves s now.disk keys i well fits left
     (record { slot = keeps.slot; numbers = keeps.numbers; sound = keeps.sound; bound_kept = omega (arith, more, low, kept); boot_kept = keeps.boot_kept })
-turn_leaves s keys now i left well fits (Without_reserve refused after no_more may) = moment_leaves s now.disk keys i well fits now.past after.past left no_more.kept may
+turn_leaves s keys now i left well fits (Without_reserve refused after no_more may) =
+    moment_leaves s now.disk keys i well fits now.past after.past left no_more.kept may
 
 -- ---- a run is a start
 
@@ -100,7 +113,8 @@ module _ {N : Type 0} (steps : Steps N) (indexes : N → Indexes) (orderly : Sig
       let serial = subst (λ (k : KeyState). k.serial < 2 ^ 64) run.keys_are run.serial in
       let taken = run.started.state in
       let first = signs_one from.went.next run.begun.disk taken given (indexes run.start) run.at_start from.went.fits run.begins run.announces in
-      let on = turns_go steps indexes orderly run.peers 0 run.turns first.next taken run.begun now run.start last run.in_turns first.fits serial run.file run.moves run.signs in
+      let on = turns_go steps indexes orderly run.peers 0 run.turns first.next taken run.begun now run.start last run.in_turns first.fits serial run.file
+      run.moves run.signs in
       let keys = keys_on taken run.turns in
       let all = went_on from.went.next run.begun.disk now.disk taken keys (indexes run.start) (indexes last) run.at_start run.in_turns first on in
       subst (λ (k : KeyState). Begun height seed found now.disk k (indexes last) signed) (sym run.keys_are)
@@ -117,14 +131,22 @@ module _ {N : Type 0} (steps : Steps N) (indexes : N → Indexes) (orderly : Sig
   run_sound found signed last keys now sound run =
       let made = run_goes found signed last keys now run in
       let went = made.went in
-      let well = all_well made.begin went.next went.acts (begins_well height seed found made.begin sound.slot sound.numbers made.begins sound.sound) went.does in
+      let well = all_well made.begin went.next went.acts (begins_well height seed found made.begin sound.slot sound.numbers made.begins sound.sound)
+      went.does in
       sound_now went.next now.disk keys (indexes last) well went.fits
 
   pub a_start : (found : List ℕ) (signed : List Signing) (left : List ℕ) → IsSomeSound found → IsStopped steps indexes found signed left
       → (start : Start) × IsStart height seed found start × (signings_of start.acts ≡ signed) × (start.left ≡ left)
   a_start found signed left sound (At_start image past now keeps may) =
       let numbers = sound.numbers in
-      let begin : Standing = record { file = found; slot = sound.slot; numbers = numbers; signer = record { height = height; seed = seed; index = numbers.bound; bound = numbers.bound } } in (
+      let begin : Standing =
+      record {
+        file = found;
+        slot = sound.slot;
+        numbers = numbers;
+        signer =
+            record { height = height; seed = seed; index = numbers.bound; bound = numbers.bound };
+      } in (
         record { begin = begin; acts = []; end = begin; left = image },
         record {
           begins = record { file = refl; opens = sound.sound.stands; signer = refl };
@@ -137,7 +159,8 @@ module _ {N : Type 0} (steps : Steps N) (indexes : N → Indexes) (orderly : Sig
   a_start found signed left sound (In_turns these image last keys now run leaves) =
       let made = run_goes found these last keys now run in
       let went = made.went in
-      let well = all_well made.begin went.next went.acts (begins_well height seed found made.begin sound.slot sound.numbers made.begins sound.sound) went.does in (
+      let well = all_well made.begin went.next went.acts (begins_well height seed found made.begin sound.slot sound.numbers made.begins sound.sound)
+      went.does in (
         record { begin = made.begin; acts = went.acts; end = went.next; left = image },
         record { begins = made.begins; does = went.does; leaves = turn_leaves went.next keys now (indexes last) image well went.fits leaves },
         went.signs,
@@ -166,6 +189,7 @@ pub runs_are_a_history : {N : Type 0} (steps : Steps N) (indexes : N → Indexes
 runs_are_a_history steps indexes orderly height seed runs they =
     follow steps indexes orderly height seed formatted runs (record { slot = First; numbers = first_numbers; sound = format_sound }) they
 
+-- no run on a key file signs with an index that an earlier run signed with
 pub no_run_signs_again : {N : Type 0} (steps : Steps N) (indexes : N → Indexes) → NoRunSignsAgain steps indexes
 no_run_signs_again steps indexes orderly runs they =
     let history = runs_are_a_history steps indexes orderly H5 [] runs they in

@@ -37,11 +37,14 @@ no_higher : (first bound total : ℕ) → bound ≡ min (first + 32) total → b
 no_higher first bound total is = grind (arith, is)
 
 -- from these numbers in this slot to this state, whose bound is above the first index
-module _ (height : LmsParam) (seed found : List ℕ) (slot : Slot) (numbers : Numbers) (state : KeyState) (first total : ℕ) (few : total < 2 ^ 64) (first_is : first ≡ numbers.bound)
-    (boot_is : state.boot ≡ numbers.boot + 1) (serial_is : state.serial ≡ numbers.serial + 2) (slot_is : state.slot ≡ slot) (up : first ≤ state.bound) (within : state.bound ≤ total)
+module _ (height : LmsParam) (seed found : List ℕ) (slot : Slot) (numbers : Numbers) (state : KeyState) (first total : ℕ) (few : total < 2 ^ 64)
+    (first_is : first ≡ numbers.bound)
+    (boot_is : state.boot ≡ numbers.boot + 1) (serial_is : state.serial ≡ numbers.serial + 2) (slot_is : state.slot ≡ slot) (up : first ≤ state.bound)
+    (within : state.bound ≤ total)
     (boots : state.boot < 2 ^ 63) (serials : state.serial < 2 ^ 64) where
   abbrev begin : Standing
-  begin = record { file = found; slot = slot; numbers = numbers; signer = record { height = height; seed = seed; index = numbers.bound; bound = numbers.bound } }
+  begin = record
+      { file = found; slot = slot; numbers = numbers; signer = record { height = height; seed = seed; index = numbers.bound; bound = numbers.bound } }
 
   abbrev mid : Standing
   mid = written begin (with_boot numbers (numbers.boot + 1))
@@ -119,5 +122,7 @@ start_goes height seed found after started total few starts i i_is =
     let up = no_lower started.first started.state.bound total starts.some starts.bound in
     let within = no_higher started.first started.state.bound total starts.bound in
     let opens : in_use found ≡ Some (in_slot at.found.slot at.found.numbers) = ap in_use (sym (bytes_of-still found)) ∙ at.stood in
-    let file = file_is height seed found at.found.slot at.found.numbers started.state started.first total few at.first at.boot at.serial at.slot up within starts.boot.1 starts.serial after at.changes in
-    goes height seed found at.found.slot at.found.numbers started.state started.first total few at.first at.boot at.serial at.slot up within starts.boot.1 starts.serial after i opens file i_is
+    let file = file_is height seed found at.found.slot at.found.numbers started.state started.first total few at.first at.boot at.serial at.slot up within
+    starts.boot.1 starts.serial after at.changes in
+    goes height seed found at.found.slot at.found.numbers started.state started.first total few at.first at.boot at.serial at.slot up within starts.boot.1
+    starts.serial after i opens file i_is

@@ -34,6 +34,7 @@ FollowOn height seed found (start ∷ starts) = IsStart height seed found start 
 abbrev pub formatted : List ℕ
 formatted = changed [] (place First) first_numbers
 
+-- the starts of a seed, from a file that was just formatted on
 abbrev pub IsHistory : LmsParam → List ℕ → List Start → Type 0
 IsHistory height seed starts = FollowOn height seed formatted starts
 
@@ -42,6 +43,7 @@ abbrev pub signings_in : List Start → List Signing
 signings_in [] = []
 signings_in (start ∷ starts) = signings_of start.acts ++ signings_in starts
 
+-- the boots of all starts
 abbrev pub boots_in : List Start → List ℕ
 boots_in [] = []
 boots_in (start ∷ starts) = boots_of start.acts ++ boots_in starts

@@ -28,6 +28,7 @@ NoKeySignsTwoMessages = (height : LmsParam) (seed : List ℕ) (starts : List Sta
     → (a b : Use) → Contains (uses height seed (signings_in starts)) a → Contains (uses height seed (signings_in starts)) b → a.leaf ≡ b.leaf
     → a.message ≡ b.message
 
+-- the law that a leaf of the upper tree signs one lower key
 abbrev pub AnUpperLeafSignsOneKey : Type 0
 AnUpperLeafSignsOneKey = (height : LmsParam) (seed : List ℕ) (starts : List Start) → IsHistory height seed starts
     → (u : Use) → Contains (uses height seed (signings_in starts)) u → u.leaf.tree ≡ Upper → u.message ≡ tree_key height seed (Lower u.leaf.number)

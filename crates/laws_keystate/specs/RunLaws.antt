@@ -41,6 +41,7 @@ sign_at_ticks old (Reserve upto) answer new = new ≡ record old { bound = upto 
 sign_at_ticks old (Tick now) answer new = TakesNext old new
 sign_at_ticks old _ answer new = new ≡ old
 
+-- the indexes that the law asks for are all there is
 abbrev pub indexes_of : Indexes → Indexes
 indexes_of i = i
 

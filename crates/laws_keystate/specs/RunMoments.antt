@@ -23,7 +23,8 @@ LeavesBetween steps indexes found signed now after = AllSince now.past after.pas
 -- In these turns and in what came after them, where this was signed before: in a turn what was signed in the turns before it, with whatever messages, and after
 -- the last what was signed in all of them
 abbrev pub LeavesOn : {N : Type 0} (steps : Steps N) (indexes : N → Indexes) (found : List ℕ) (peers : List Peer) (turn : ℕ) (turns : List Turn) (old new : N)
-    → MovesOn steps indexes peers turn turns old new → (keys : KeyState) (now last after : KeptFile) → FileMovesOn keys turns now last → (signed : List Signing) → Type 0
+    → MovesOn steps indexes peers turn turns old new → (keys : KeyState) (now last after : KeptFile) → FileMovesOn keys turns now last → (signed : List Signing)
+    → Type 0
 LeavesOn steps indexes found peers turn [] old new moves keys now last after file signed = LeavesBetween steps indexes found signed last after
 LeavesOn steps indexes found peers turn (t ∷ ts) old new moves keys now last after file signed =
     LeavesBetween steps indexes found signed now file.0

@@ -50,6 +50,7 @@ written old next = record old { file = changed old.file (place (other old.slot))
 abbrev pub with_boot : Numbers → ℕ → Numbers
 with_boot numbers boot = record { serial = numbers.serial + 1; bound = numbers.bound; boot = boot }
 
+-- numbers with another bound, one change later
 abbrev pub with_bound : Numbers → ℕ → Numbers
 with_bound numbers bound = record { serial = numbers.serial + 1; bound = bound; boot = numbers.boot }
 
@@ -62,6 +63,7 @@ Does old (Extends upto) new =
 Does old (Signs index message) new =
     (index ≡ old.signer.index) × (index < old.signer.bound) × (new ≡ record old { signer = record old.signer { index = old.signer.index + 1 } })
 
+-- so many acts, one after another
 pub data DoesAll : Standing → List Act → Standing → Type 0 where
   Nothing_more : (standing : Standing) → DoesAll standing [] standing
   And_then : (old between new : Standing) (act : Act) (acts : List Act) → Does old act between → DoesAll between acts new → DoesAll old (act ∷ acts) new
@@ -81,6 +83,7 @@ signings_of (Reserves bound ∷ acts) = signings_of acts
 signings_of (Extends upto ∷ acts) = signings_of acts
 signings_of (Signs index message ∷ acts) = record { index = index; message = message } ∷ signings_of acts
 
+-- the boots among acts
 abbrev pub boots_of : List Act → List ℕ
 boots_of [] = []
 boots_of (Boots boot ∷ acts) = boot ∷ boots_of acts

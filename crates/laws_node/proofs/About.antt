@@ -77,6 +77,7 @@ rel_about k n dst payload e h =
     let to : is_node r.nodes dst.0 ≡ true = listed r dst nodes.1 in
     (subst (λ (us : List NodeId). is_node us n.fixed.me.0 ≡ true) known from, subst (λ (us : List NodeId). is_node us dst.0 ≡ true) known to)
 
+-- a reliable message that a node sends is in the ranges of its format
 pub rel_good : (arts : Arts) (k : Sizes) (n : NodeState) (dst : NodeId) (payload : List ℕ) → ArtsFit arts n.fixed n.signer
     → length payload ≤ MAX_PAYLOAD_BYTES → rel_refusal n dst ≡ None → NodeHolds k n → IsTrue (arts.is_good (rel_body n dst payload))
 rel_good arts k n dst payload fits short e h =
@@ -103,6 +104,7 @@ prio_about k n m choice me e is h =
         (h.parts.weights.edges ∙ sym h.fixed.edges) (h.parts.weights.least ∙ ap length (sym h.fixed.edges)) is
     within (OnlyPaths found) e is = absurd (cc)
 
+-- a priority message that a node sends is in the ranges of its format
 pub prio_good : (arts : Arts) (k : Sizes) (n : NodeState) (m : PrioSend) (choice : Choice) → ArtsFit arts n.fixed n.signer → PrioSendFits m
     → send_prio_refusal n m choice ≡ None → IsChoice n.parts.weights (graph_of n.fixed.topology n.parts.weights) n.fixed.me m.dst m.paths choice → NodeHolds k n
     → IsTrue (arts.is_good (prio_body n m (mask_in choice)))
@@ -112,6 +114,7 @@ prio_good arts k n m choice fits sizes e is h =
 
 -- ---- a weight
 
+-- an update that a node signs is of an edge of its own
 pub weight_about : (n : NodeState) (v : NodeId) (weight : ℕ) → HasNode n.fixed.topology n.fixed.me → weight_refusal n v weight ≡ None
     → IsAbout n.fixed.topology (weight_body n v weight)
 weight_about n v weight me e = go (edge_to n.fixed v) refl e
@@ -124,6 +127,7 @@ weight_about n v weight me e = go (edge_to n.fixed v) refl e
           (place_within (joins n.fixed.me.0 v.0) n.fixed.topology.edges edge is),
     )
 
+-- an update that a node signs is in the ranges of its format
 pub weight_good : (arts : Arts) (k : Sizes) (n : NodeState) (v : NodeId) (weight : ℕ) → ArtsFit arts n.fixed n.signer → 1 ≤ weight → weight ≤ MAX_WEIGHT
     → weight_refusal n v weight ≡ None → NodeHolds k n → IsTrue (arts.is_good (weight_body n v weight))
 weight_good arts k n v weight fits least most e h =
@@ -156,6 +160,7 @@ due_now_about k n ack e h =
     subst (λ (a : Ack). IsAbout n.fixed.topology (bodies.Ack a)) (sym d.is)
     (ack_about k n.signer.index n.fixed.topology n.parts.rel d.raw h.fixed.nodes d.is_due h.parts.rel)
 
+-- an acknowledgement that a node signs is in the ranges of its format
 pub ack_good : (arts : Arts) (k : Sizes) (n : NodeState) (ack : Ack) → ArtsFit arts n.fixed n.signer → due_now n ≡ Some ack → NodeHolds k n
     → IsTrue (arts.is_good (bodies.Ack ack))
 ack_good arts k n ack fits e h =

@@ -75,7 +75,8 @@ report_pieces k len same (Some r) is = (
 contents_fit : (k : Sizes) (len : ℕ) → len ≡ k.signature_len → (s : Contents) → IsContentsIn k.format len s → AllFit k (pieces_of s)
 contents_fit k len same s is =
     join_fits k (map WeightPiece s.weights) _
-    (all_pieces k WeightPiece (λ o fits. fits) s.weights (all_weaker (IsObject k.format kinds.Weight len) (InRange k) s.weights (in_range k kinds.Weight len same) is.weights)) (
+    (all_pieces k WeightPiece (λ o fits. fits) s.weights
+    (all_weaker (IsObject k.format kinds.Weight len) (InRange k) s.weights (in_range k kinds.Weight len same) is.weights)) (
       tt,
       join_fits k (map prio_piece s.prios) (slot_pieces s.slot ++ map EpochPiece (as_list s.epoch)) (prio_pieces k len same s.prios is.prios)
           (join_fits k (slot_pieces s.slot) (map EpochPiece (as_list s.epoch)) (report_pieces k len same s.slot is.slot) (of_epoch s.epoch is.epoch)),
@@ -150,7 +151,9 @@ beside_fits : (k : Sizes) (document : Option (List ℕ)) (pieces : List Piece) �
 beside_fits k None pieces h = h
 beside_fits k (Some document) pieces h = none_fit k
 
-pub sections_fit : (k : Sizes) (arts : Arts) (f : Fixed) (signer : Signer) (bytes : List ℕ) → ArtsFit arts f signer → AreBytes bytes → f.topology.format ≡ k.format
+-- sections that are read from bytes fit
+pub sections_fit : (k : Sizes) (arts : Arts) (f : Fixed) (signer : Signer) (bytes : List ℕ) → ArtsFit arts f signer → AreBytes bytes
+    → f.topology.format ≡ k.format
     → f.signature_len ≡ k.signature_len → (s : Result Contents SectionRefused) → sections_in arts f bytes ≡ s → FewFit k (pieces_in f s)
 sections_fit k arts f signer bytes fits are format same (Ok s) is =
     let contents = subst (λ (n : ℕ). IsContentsIn n f.signature_len s) format (fits.sections bytes s are is) in
@@ -159,6 +162,7 @@ sections_fit k arts f signer bytes fits are format same (Ok s) is =
     (record { fit = contents_fit k f.signature_len same (heeded f s) some; few = few_messages k.format f.signature_len (heeded f s) some })
 sections_fit k arts f signer bytes fits are format same (Err e) is = none_fit k
 
+-- pieces that are handled where the reply is fresh fit
 pub where_fits : (k : Sizes) (pieces : List Piece) (reply : LinkReply) → FewFit k pieces → FewFit k (pieces_where reply pieces)
 where_fits k pieces replies.Fresh h = h
 where_fits k pieces replies.TooLong h = none_fit k

@@ -48,6 +48,7 @@ use Rattle.laws_node.proofs.Tables.{all_weaker, cond_either, or_where}
 abbrev Other : NodeId → NodeId → Type 0
 Other u v = ¬ (u ≡ v)
 
+-- the nodes of a topology in its ranges are nodes of its format
 pub nodes_hold : (format : ℕ) (height : LmsHeight) (before : ℕ) (nodes : List NodeKey) → AreNodes format height before nodes
     → All (IsNode format) (map (λ n. n.id) nodes)
 nodes_hold format height before [] are = All-nil (IsNode format)
@@ -62,7 +63,8 @@ above format height before (n ∷ nodes) are =
     (all_weaker (λ (u : NodeId). n.id.0 < u.0) (λ (u : NodeId). before < u.0) (map (λ m. m.id) nodes) (λ u far. omega (arith, far, are.0.0))
     (above format height n.id.0 nodes are.2))
 
-pub nodes_once : (format : ℕ) (height : LmsHeight) (before : ℕ) (nodes : List NodeKey) → AreNodes format height before nodes → AllPairs Other (map (λ n. n.id) nodes)
+pub nodes_once : (format : ℕ) (height : LmsHeight) (before : ℕ) (nodes : List NodeKey) → AreNodes format height before nodes
+    → AllPairs Other (map (λ n. n.id) nodes)
 nodes_once format height before [] are = λ i j d below within. absurd (omega (arith, within))
 nodes_once format height before (n ∷ nodes) are =
     AllPairs-cons Other n.id (map (λ m. m.id) nodes)
@@ -95,7 +97,8 @@ from_once : (src : NodeId) (dsts : List NodeId) → AllPairs Other dsts → AllP
 from_once src [] once = λ i j d below within. absurd (omega (arith, within))
 from_once src (v ∷ dsts) once =
     AllPairs-cons Differ (record { src = src; dst = v }) (map (λ dst. record { src = src; dst = dst }) dsts)
-    (all_map (Other v) (Differ (record { src = src; dst = v })) (λ dst. record { src = src; dst = dst }) (λ u other same. other (ap (λ (f : Flow). f.dst) same)) dsts
+    (all_map (Other v) (Differ (record { src = src; dst = v })) (λ dst. record { src = src; dst = dst }) (λ u other same. other (ap (λ (f : Flow). f.dst) same))
+    dsts
     (pairs_head Other v dsts once))
     (from_once src dsts (pairs_tail Other v dsts once))
 
@@ -129,7 +132,8 @@ flows_once nodes (s ∷ srcs) once each =
     (has_src s nodes)))
 
 -- what each node has, both ends of each flow have
-pub flows_have : (P : NodeId → Type 0) (nodes srcs : List NodeId) → All P nodes → All P srcs → All (λ (f : Flow). P f.src × P f.dst) (flat_map (λ s. flows_from s nodes) srcs)
+pub flows_have : (P : NodeId → Type 0) (nodes srcs : List NodeId) → All P nodes → All P srcs
+    → All (λ (f : Flow). P f.src × P f.dst) (flat_map (λ s. flows_from s nodes) srcs)
 flows_have P nodes [] all each = All-nil (λ (f : Flow). P f.src × P f.dst)
 flows_have P nodes (s ∷ srcs) all each =
     subst (All (λ (f : Flow). P f.src × P f.dst)) (sym (flat_map-cons (λ t. flows_from t nodes) s srcs))
@@ -144,7 +148,8 @@ same_ends (f ∷ flows) = ap (λ (fs : List Flow). f ∷ fs) (same_ends flows)
 
 -- ---- the links
 
-small_id : (format : ℕ) (height : LmsHeight) (before : ℕ) (nodes : List NodeKey) (id : ℕ) → AreNodes format height before nodes → has_id id (ids_of nodes) ≡ true
+small_id : (format : ℕ) (height : LmsHeight) (before : ℕ) (nodes : List NodeKey) (id : ℕ) → AreNodes format height before nodes
+    → has_id id (ids_of nodes) ≡ true
     → id ≤ max_nodes format
 small_id format height before [] id are e = absurd (cc)
 small_id format height before (n ∷ nodes) id are e =
@@ -176,7 +181,14 @@ links_hold format f me boot [] keys all = All-nil (LinkHolds 0)
 links_hold format f me boot (n ∷ ns) [] all = All-nil (LinkHolds 0)
 links_hold format f me boot (n ∷ ns) (key ∷ keys) all =
     All-cons (LinkHolds 0) (link_of f (n, key)) (map (link_of f) (zip ns keys))
-    (record { me = omega (arith, me, few_nodes format); peer = let small = All-head (SmallId format) n ns all in omega (arith, small, few_nodes format); boot = boot; peer_boot = omega arith; sent = omega arith })
+    (record {
+      me = omega (arith, me, few_nodes format);
+      peer = let small = All-head (SmallId format) n ns all in omega (arith, small, few_nodes format);
+      boot =
+          boot;
+      peer_boot = omega arith;
+      sent = omega arith;
+    })
     (links_hold format f me boot ns keys (All-tail (SmallId format) n ns all))
 
 -- ---- the rest
@@ -235,7 +247,8 @@ boot_holds P f signer keys buffer store boots =
       now = omega arith;
       calls = omega arith;
       links = links_hold t.format f boots.me boots.boot (neighbours_of f) keys
-          (neighbours_small t.format (ids_of t.nodes) (λ id. small_id t.format t.height 0 t.nodes id boots.topology.ranges.nodes) f.me.0 0 (0, 0) t.edges boots.topology.ranges.graph.are_edges);
+          (neighbours_small t.format (ids_of t.nodes) (λ id. small_id t.format t.height 0 t.nodes id boots.topology.ranges.nodes) f.me.0 0 (0, 0) t.edges
+          boots.topology.ranges.graph.are_edges);
       signer = boots.signer;
       parts = closed_holds k (numbers_after 0) (ids_after 0 signer.index) signer.index (bare_parts f buffer store) (weights_in t.edges)
           (removed_of (nodes_of t) t.edges) (length_weights t.edges) (record {
@@ -256,7 +269,8 @@ boot_holds P f signer keys buffer store boots =
               bound = refl;
               nodes = nodes;
               known = refl;
-              flows = all_map (λ (fl : Flow). IsNode t.format fl.src × IsNode t.format fl.dst) (FlowHolds k signer.index) no_flow (λ fl both. no_flow_holds k signer.index fl both.0 both.1) pairs
+              flows = all_map (λ (fl : Flow). IsNode t.format fl.src × IsNode t.format fl.dst) (FlowHolds k signer.index) no_flow
+                  (λ fl both. no_flow_holds k signer.index fl both.0 both.1) pairs
                   (flows_have (IsNode t.format) (nodes_of t) (nodes_of t) nodes nodes);
               keys = same_ends pairs;
               once = subst (AllPairs Differ) (sym (same_ends pairs)) (flows_once (nodes_of t) (nodes_of t) once once);

@@ -58,6 +58,7 @@ all_both : (P : Kept → Type 0) (xs ys : List Piece) → AllKeep P xs → AllKe
 all_both P [] ys one two = two
 all_both P (x ∷ xs) ys one two = (one.0, all_both P xs ys one.1 two)
 
+-- what holds of all objects of pieces may be weakened
 pub all_less : (P Q : Kept → Type 0) → ((o : Kept) → P o → Q o) → (pieces : List Piece) → AllKeep P pieces → AllKeep Q pieces
 all_less P Q less [] h = tt
 all_less P Q less (piece ∷ pieces) h = (one piece h.0, all_less P Q less pieces h.1)
@@ -81,6 +82,7 @@ piece_new P arts at p (AckPiece flow o) h = (λ new. h, tt)
 piece_new P arts at p (RelPiece flow o) h = (λ new. h, tt)
 piece_new P arts at p (EpochPiece o) h = (λ new. h, tt)
 
+-- what holds of all objects of pieces holds of those that were answered as new
 pub pieces_new : (P : Kept → Type 0) (arts : Arts) (at : Arrival) (p : Parts) (pieces : List Piece) → AllKeep P pieces
     → NewKeep P (handle_all arts at p pieces).answered
 pieces_new P arts at p [] h = tt
@@ -95,7 +97,8 @@ module _ (k : Sizes) where
   listed one is [] all = tt
   listed one is (o ∷ os) all = (is o (All-head (Fits k) o os all), listed one is os (All-tail (Fits k) o os all))
 
-  maybe : (one : Kept → Piece) → ((o : Kept) → Fits k o → PieceKeeps k.keeps (one o)) → (o : Option Kept) → IfSome o (Fits k) → AllKeep k.keeps (map one (as_list o))
+  maybe : (one : Kept → Piece) → ((o : Kept) → Fits k o → PieceKeeps k.keeps (one o)) → (o : Option Kept) → IfSome o (Fits k)
+      → AllKeep k.keeps (map one (as_list o))
   maybe one is None h = tt
   maybe one is (Some o) h = (is o h, tt)
 
@@ -183,7 +186,8 @@ module _ (k : Sizes) where
       let q = peer_in n.parts.prio v.0 in
       all_both k.keeps (map WeightPiece s.weights) (PrioAckPiece s.prio_ack ∷
       (map prio_piece s.prios ++ (slot_pieces s.slot ++ map EpochPiece (as_list s.epoch))))
-      (maybe WeightPiece (λ o fits. fits.holds) (next n.parts.weights (place_of n.fixed v)) (weight_kept n.signer.index (place_of n.fixed v) n.parts.weights h.parts.weights)) (
+      (maybe WeightPiece (λ o fits. fits.holds) (next n.parts.weights (place_of n.fixed v))
+      (weight_kept n.signer.index (place_of n.fixed v) n.parts.weights h.parts.weights)) (
         tt,
         all_both k.keeps (map prio_piece s.prios) (slot_pieces s.slot ++ map EpochPiece (as_list s.epoch))
             (messages_kept (numbers_after n.calls) _ q (all_first (PrioPeerHolds k (numbers_after n.calls) _) (is_peer v.0) no_peer n.parts.prio.peers

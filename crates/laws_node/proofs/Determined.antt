@@ -42,11 +42,13 @@ step_by arts n x c r = kept_or (or_else r (no_paths c)) n (signed_once n (record
 abbrev output_by : Arts → NodeState → PrioSend → Choice → Option SendRefused → Output
 output_by arts n x c r = refused_send (or_else r (no_paths c)) (accepted n.parts.prio.next (prio_sent arts n x c))
 
-module _ (arts : Arts) (n : NodeState) (x : PrioSend) (o : Output) (one two : NodeState) (reads : ReadsBack arts) (arts_fit : ArtsFit arts n.fixed n.signer) (fits : PrioSendFits x) (kept : IsKept arts n) where
+module _ (arts : Arts) (n : NodeState) (x : PrioSend) (o : Output) (one two : NodeState) (reads : ReadsBack arts) (arts_fit : ArtsFit arts n.fixed n.signer)
+    (fits : PrioSendFits x) (kept : IsKept arts n) where
   good : (mask : ℕ) → prio_refusal n x ≡ None → IsChoice n.parts.weights (graph_of n.fixed.topology n.parts.weights) n.fixed.me x.dst x.paths (Mask mask)
       → IsTrue (arts.is_good (prio_body n x mask))
   good mask e is =
-      prio_good arts (sizes_of (λ k. IsTrue (is_signed arts n.fixed k)) n) n x (Mask mask) arts_fit fits (ap (λ (r : Option SendRefused). or_else r None) e) is kept
+      prio_good arts (sizes_of (λ k. IsTrue (is_signed arts n.fixed k)) n) n x (Mask mask) arts_fit fits (ap (λ (r : Option SendRefused). or_else r None) e) is
+      kept
 
   by_choice : prio_refusal n x ≡ None → (c d : Choice)
       → IsChoice n.parts.weights (graph_of n.fixed.topology n.parts.weights) n.fixed.me x.dst x.paths c
@@ -74,7 +76,8 @@ steps_are_determined arts n (Datagram v bytes) o one two reads arts_fit fits kep
 steps_are_determined arts n (Tick now) o one two reads arts_fit fits kept s t = s.1 ∙ sym t.1
 steps_are_determined arts n (SendRel dst payload) o one two reads arts_fit fits kept s t = s.1 ∙ sym t.1
 steps_are_determined arts n (SendPrio x) o one two reads arts_fit fits kept s t =
-    by_refusal arts n x o one two reads arts_fit fits kept (prio_refusal n x) refl s.choice t.choice s.is_choice t.is_choice s.output_is t.output_is s.new_is t.new_is
+    by_refusal arts n x o one two reads arts_fit fits kept (prio_refusal n x) refl s.choice t.choice s.is_choice t.is_choice s.output_is t.output_is s.new_is
+    t.new_is
 steps_are_determined arts n (SetWeight v weight) o one two reads arts_fit fits kept s t = s.1 ∙ sym t.1
 steps_are_determined arts n (TakeRel src) o one two reads arts_fit fits kept s t = s.1 ∙ sym t.1
 steps_are_determined arts n TakePrio o one two reads arts_fit fits kept s t = s.1 ∙ sym t.1

@@ -164,7 +164,8 @@ rels_fit k index len number f same short h =
 ack_fits : (k : Sizes) (index len : ℕ) (f : FlowState) → k.signature_len ≡ len → len < 65536 → FlowHolds k index f
     → IfSome f.ack (IsObject k.format kinds.Ack len)
 ack_fits k index len f same short h =
-    weaker (AckKept k (ends f)) (IsObject k.format kinds.Ack len) f.ack (λ o is. object_of k kinds.Ack len o same short (is_ack (ends f) o.body is.kind) is.fits) h.ack
+    weaker (AckKept k (ends f)) (IsObject k.format kinds.Ack len) f.ack
+    (λ o is. object_of k kinds.Ack len o same short (is_ack (ends f) o.body is.kind) is.fits) h.ack
 
 -- a report but for its boots and the number of its messages
 record SlotFits (k : Sizes) (len : ℕ) (r : Report) : Type 0 where

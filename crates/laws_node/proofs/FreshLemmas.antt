@@ -40,6 +40,7 @@ learned l h boot known most = elim (cases_Bool (nat_lt l.peer_boot boot)) [
       record { known = rw t (grind (arith, nat_tests)); rise = rw t (λ qs r. r); most = rw t (λ qs. rw above refl) }
 ]
 
+-- where the neighbour's boot is that of the last frame, the link goes on as its answer says
 pub one : (l : Link) (h : Head) (right : Bool) → l.seen.0 ≡ l.peer_boot → Goes l h (link_answer l h right)
 one l h right known = elim (cases_Bool ((h.from.0 == l.peer.0) && (h.to.0 == l.me.0))) [
   | inr t ↦ rw t (record { known = known; rise = λ qs r. r; most = λ qs. refl })

@@ -28,7 +28,8 @@ high_row edge e below =
     rw (not, is) refl
 
 -- a row that begins empty
-from_start : (t : Topology) (messages : List Kept) (edge end row : ℕ) → At (start t) edge end row → said (after (start t) messages) row ≡ last_weight edge end 0 (taken (start t) messages)
+from_start : (t : Topology) (messages : List Kept) (edge end row : ℕ) → At (start t) edge end row
+    → said (after (start t) messages) row ≡ last_weight edge end 0 (taken (start t) messages)
 from_start t messages edge end row here =
     many_said (start t) messages edge end row (record { rows = length-replicate (2 * length t.edges) None }) here
     ∙ ap (λ (weight : ℕ). last_weight edge end weight (taken (start t) messages)) (nothing_held (2 * length t.edges) row)

@@ -122,6 +122,7 @@ new_rel right false rels.Full e = absurd (cc)
 new_rel right true rels.InboxFull e = absurd (cc)
 new_rel right false rels.InboxFull e = absurd (cc)
 
+-- an Epoch object that is answered as new was judged new, and its signature was right
 pub new_start : (right : Bool) (j : EpochJudged) → is_new (items.Epoch (epoch_answer right j)) ≡ true → (right ≡ true) × (j ≡ starts.New)
 new_start true starts.New e = (refl, refl)
 new_start false starts.New e = absurd (cc)
@@ -149,7 +150,9 @@ module _ (k : Sizes) (arts : Arts) (at : Arrival) (me : at.fixed.me ≡ k.me) (n
     origins = h.origins;
   }
 
-  weight_holds : (ids index : ℕ) (p : Parts) (o : Kept) → (is_new (items.Weight (weight_answer (is_signed arts at.fixed o) (offer_to at.fixed.me p.weights o.body))) ≡ true → k.keeps o) → InRange k o → PartsHold k numbers ids index p
+  weight_holds : (ids index : ℕ) (p : Parts) (o : Kept)
+      → (is_new (items.Weight (weight_answer (is_signed arts at.fixed o) (offer_to at.fixed.me p.weights o.body))) ≡ true → k.keeps o) → InRange k o
+      → PartsHold k numbers ids index p
       → PartsHold k numbers ids index (handle arts at p (WeightPiece o)).parts
   weight_holds ids index p o keeps range h =
       cond_where (PartsHold k numbers ids index) (is_new (items.Weight (weight_answer (is_signed arts at.fixed o) (offer_to at.fixed.me p.weights o.body))))
@@ -167,10 +170,13 @@ module _ (k : Sizes) (arts : Arts) (at : Arrival) (me : at.fixed.me ≡ k.me) (n
       })
       (λ old. h)
 
-  ack_holds : (ids index : ℕ) (p : Parts) (flow : Flow) (o : Kept) → (is_new (items.Ack (ack_answer (is_signed arts at.fixed o) (is_dated p.lives o.body) (judge_ack_of p.rel flow o.body))) ≡ true → k.keeps o) → InRange k o
+  ack_holds : (ids index : ℕ) (p : Parts) (flow : Flow) (o : Kept)
+      → (is_new (items.Ack (ack_answer (is_signed arts at.fixed o) (is_dated p.lives o.body) (judge_ack_of p.rel flow o.body))) ≡ true → k.keeps o)
+      → InRange k o
       → is_of kinds.Ack o.body ≡ true → PartsHold k numbers ids index p → PartsHold k numbers ids index (handle arts at p (AckPiece flow o)).parts
   ack_holds ids index p flow o keeps range is h =
-      cond_where (PartsHold k numbers ids index) (is_new (items.Ack (ack_answer (is_signed arts at.fixed o) (is_dated p.lives o.body) (judge_ack_of p.rel flow o.body))))
+      cond_where (PartsHold k numbers ids index)
+      (is_new (items.Ack (ack_answer (is_signed arts at.fixed o) (is_dated p.lives o.body) (judge_ack_of p.rel flow o.body))))
       (record p { rel = admit_ack p.rel o }) p
       (λ new.
       let both = new_ack (is_signed arts at.fixed o) (is_dated p.lives o.body) (judge_ack_of p.rel flow o.body) new in
@@ -183,10 +189,13 @@ module _ (k : Sizes) (arts : Arts) (at : Arrival) (me : at.fixed.me ≡ k.me) (n
       })
       (λ old. h)
 
-  rel_holds : (ids index : ℕ) (p : Parts) (flow : Flow) (o : Kept) → (is_new (items.Rel (rel_answer (is_signed arts at.fixed o) (is_dated p.lives o.body) (judge_rel_of p.rel flow o.body))) ≡ true → k.keeps o) → InRange k o
+  rel_holds : (ids index : ℕ) (p : Parts) (flow : Flow) (o : Kept)
+      → (is_new (items.Rel (rel_answer (is_signed arts at.fixed o) (is_dated p.lives o.body) (judge_rel_of p.rel flow o.body))) ≡ true → k.keeps o)
+      → InRange k o
       → is_of kinds.Rel o.body ≡ true → PartsHold k numbers ids index p → PartsHold k numbers ids index (handle arts at p (RelPiece flow o)).parts
   rel_holds ids index p flow o keeps range is h =
-      cond_where (PartsHold k numbers ids index) (is_new (items.Rel (rel_answer (is_signed arts at.fixed o) (is_dated p.lives o.body) (judge_rel_of p.rel flow o.body))))
+      cond_where (PartsHold k numbers ids index)
+      (is_new (items.Rel (rel_answer (is_signed arts at.fixed o) (is_dated p.lives o.body) (judge_rel_of p.rel flow o.body))))
       (record p { rel = admit_rel p.rel o }) p
       (λ new.
       let both = new_rel (is_signed arts at.fixed o) (is_dated p.lives o.body) (judge_rel_of p.rel flow o.body) new in
@@ -214,7 +223,9 @@ module _ (k : Sizes) (arts : Arts) (at : Arrival) (me : at.fixed.me ≡ k.me) (n
   heard_where_holds ids index prios.BadSig number p small h = h
   heard_where_holds ids index prios.Epoch number p small h = h
 
-  prio_holds : (ids index : ℕ) (p : Parts) (number : ℕ) (o : Kept) → number < 2 ^ 64 → (is_new (items.Prio (prio_answer (is_signed arts at.fixed o) (is_dated p.lives o.body) (judge_prio p.prio o.body at.now))) ≡ true → k.keeps o) → InRange k o → PartsHold k numbers ids index p
+  prio_holds : (ids index : ℕ) (p : Parts) (number : ℕ) (o : Kept) → number < 2 ^ 64
+      → (is_new (items.Prio (prio_answer (is_signed arts at.fixed o) (is_dated p.lives o.body) (judge_prio p.prio o.body at.now))) ≡ true → k.keeps o)
+      → InRange k o → PartsHold k numbers ids index p
       → PartsHold k numbers (ids + 1) index (handle arts at p (PrioPiece number o)).parts
   prio_holds ids index p number o small keeps range h =
       let right = is_signed arts at.fixed o in
@@ -250,13 +261,15 @@ module _ (k : Sizes) (arts : Arts) (at : Arrival) (me : at.fixed.me ≡ k.me) (n
       })
       (λ old. h)
 
-  pub handle_holds : (ids index : ℕ) (p : Parts) (piece : Piece) → NewKeep k.keeps (handle arts at p piece).answered → PieceFits k piece → PartsHold k numbers ids index p
+  pub handle_holds : (ids index : ℕ) (p : Parts) (piece : Piece) → NewKeep k.keeps (handle arts at p piece).answered → PieceFits k piece
+      → PartsHold k numbers ids index p
       → PartsHold k numbers (ids + messages_in piece) index (handle arts at p piece).parts
   handle_holds ids index p (WeightPiece o) new fits h =
       parts_more ids (ids + 0) index (handle arts at p (WeightPiece o)).parts (omega arith) (weight_holds ids index p o new.0 fits h)
   handle_holds ids index p (PrioAckPiece number) new fits h = record {
     weights = h.weights;
-    prio = prio_more k numbers numbers ids (ids + 0) index index _ (omega arith) (omega arith) (omega arith) (acked_holds k numbers ids index p.prio at.from.0 number h.prio);
+    prio = prio_more k numbers numbers ids (ids + 0) index index _ (omega arith) (omega arith) (omega arith)
+        (acked_holds k numbers ids index p.prio at.from.0 number h.prio);
     rel = h.rel;
     lives = h.lives;
     origins = h.origins;
@@ -273,7 +286,8 @@ module _ (k : Sizes) (arts : Arts) (at : Arrival) (me : at.fixed.me ≡ k.me) (n
   handle_holds ids index p (EpochPiece o) new fits h =
       parts_more ids (ids + 0) index (handle arts at p (EpochPiece o)).parts (omega arith) (epoch_holds ids index p o new.0 fits h)
 
-  pub all_hold : (ids index : ℕ) (p : Parts) (pieces : List Piece) → NewKeep k.keeps (handle_all arts at p pieces).answered → AllFit k pieces → PartsHold k numbers ids index p
+  pub all_hold : (ids index : ℕ) (p : Parts) (pieces : List Piece) → NewKeep k.keeps (handle_all arts at p pieces).answered → AllFit k pieces
+      → PartsHold k numbers ids index p
       → PartsHold k numbers (ids + messages pieces) index (handle_all arts at p pieces).parts
   all_hold ids index p [] new fits h = parts_more ids (ids + 0) index p (omega arith) h
   all_hold ids index p (piece ∷ pieces) new fits h =
@@ -291,14 +305,19 @@ IsRight arts at o = IsTrue (is_signed arts at.fixed o)
 piece_is_signed : (arts : Arts) (at : Arrival) (p : Parts) (piece : Piece) → NewKeep (IsRight arts at) (handle arts at p piece).answered
 piece_is_signed arts at p (WeightPiece o) = (λ new. (new_weight (is_signed arts at.fixed o) (offer_to at.fixed.me p.weights o.body) new).0, tt)
 piece_is_signed arts at p (PrioAckPiece number) = tt
-piece_is_signed arts at p (PrioPiece number o) = (λ new. (new_prio (is_signed arts at.fixed o) (is_dated p.lives o.body) (judge_prio p.prio o.body at.now) new).0, tt)
+piece_is_signed arts at p (PrioPiece number o) =
+    (λ new. (new_prio (is_signed arts at.fixed o) (is_dated p.lives o.body) (judge_prio p.prio o.body at.now) new).0, tt)
 piece_is_signed arts at p (ReportPiece flow sboot dboot base have) = tt
-piece_is_signed arts at p (AckPiece flow o) = (λ new. (new_ack (is_signed arts at.fixed o) (is_dated p.lives o.body) (judge_ack_of p.rel flow o.body) new).0, tt)
-piece_is_signed arts at p (RelPiece flow o) = (λ new. (new_rel (is_signed arts at.fixed o) (is_dated p.lives o.body) (judge_rel_of p.rel flow o.body) new).0, tt)
+piece_is_signed arts at p (AckPiece flow o) =
+    (λ new. (new_ack (is_signed arts at.fixed o) (is_dated p.lives o.body) (judge_ack_of p.rel flow o.body) new).0, tt)
+piece_is_signed arts at p (RelPiece flow o) =
+    (λ new. (new_rel (is_signed arts at.fixed o) (is_dated p.lives o.body) (judge_rel_of p.rel flow o.body) new).0, tt)
 piece_is_signed arts at p (EpochPiece o) = (λ new. (new_start (is_signed arts at.fixed o) (judge_epoch at.fixed.me p.lives o.body) new).0, tt)
 
-pub new_is_signed : (arts : Arts) (at : Arrival) (p : Parts) (pieces : List Piece) → NewKeep (λ o. IsTrue (is_signed arts at.fixed o)) (handle_all arts at p pieces).answered
+pub new_is_signed : (arts : Arts) (at : Arrival) (p : Parts) (pieces : List Piece)
+    → NewKeep (λ o. IsTrue (is_signed arts at.fixed o)) (handle_all arts at p pieces).answered
 new_is_signed arts at p [] = tt
 new_is_signed arts at p (piece ∷ pieces) =
     let done = handle arts at p piece in
-    new_both (IsRight arts at) done.answered (handle_all arts at done.parts pieces).answered (piece_is_signed arts at p piece) (new_is_signed arts at done.parts pieces)
+    new_both (IsRight arts at) done.answered (handle_all arts at done.parts pieces).answered (piece_is_signed arts at p piece)
+    (new_is_signed arts at done.parts pieces)

@@ -30,6 +30,7 @@ none_is_free format = go (format == FORMAT_1)
     go true = omega arith
     go false = omega arith
 
+-- the boot that is held of a node fits into its field
 pub boot_fits : (k : Sizes) (lives : List Life) (v : NodeId) → All (LifeHolds k) lives → IsInRange (boot_field k.format) (held_boot lives v)
 boot_fits k lives v all = of_life _ (all_first (LifeHolds k) (is_life v) (no_life v) lives all (record { object = tt }))
   where

@@ -58,7 +58,9 @@ less test a l (e ∷ es) h = either a l (test e) es (e ∷ less_first test es) (
 
 some : (test : Entry → Bool) (a l : ℕ) (es : List Entry) → Rises a l es → Rises a l (filter test es)
 some test a l [] h = h
-some test a l (e ∷ es) h = either a l (test e) (e ∷ filter test es) (filter test es) (h.0, some test e.id l es h.1) (lower a e.id l (filter test es) (omega (arith, h.0)) (some test e.id l es h.1))
+some test a l (e ∷ es) h =
+    either a l (test e) (e ∷ filter test es) (filter test es) (h.0, some test e.id l es h.1)
+    (lower a e.id l (filter test es) (omega (arith, h.0)) (some test e.id l es h.1))
 
 -- ---- a store
 
@@ -107,7 +109,8 @@ module _ (given : ℕ → ℕ) where
 
   -- ---- the priority part
 
-  one_peer : (s : PrioState) (v : ℕ) (f : PrioPeer → PrioPeer) → ((q : PrioPeer) → (PeerRises given) q → (PeerRises given) (f q)) → (AllRise given) s → (AllRise given) (prio.with_peer s v (f (prio.peer_in s v)))
+  one_peer : (s : PrioState) (v : ℕ) (f : PrioPeer → PrioPeer) → ((q : PrioPeer) → (PeerRises given) q → (PeerRises given) (f q)) → (AllRise given) s
+      → (AllRise given) (prio.with_peer s v (f (prio.peer_in s v)))
   one_peer s v f keeps h = record { inbox = h.inbox; peers = first_changes (PeerRises given) (prio.is_peer v) prio.no_peer f keeps s.peers h.peers }
 
   carried_keeps : (q : PrioPeer) → (PeerRises given) q → (PeerRises given) (rows.carried q)
@@ -119,7 +122,10 @@ module _ (given : ℕ → ℕ) where
       marked : PrioState
       marked = prio.marked s o.body came
 
-      by : (t : Bool) → (AllRise given) (cond t (record (prio.marked s o.body came) { inbox = put s.inbox o }) (record (prio.marked s o.body came) { peers = map (rows.given o came) s.peers }))
+      by : (t : Bool)
+          → (AllRise given)
+          (cond t (record (prio.marked s o.body came) { inbox = put s.inbox o })
+          (record (prio.marked s o.body came) { peers = map (rows.given o came) s.peers }))
       by true = record { inbox = put_rises (given 0) s.inbox o h.inbox; peers = h.peers }
       by false = record { inbox = h.inbox; peers = all_map (PeerRises given) (PeerRises given) (rows.given o came) (given_rises o came) s.peers h.peers }
 
@@ -150,7 +156,8 @@ module _ (given : ℕ → ℕ) where
   piece arts at p (PrioPiece number o) h =
       let answer = prio_answer (is_signed arts at.fixed o) (is_dated p.lives o.body) (prio.judge_prio p.prio o.body at.now) in
       let new = record p { prio = prio.admit_prio p.prio o (Some at.from) } in
-      heard_keeps answer at.from number (cond (is_new (items.Prio answer)) new p) (which (is_new (items.Prio answer)) new p (admitted p.prio o (Some at.from) h) h)
+      heard_keeps answer at.from number (cond (is_new (items.Prio answer)) new p)
+      (which (is_new (items.Prio answer)) new p (admitted p.prio o (Some at.from) h) h)
   piece arts at p (ReportPiece flow sboot dboot base have) h = unless_new (are_held p.lives flow sboot dboot) _ p refl h
   piece arts at p (AckPiece flow o) h = unless_new _ _ p refl h
   piece arts at p (RelPiece flow o) h = unless_new _ _ p refl h
@@ -192,7 +199,11 @@ module _ (given : ℕ → ℕ) where
   adopted_rises n bytes t h =
       let least = weights_in t.edges in
       let gone = removed_of (nodes_of t) t.edges in
-      record { inbox = h.inbox; peers = all_map (PeerRises given) (PeerRises given) (rows.closed least gone) (closed_rises least gone) n.parts.prio.peers h.peers }
+      record {
+        inbox = h.inbox;
+        peers =
+            all_map (PeerRises given) (PeerRises given) (rows.closed least gone) (closed_rises least gone) n.parts.prio.peers h.peers;
+      }
 
   step_rises : (arts : Arts) (n : NodeState) (input : Input) (output : Output) (new : NodeState) → NodeStep arts n input output new → Whole n → Whole new
   step_rises arts n (Poll v) output new s h =
@@ -207,11 +218,18 @@ module _ (given : ℕ → ℕ) where
   step_rises arts n (Tick now) output new s h =
       let time = time_after n now in
       subst Whole (sym s.1) (settled_keeps arts (at_time n now) (due_now n) (signer_refusal n.signer)
-      (record { inbox = expired_out (given 0) n.parts.prio.inbox time h.inbox; peers = all_map (PeerRises given) (PeerRises given) (λ q. rows.expired q time) (λ q k. expired_out (given q.peer) q.store time k) n.parts.prio.peers h.peers }))
+      (record {
+        inbox = expired_out (given 0) n.parts.prio.inbox time h.inbox;
+        peers =
+            all_map (PeerRises given) (PeerRises given) (λ q. rows.expired q time) (λ q k. expired_out (given q.peer) q.store time k) n.parts.prio.peers
+            h.peers;
+      }))
   step_rises arts n (SendRel dst payload) output new s h = subst Whole (sym s.1) (or_kept (rel_refusal n dst) n _ h h)
   step_rises arts n (SendPrio m) output new s h =
       let o = own_prio arts n m s.choice in
-      subst Whole (sym s.new_is) (or_kept (send_prio_refusal n m s.choice) n (signed_once n (record n.parts { prio = prio.admit_prio n.parts.prio o None })) h (admitted n.parts.prio o None h))
+      subst Whole (sym s.new_is)
+      (or_kept (send_prio_refusal n m s.choice) n (signed_once n (record n.parts { prio = prio.admit_prio n.parts.prio o None })) h
+      (admitted n.parts.prio o None h))
   step_rises arts n (SetWeight v weight) output new s h = subst Whole (sym s.1) (or_kept (weight_refusal n v weight) n _ h h)
   step_rises arts n (TakeRel src) output new s h = subst Whole (sym s.1) h
   step_rises arts n TakePrio output new s h =

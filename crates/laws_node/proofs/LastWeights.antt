@@ -30,6 +30,7 @@ pub record IsUpdateAt (s : WeightState) (b : Body) : Type 0 where
   pub row : ℕ
   pub placed : row_of update.edge.0 edge update.origin.0 ≡ Some row
 
+-- an update that is offered as new is one of its row
 pub new_at : (s : WeightState) (b : Body) → offer_of s b ≡ offers.New → IsUpdateAt s b
 new_at s (bodies.Prio p) new = absurd cc
 new_at s (bodies.Rel r) new = absurd cc
@@ -84,7 +85,11 @@ held_said s kept edge end row whole here at = go (is_of edge end kept.body) refl
     theirs = row_is at.update.edge.0 at.edge at.update.origin.0 at.row at.placed
 
     inside : at.row < length s.rows
-    inside = omega (arith, whole.rows, row_within (length s.edges) at.update.edge.0 at.edge at.update.origin.0 at.row (slice_get_within s.edges at.update.edge.0 at.edge at.there) theirs)
+    inside = omega (
+      arith,
+      whole.rows,
+      row_within (length s.edges) at.update.edge.0 at.edge at.update.origin.0 at.row (slice_get_within s.edges at.update.edge.0 at.edge at.there) theirs,
+    )
 
     go : (t : Bool) → is_of edge end kept.body ≡ t → said (held s kept) row ≡ last_weight edge end (said s row) (kept ∷ [])
     go true is =
@@ -92,23 +97,30 @@ held_said s kept edge end row whole here at = go (is_of edge end kept.body) refl
         let joined : Some here.joined ≡ Some at.edge = sym here.there ∙ ap (slice_get s.edges) (sym equal.0) ∙ at.there in
         let one : here.joined ≡ at.edge = cc in
         let rows : Some row ≡ Some at.row =
-        sym here.placed ∙ ap (λ (n : ℕ). row_of n here.joined end) (sym equal.0) ∙ ap (λ (n : ℕ). row_of at.update.edge.0 here.joined n) (sym equal.1) ∙ ap (λ (f : Edge). row_of at.update.edge.0 f at.update.origin.0) one ∙ at.placed in
+        sym here.placed ∙ ap (λ (n : ℕ). row_of n here.joined end) (sym equal.0) ∙ ap (λ (n : ℕ). row_of at.update.edge.0 here.joined n) (sym equal.1)
+        ∙ ap (λ (f : Edge). row_of at.update.edge.0 f at.update.origin.0) one ∙ at.placed in
         let same : row ≡ at.row = cc in
-        written ∙ ap (λ (r : ℕ). weight_of (held_in (set s.rows at.row (Some kept)) r)) same ∙ ap (λ (found : Option (Option Kept)). weight_of (option_and_then (λ held. held) found)) (get_set_same s.rows at.row (Some kept) inside) ∙ rw is refl
+        written ∙ ap (λ (r : ℕ). weight_of (held_in (set s.rows at.row (Some kept)) r)) same
+        ∙ ap (λ (found : Option (Option Kept)). weight_of (option_and_then (λ held. held) found)) (get_set_same s.rows at.row (Some kept) inside)
+        ∙ rw is refl
     go false is =
         let apart : row ≡ at.row → ⊥ = λ same.
         let mine_there : IsRow edge here.joined end at.row = subst (λ (r : ℕ). IsRow edge here.joined end r) same mine in
         let edges : edge ≡ at.update.edge.0 = same_edge edge at.update.edge.0 here.joined at.edge end at.update.origin.0 at.row mine_there theirs in
         let joined : Some here.joined ≡ Some at.edge = sym here.there ∙ ap (slice_get s.edges) edges ∙ at.there in
         let one : here.joined ≡ at.edge = cc in
-        let theirs_here : IsRow edge here.joined at.update.origin.0 at.row = subst (λ (n : ℕ). IsRow n here.joined at.update.origin.0 at.row) (sym edges) (subst (λ (f : Edge). IsRow at.update.edge.0 f at.update.origin.0 at.row) (sym one) theirs) in
+        let theirs_here : IsRow edge here.joined at.update.origin.0 at.row =
+        subst (λ (n : ℕ). IsRow n here.joined at.update.origin.0 at.row) (sym edges)
+        (subst (λ (f : Edge). IsRow at.update.edge.0 f at.update.origin.0 at.row) (sym one) theirs) in
         let ends : end ≡ at.update.origin.0 = same_end edge here.joined end at.update.origin.0 at.row mine_there theirs_here in
         let yes : is_of edge end kept.body ≡ true = sees ∙ both_back at.update.edge.0 edge at.update.origin.0 end (sym edges) (sym ends) in
         let no : true ≡ false = sym yes ∙ is in cc in
-        written ∙ ap (λ (found : Option (Option Kept)). weight_of (option_and_then (λ held. held) found)) (get_set_other s.rows at.row row (Some kept) apart) ∙ rw is refl
+        written ∙ ap (λ (found : Option (Option Kept)). weight_of (option_and_then (λ held. held) found)) (get_set_other s.rows at.row row (Some kept) apart)
+        ∙ rw is refl
 
 -- a row after a message
-one_said : (s : WeightState) (kept : Kept) (edge end row : ℕ) → HasRows s → At s edge end row → said (after_one s kept) row ≡ last_weight edge end (said s row) (taken_if (offer_of s kept.body) kept)
+one_said : (s : WeightState) (kept : Kept) (edge end row : ℕ) → HasRows s → At s edge end row
+    → said (after_one s kept) row ≡ last_weight edge end (said s row) (taken_if (offer_of s kept.body) kept)
 one_said s kept edge end row whole here = go (offer_of s kept.body) refl
   where
     go : (o : Offer) → offer_of s kept.body ≡ o → said (held_if o s kept) row ≡ last_weight edge end (said s row) (taken_if o kept)
@@ -123,6 +135,7 @@ edges_stay s kept (offers.Low least) = refl
 edges_stay s kept (offers.Old number) = refl
 edges_stay s kept offers.New = refl
 
+-- there are as many rows as before
 pub length_stays : (rows : List (Option Kept)) (kept : Kept) (row : Option ℕ) → length (rows_with row rows kept) ≡ length rows
 length_stays rows kept None = refl
 length_stays rows kept (Some row) = length-set rows row (Some kept)
@@ -146,12 +159,14 @@ at_after s kept edge end row here = record {
 }
 
 -- of two lists, the second goes on from the first
-last_of_both : (edge end weight : ℕ) (first second : List Kept) → last_weight edge end weight (first ++ second) ≡ last_weight edge end (last_weight edge end weight first) second
+last_of_both : (edge end weight : ℕ) (first second : List Kept)
+    → last_weight edge end weight (first ++ second) ≡ last_weight edge end (last_weight edge end weight first) second
 last_of_both edge end weight [] second = refl
 last_of_both edge end weight (kept ∷ first) second = last_of_both edge end (cond (is_of edge end kept.body) (weight_said kept.body) weight) first second
 
 -- a row after many messages
-pub many_said : (s : WeightState) (messages : List Kept) (edge end row : ℕ) → HasRows s → At s edge end row → said (after s messages) row ≡ last_weight edge end (said s row) (taken s messages)
+pub many_said : (s : WeightState) (messages : List Kept) (edge end row : ℕ) → HasRows s → At s edge end row
+    → said (after s messages) row ≡ last_weight edge end (said s row) (taken s messages)
 many_said s [] edge end row whole here = refl
 many_said s (kept ∷ messages) edge end row whole here =
     many_said (after_one s kept) messages edge end row (whole_after s kept whole) (at_after s kept edge end row here)

@@ -141,7 +141,8 @@ none_either : (t : Bool) (ps : List (ℕ × ℕ)) → ps ≡ [] → cond t ps []
 none_either true ps e = e
 none_either false ps e = refl
 
-neighbours : (n : NodeState) (u : NodeId) (r : Option NodeRefused) → cond (not (is_neighbour n u)) (Some refusals.NotNeighbour) r ≡ None → is_neighbour n u ≡ true
+neighbours : (n : NodeState) (u : NodeId) (r : Option NodeRefused) → cond (not (is_neighbour n u)) (Some refusals.NotNeighbour) r ≡ None
+    → is_neighbour n u ≡ true
 neighbours n u r e = by (is_neighbour n u) refl e
   where
     by : (t : Bool) → is_neighbour n u ≡ t → cond (not t) (Some refusals.NotNeighbour) r ≡ None → is_neighbour n u ≡ true
@@ -172,7 +173,8 @@ step_goes arts v n (Poll u) output new s known =
         (one_link n u v (advanced (link_in n u)) [] (neighbours n u _ e) refl known (λ k. rests (link_in n u) (advanced (link_in n u)) refl refl k))
 step_goes arts v n (Datagram u bytes) output new s known =
     subst (λ (o : Output). LinkGoes arts v n (Datagram u bytes) o new) (sym s.0)
-    (subst (λ (m : NodeState). LinkGoes arts v n (Datagram u bytes) (refused_call (call_refusal n u) (arrived arts n u bytes)) m) (sym s.1) (go (call_refusal n u) refl))
+    (subst (λ (m : NodeState). LinkGoes arts v n (Datagram u bytes) (refused_call (call_refusal n u) (arrived arts n u bytes)) m) (sym s.1)
+    (go (call_refusal n u) refl))
   where
     done : NodeState
     done = read_by arts (before_document arts n u bytes) (document_at arts n u bytes)
@@ -217,7 +219,8 @@ greatest_both (x ∷ xs) ys p = greatest_both xs ys (cond (is_above x p) x p)
 
 life_goes : (arts : Arts) (v : NodeId) (n : NodeState) (steps : List (Input × Output)) (last : NodeState) → Life arts n steps last
     → (link_in n v).seen.0 ≡ (link_in n v).peer_boot → Goes (link_in n v) (pairs_of_life arts v steps) (link_in last v)
-life_goes arts v n [] last life known = subst (λ (m : NodeState). Goes (link_in n v) [] (link_in m v)) (sym life) (rests (link_in n v) (link_in n v) refl refl known)
+life_goes arts v n [] last life known =
+    subst (λ (m : NodeState). Goes (link_in n v) [] (link_in m v)) (sym life) (rests (link_in n v) (link_in n v) refl refl known)
 life_goes arts v n (step ∷ steps) last life known =
     let first = step_goes arts v n step.0 step.1 life.0 life.1 known in
     let rest = life_goes arts v life.0 steps last life.2 first.known in

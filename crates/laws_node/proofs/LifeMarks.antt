@@ -23,7 +23,8 @@ window_since window (None ∷ marks) = window_since [] marks ∙ anew (begins_an
 window_since window (Some number ∷ marks) = window_since (with_mark window number) marks ∙ go (begins_anew marks)
   where
     go : (t : Bool) → cond t (window_of (marked_since marks)) (fold with_mark (with_mark window number) (marked_since marks))
-        ≡ cond t (window_of (cond t (marked_since marks) (number ∷ marked_since marks))) (fold with_mark window (cond t (marked_since marks) (number ∷ marked_since marks)))
+        ≡ cond t (window_of (cond t (marked_since marks) (number ∷ marked_since marks)))
+        (fold with_mark window (cond t (marked_since marks) (number ∷ marked_since marks)))
     go true = refl
     go false = refl
 

@@ -126,7 +126,8 @@ offered me s (bodies.Epoch u) e = absurd (cc)
 own_at : (s : WeightState) (u : WeightBody) (row : ℕ) → row_for s.edges (bodies.Weight u) ≡ Some row → IsUpdateAt s (bodies.Weight u)
 own_at s u row e = go (slice_get s.edges u.edge.0) refl e
   where
-    go : (o : Option Edge) → slice_get s.edges u.edge.0 ≡ o → option_and_then (λ (f : Edge). row_of u.edge.0 f u.origin.0) o ≡ Some row → IsUpdateAt s (bodies.Weight u)
+    go : (o : Option Edge) → slice_get s.edges u.edge.0 ≡ o → option_and_then (λ (f : Edge). row_of u.edge.0 f u.origin.0) o ≡ Some row
+        → IsUpdateAt s (bodies.Weight u)
     go None there e = absurd (cc)
     go (Some f) there e = record { update = u; is = refl; edge = f; there = there; row = row; placed = e }
 
@@ -296,7 +297,8 @@ step_turns arts n (SendRel dst payload) output new s same h = go (rel_refusal n 
     done : NodeState
     done = signed_once n (record n.parts { rel = pushed_in n.parts.rel (signed_now arts n (rel_body n dst payload)) })
 
-    go : (r : Option SendRefused) → output.effects ≡ (refused_send r (accepted (rel_number n dst) (rel_sent arts n dst payload))).effects → new ≡ kept_or r n done
+    go : (r : Option SendRefused) → output.effects ≡ (refused_send r (accepted (rel_number n dst) (rel_sent arts n dst payload))).effects
+        → new ≡ kept_or r n done
         → Done n output new
     go None e f = by n output new done (rel_sent arts n dst payload) e f (plain n (rel_sent arts n dst payload) (signed_alone arts (rel_body n dst payload)) h)
     go (Some refused) e f = by n output new n [] e f (plain n [] nothing h)
@@ -308,12 +310,14 @@ step_turns arts n (SendPrio m) output new s same h = go (send_prio_refusal n m s
     done : NodeState
     done = signed_once n (record n.parts { prio = admit_prio n.parts.prio own None })
 
-    go : (r : Option SendRefused) → output.effects ≡ (refused_send r (accepted n.parts.prio.next (prio_sent arts n m s.choice))).effects → new ≡ kept_or r n done
+    go : (r : Option SendRefused) → output.effects ≡ (refused_send r (accepted n.parts.prio.next (prio_sent arts n m s.choice))).effects
+        → new ≡ kept_or r n done
         → Done n output new
     go None e f =
         by n output new done (prio_sent arts n m s.choice) e f
         (plain n (prio_sent arts n m s.choice)
-        (silent_both (signed_effect arts (prio_body n m (mask_in s.choice)) ∷ []) (prio_effects n.parts.prio own None) (signed_alone arts (prio_body n m (mask_in s.choice)))
+        (silent_both (signed_effect arts (prio_body n m (mask_in s.choice)) ∷ []) (prio_effects n.parts.prio own None)
+        (signed_alone arts (prio_body n m (mask_in s.choice)))
         (silent_prio n.parts.prio own None)) h)
     go (Some refused) e f = by n output new n [] e f (plain n [] nothing h)
 step_turns arts n (SetWeight v weight) output new s same h = go (weight_refusal n v weight) refl (ap (λ (o : Output). o.effects) s.0) s.1
@@ -324,7 +328,8 @@ step_turns arts n (SetWeight v weight) output new s same h = go (weight_refusal 
     done : NodeState
     done = signed_once n (record n.parts { weights = held n.parts.weights (signed_now arts n body) })
 
-    go : (r : Option SendRefused) → weight_refusal n v weight ≡ r → output.effects ≡ (refused_send r (accepted (weight_number n v) (weight_sent arts n v weight))).effects
+    go : (r : Option SendRefused) → weight_refusal n v weight ≡ r
+        → output.effects ≡ (refused_send r (accepted (weight_number n v) (weight_sent arts n v weight))).effects
         → new ≡ kept_or r n done → Done n output new
     go None free e f =
         let placed = own_placed n v weight same free in

@@ -74,7 +74,8 @@ module _ (src : ℕ) where
   none old new nodes windows = record {
     nodes = nodes;
     long = ap (λ (ws : List (List ℕ)). length ws) windows;
-    window = ap (λ (ws : List (List ℕ)). window_at ws (place_of new.nodes src)) windows ∙ ap (λ (ns : List NodeId). window_at old.windows (place_of ns src)) nodes;
+    window = ap (λ (ws : List (List ℕ)). window_at ws (place_of new.nodes src)) windows
+        ∙ ap (λ (ns : List NodeId). window_at old.windows (place_of ns src)) nodes;
   }
 
   on : (old mid new : PrioState) (xs ys : List (Option ℕ)) → Marks src old xs mid → Marks src mid ys new → Marks src old (xs ++ ys) new
@@ -90,7 +91,8 @@ module _ (src : ℕ) where
   -- ---- a message comes
 
   spread_marks : (s : PrioState) (o : Kept) (came : Option NodeId) → Marks src s [] (spread s o came)
-  spread_marks s o came = elim (cases_Bool (is_here s o.body)) [ inl t ↦ rw t (none s (record s { inbox = put s.inbox o }) refl refl) | inr t ↦ rw t (none s _ refl refl) ]
+  spread_marks s o came =
+      elim (cases_Bool (is_here s o.body)) [ inl t ↦ rw t (none s (record s { inbox = put s.inbox o }) refl refl) | inr t ↦ rw t (none s _ refl refl) ]
 
   marked_marks : (s : PrioState) (body : Body) (came : Option NodeId) → HasWindows s → is_node s.nodes src ≡ true
       → Marks src s (cond (said (λ p. p.src.0) body == src) (Some (said (λ p. p.seq) body) ∷ []) []) (marked s body came)
@@ -338,7 +340,8 @@ module _ (src : ℕ) where
       done : NodeState
       done = signed_once n (record n.parts { rel = pushed_in n.parts.rel (signed_now arts n (rel_body n dst payload)) })
 
-      go : (r : Option SendRefused) → Done n (SendRel dst payload) (refused_send r (accepted (rel_number n dst) (rel_sent arts n dst payload))) (kept_or r n done)
+      go : (r : Option SendRefused)
+          → Done n (SendRel dst payload) (refused_send r (accepted (rel_number n dst) (rel_sent arts n dst payload))) (kept_or r n done)
       go None = none n.parts.prio n.parts.prio refl refl
       go (Some refused) = none n.parts.prio n.parts.prio refl refl
   step_marks arts n (SendPrio m) output new s h there = by n (SendPrio m) output _ new _ s.output_is s.new_is (go (send_prio_refusal n m s.choice))
@@ -354,7 +357,8 @@ module _ (src : ℕ) where
       done : NodeState
       done = signed_once n (record n.parts { weights = held n.parts.weights (signed_now arts n (weight_body n v weight)) })
 
-      go : (r : Option SendRefused) → Done n (SetWeight v weight) (refused_send r (accepted (weight_number n v) (weight_sent arts n v weight))) (kept_or r n done)
+      go : (r : Option SendRefused)
+          → Done n (SetWeight v weight) (refused_send r (accepted (weight_number n v) (weight_sent arts n v weight))) (kept_or r n done)
       go None = none n.parts.prio n.parts.prio refl refl
       go (Some refused) = none n.parts.prio n.parts.prio refl refl
   step_marks arts n (TakeRel from) output new s h there = by n (TakeRel from) output _ new _ s.0 s.1 (none n.parts.prio n.parts.prio refl refl)
@@ -368,7 +372,8 @@ module _ (src : ℕ) where
 
   life_marks : (arts : Arts) (n : NodeState) (steps : List (Input × Output)) (last : NodeState) → Life arts n steps last → HasWindows n.parts.prio
       → is_node n.parts.prio.nodes src ≡ true → Marks src n.parts.prio (marks_of_life n.fixed.me.0 src steps) last.parts.prio
-  life_marks arts n [] last life h there = subst (λ (m : NodeState). Marks src n.parts.prio [] m.parts.prio) (sym life) (none n.parts.prio n.parts.prio refl refl)
+  life_marks arts n [] last life h there =
+      subst (λ (m : NodeState). Marks src n.parts.prio [] m.parts.prio) (sym life) (none n.parts.prio n.parts.prio refl refl)
   life_marks arts n (step ∷ steps) last life h there =
       let next = life.0 in
       let me : next.fixed.me.0 ≡ n.fixed.me.0 = ap (λ (x : Shape). x.fixed.me.0) (shapes_stay arts n step.0 step.1 next life.1) in

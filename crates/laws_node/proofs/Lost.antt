@@ -16,24 +16,28 @@ use Rattle.laws_node.proofs.Tables.{cond_either, cond_where, or_right, or_where}
 
 -- ---- lists that lose elements
 
+-- what holds of all of a list holds of what is left of it
 pub all_filter : {X : Type 0} (P : X → Type 0) (test : X → Bool) (xs : List X) → All P xs → All P (filter test xs)
 all_filter P test [] all = all
 all_filter P test (x ∷ xs) all =
     let rest = all_filter P test xs (All-tail P x xs all) in
     cond_either (All P) (test x) (x ∷ filter test xs) (filter test xs) (All-cons P x (filter test xs) (All-head P x xs all) rest) rest
 
+-- what is left of a list isn't longer
 pub filter_shorter : {X : Type 0} (test : X → Bool) (xs : List X) → length (filter test xs) ≤ length xs
 filter_shorter test [] = omega arith
 filter_shorter test (x ∷ xs) =
     let rest = filter_shorter test xs in
     cond_either (λ ys. length ys ≤ suc (length xs)) (test x) (x ∷ filter test xs) (filter test xs) (omega (arith, rest)) (omega (arith, rest))
 
+-- what holds of all of a list holds of it without the first that passes
 pub all_less_first : {X : Type 0} (P : X → Type 0) (test : X → Bool) (xs : List X) → All P xs → All P (less_first test xs)
 all_less_first P test [] all = all
 all_less_first P test (x ∷ xs) all =
     cond_either (All P) (test x) xs (x ∷ less_first test xs) (All-tail P x xs all)
     (All-cons P x (less_first test xs) (All-head P x xs all) (all_less_first P test xs (All-tail P x xs all)))
 
+-- a list without the first that passes isn't longer
 pub less_first_shorter : {X : Type 0} (test : X → Bool) (xs : List X) → length (less_first test xs) ≤ length xs
 less_first_shorter test [] = omega arith
 less_first_shorter test (x ∷ xs) =
@@ -45,7 +49,8 @@ pub less_one : {X : Type 0} (test : X → Bool) (xs : List X) → list_any test 
 less_one test [] some = absurd (cc)
 less_one test (x ∷ xs) some =
     cond_where (λ ys. length ys + 1 ≡ suc (length xs)) (test x) xs (x ∷ less_first test xs) (λ is. omega arith)
-    (λ is. or_where (test x) (list_any test xs) (λ passes. absurd (let e = rw is at passes in cc)) (λ later. let rest = less_one test xs later in omega (arith, rest)) some)
+    (λ is. or_where (test x) (list_any test xs) (λ passes. absurd (let e = rw is at passes in cc))
+    (λ later. let rest = less_one test xs later in omega (arith, rest)) some)
 
 -- ---- the entry that goes is there
 
@@ -124,6 +129,7 @@ pub record Goes (es : List Entry) : Type 0 where
   pub is : victim es ≡ Some entry
   pub there : list_any (has_id entry.id) es ≡ true
 
+-- of entries with a new one, one can go
 pub one_goes : (es : List Entry) (new : Entry) → source new < IDS → Goes (es ++ new ∷ [])
 one_goes es new small =
     let all = es ++ new ∷ [] in
@@ -135,7 +141,8 @@ one_goes es new small =
     record {
       entry = some.0;
       is = rw most.is some.1;
-      there = in_filter (has_id some.0.id) (is_of most.best) all (chosen_is_there (λ a b. nat_lt (priority a) (priority b)) (has_id some.0.id) (filter (is_of most.best) all) some.0 some.1 passes);
+      there = in_filter (has_id some.0.id) (is_of most.best) all
+          (chosen_is_there (λ a b. nat_lt (priority a) (priority b)) (has_id some.0.id) (filter (is_of most.best) all) some.0 some.1 passes);
     }
 
 -- ---- the law
@@ -147,7 +154,8 @@ unless false o e some none = refl
 pub a_full_store_has_a_victim : AFullStoreHasAVictim
 a_full_store_has_a_victim s kept small = (
   λ none.
-      let room : nat_lt s.capacity (length (arriving s kept)) ≡ false = unless (nat_lt s.capacity (length (arriving s kept))) (victim (arriving s kept)) goes.entry goes.is none in
+      let room : nat_lt s.capacity (length (arriving s kept)) ≡ false =
+      unless (nat_lt s.capacity (length (arriving s kept))) (victim (arriving s kept)) goes.entry goes.is none in
       grind (arith, nat_tests, one_more, room),
   λ room.
       let free : nat_lt s.capacity (length (arriving s kept)) ≡ false = grind (arith, nat_tests, one_more, room) in

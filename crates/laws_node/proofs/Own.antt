@@ -46,6 +46,7 @@ use Rattle.laws_node.proofs.Updates.{own_next_seq, own_row, place_within}
 
 -- ---- the signer goes on
 
+-- where neither of two refuses, each doesn't
 pub either : (o : Option SendRefused) (p : Option SendRefused) → or_else o p ≡ None → (o ≡ None) × (p ≡ None)
 either None p e = (refl, e)
 either (Some x) p e = absurd (cc)
@@ -60,6 +61,7 @@ free s h e =
     let two = if_none (s.index == s.bound) (refusals.NotReserved s.bound) None one.1 in
     grind (arith, nat_tests, two.0, h.index)
 
+-- a signer that doesn't refuse has an index left
 pub left : (s : Signer) → SignerHolds s → signer_refusal s ≡ None → s.index < s.total
 left s h e = omega (arith, free s h e, h.bound)
 
@@ -100,6 +102,7 @@ listed_prio p id e = both_true (is_node p.nodes id) (not (is_node p.removed id))
 
 -- ---- a reliable message
 
+-- where no room is refused, there is a next number
 pub there_is_room : (r : Result ℕ RelRefused) → no_room r ≡ None → (number : ℕ) × (r ≡ Ok number)
 there_is_room (Ok number) e = (number, refl)
 there_is_room (Err rels.BadEnd) e = absurd (cc)
@@ -113,11 +116,13 @@ rel_free n dst e =
     either (no_room (room n.parts.rel dst)) (signer_refusal n.signer)
     (either (no_life (is_unmet n dst)) (or_else (no_room (room n.parts.rel dst)) (signer_refusal n.signer)) e).1
 
+-- what a reliable message that is sent fits
 pub record RelSent (k : Sizes) (n : NodeState) (dst : NodeId) (payload : List ℕ) : Type 0 where
   pub free : signer_refusal n.signer ≡ None
   pub next : IsNextOwn n.parts.rel (rel_body n dst payload)
   pub fields : HasGoodFieldsIn k.format (rel_body n dst payload)
 
+-- a reliable message that isn't refused fits
 pub rel_sent_fits : (k : Sizes) (n : NodeState) (dst : NodeId) (payload : List ℕ) → length payload ≤ MAX_PAYLOAD_BYTES → rel_refusal n dst ≡ None
     → NodeHolds k n → RelSent k n dst payload
 rel_sent_fits k n dst payload short e h =
@@ -185,6 +190,7 @@ mask_fits k n m (Mask mask) e h is =
     (h.parts.weights.edges ∙ sym h.fixed.edges) (h.parts.weights.least ∙ ap length (sym h.fixed.edges)) is
 mask_fits k n m (OnlyPaths found) e h is = absurd (cc)
 
+-- a priority message that isn't refused fits
 pub prio_sent_fits : (k : Sizes) (n : NodeState) (m : PrioSend) (choice : Choice) → PrioSendFits m → send_prio_refusal n m choice ≡ None
     → IsChoice n.parts.weights (graph_of n.fixed.topology n.parts.weights) n.fixed.me m.dst m.paths choice → NodeHolds k n → PrioSent k n m choice
 prio_sent_fits k n m choice fits e is h =
@@ -215,16 +221,21 @@ pub record WeightSent (k : Sizes) (n : NodeState) (v : NodeId) (weight : ℕ) : 
   pub place : row_for k.edges (weight_body n v weight) ≡ Some row
   pub own : OwnUpTo k.me (MAX_OWN_HEARD + (n.signer.index + 1)) (weight_body n v weight)
 
+-- an update that isn't refused fits
 pub weight_sent_fits : (k : Sizes) (n : NodeState) (v : NodeId) (weight : ℕ) → 1 ≤ weight → weight ≤ MAX_WEIGHT → weight_refusal n v weight ≡ None
     → NodeHolds k n → WeightSent k n v weight
 weight_sent_fits k n v weight least most e h = go (edge_to n.fixed v) refl e
   where
     at : (edge : ℕ) → edge_to n.fixed v ≡ Some edge → signer_refusal n.signer ≡ None → WeightSent k n v weight
     at edge is free =
-        let update : WeightBody = record { origin = n.fixed.me; edge = record { 0 = edge }; seq = next_seq n.parts.weights edge n.fixed.me.0; weight = weight } in
+        let update : WeightBody =
+        record { origin = n.fixed.me; edge = record { 0 = edge }; seq = next_seq n.parts.weights edge n.fixed.me.0; weight = weight } in
         let same : weight_body n v weight ≡ bodies.Weight update =
-        ap (λ (o : Option ℕ). bodies.Weight (record { origin = n.fixed.me; edge = record { 0 = edge_or o }; seq = next_seq n.parts.weights (edge_or o) n.fixed.me.0; weight = weight })) is in
-        let number = subst (λ (u : NodeId). (1 ≤ next_seq n.parts.weights edge u.0) × (next_seq n.parts.weights edge u.0 ≤ MAX_OWN_HEARD + n.signer.index + 1)) (sym h.fixed.me)
+        ap (λ (o : Option ℕ). bodies.Weight
+        (record { origin = n.fixed.me; edge = record { 0 = edge_or o }; seq = next_seq n.parts.weights (edge_or o) n.fixed.me.0; weight = weight })) is in
+        let number =
+        subst (λ (u : NodeId). (1 ≤ next_seq n.parts.weights edge u.0) × (next_seq n.parts.weights edge u.0 ≤ MAX_OWN_HEARD + n.signer.index + 1))
+        (sym h.fixed.me)
         (own_next_seq k n.signer.index edge n.parts.weights h.parts.weights) in
         let row = own_row n.fixed.topology.edges edge n.fixed.me.0 v.0 is in
         let within = place_within (joins n.fixed.me.0 v.0) n.fixed.topology.edges edge is in
@@ -232,12 +243,14 @@ weight_sent_fits k n v weight least most e h = go (edge_to n.fixed v) refl e
           free = free;
           fields = subst (HasGoodFieldsIn k.format) (sym same) (weight_is_good k.format update (record {
             origin = h.fixed.is_node;
-            edge = omega (arith, within, subst (λ (f : ℕ). length n.fixed.topology.edges ≤ max_edges f) h.fixed.format h.fixed.topology.ranges.graph.edge_count);
+            edge = omega
+                (arith, within, subst (λ (f : ℕ). length n.fixed.topology.edges ≤ max_edges f) h.fixed.format h.fixed.topology.ranges.graph.edge_count);
             seq = (number.0, omega (arith, number.1, h.signer.index, h.signer.bound, h.signer.total));
             weight = (least, most);
           }));
           row = row.0;
-          place = subst (λ (b : Body). row_for k.edges b ≡ Some row.0) (sym same) (ap (λ (es : List Edge). row_in es edge n.fixed.me.0) (sym h.fixed.edges) ∙ row.1);
+          place = subst (λ (b : Body). row_for k.edges b ≡ Some row.0) (sym same)
+              (ap (λ (es : List Edge). row_in es edge n.fixed.me.0) (sym h.fixed.edges) ∙ row.1);
           own = subst (OwnUpTo k.me (MAX_OWN_HEARD + (n.signer.index + 1))) (sym same) (λ mine. omega (arith, number.1));
         }
 

@@ -24,6 +24,7 @@ use Rattle.laws_node.specs.Stores.{EntryHolds, IsPrio, PrioHolds, PrioPeerHolds,
 use Rattle.laws_node.proofs.Lost.{all_filter, all_less_first, filter_shorter, less_first_shorter, less_one, one_goes}
 use Rattle.laws_node.proofs.Tables.{all_drop_first, all_first, all_push, all_replaced, all_weaker, cond_either, cond_where}
 
+-- what holds of all of a list holds of it mapped
 pub all_map : {X Y : Type 0} (P : X → Type 0) (Q : Y → Type 0) (f : X → Y) → ((x : X) → P x → Q (f x)) → (xs : List X) → All P xs → All Q (map f xs)
 all_map P Q f step [] all = All-nil Q
 all_map P Q f step (x ∷ xs) all = All-cons Q (f x) (map f xs) (step x (All-head P x xs all)) (all_map P Q f step xs (All-tail P x xs all))
@@ -97,6 +98,7 @@ less_oldest_holds k ids s h = record {
 
 -- ---- the row of a neighbour
 
+-- the row of no neighbour holds nothing
 pub no_peer_holds : (k : Sizes) (numbers ids : ℕ) → PrioPeerHolds k numbers ids no_peer
 no_peer_holds k numbers ids = record {
   store = record { last = omega arith; bounded = omega arith; capacity = omega arith; entries = All-nil (EntryHolds k 0) };

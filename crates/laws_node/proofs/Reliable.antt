@@ -70,7 +70,8 @@ with_flow_holds k index more r flow g up same new h = record {
   flows = all_replaced (FlowHolds k index) (FlowHolds k more) (is_flow flow) g r.flows (λ f. flow_more k index more f up)
       (λ f is there.
       let e = same_ends f flow is in
-      new (read k index r.flows flow (subst (λ (fl : Flow). IsNode k.format fl.src) e there.src) (subst (λ (fl : Flow). IsNode k.format fl.dst) e there.dst) h.flows))
+      new (read k index r.flows flow (subst (λ (fl : Flow). IsNode k.format fl.src) e there.src) (subst (λ (fl : Flow). IsNode k.format fl.dst) e there.dst)
+      h.flows))
       h.flows;
   keys = same_rows flow g same r.flows ∙ h.keys;
   once = subst (AllPairs Differ) (sym (same_rows flow g same r.flows)) h.once;
@@ -208,7 +209,8 @@ pub in_range : (format : ℕ) (nodes : List NodeId) (u : NodeId) → All (IsNode
 in_range format [] u all e = absurd (cc)
 in_range format (x ∷ nodes) u all e =
     or_where (x.0 == u.0) (list_any (λ y. y.0 == u.0) nodes)
-    (λ is. let same : x.0 ≡ u.0 = grind (arith, nat_tests, is) in subst (λ (n : ℕ). (1 ≤ n) × (n ≤ max_nodes format)) same (All-head (IsNode format) x nodes all))
+    (λ is. let same : x.0 ≡ u.0 = grind (arith, nat_tests, is) in
+    subst (λ (n : ℕ). (1 ≤ n) × (n ≤ max_nodes format)) same (All-head (IsNode format) x nodes all))
     (in_range format nodes u (All-tail (IsNode format) x nodes all)) e
 
 pub pushed_in_holds : (k : Sizes) (index : ℕ) (r : RelState) (m : Kept) → IsNextOwn r m.body → Fits k m
@@ -336,7 +338,10 @@ due_fits k index r ack e h =
             dst = facts.dst;
             sboot = source;
             dboot = target;
-            seq = (omega (arith, some, ap (λ (g : FlowState). g.at.have) read_again), omega (arith, facts.standing.numbers, ap (λ (g : FlowState). g.at.have) read_again));
+            seq = (
+              omega (arith, some, ap (λ (g : FlowState). g.at.have) read_again),
+              omega (arith, facts.standing.numbers, ap (λ (g : FlowState). g.at.have) read_again),
+            );
           }));
     }
 
@@ -359,7 +364,8 @@ settled_holds k index r ack sboot dboot o e is fits h =
     go : (place : Option ℕ) → RelHolds k index (with_flow r (flow_said o.body) (concluded (flow_in r.flows (flow_said o.body)) o))
         → RelHolds k index (settled_at r o place)
     go None done = h
-    go (Some place) done = record { me = done.me; bound = done.bound; nodes = done.nodes; known = done.known; flows = done.flows; keys = done.keys; once = done.once }
+    go (Some place) done =
+        record { me = done.me; bound = done.bound; nodes = done.nodes; known = done.known; flows = done.flows; keys = done.keys; once = done.once }
 
 -- ---- the acknowledgement that is signed at a tick, under the boots that are held
 
@@ -368,6 +374,7 @@ pub record IsDated (n : NodeState) (ack : Ack) : Type 0 where
   pub is_due : due n.parts.rel ≡ Some raw
   pub is : ack ≡ dated n.parts.lives raw
 
+-- the acknowledgement that is due has the boots that the node holds
 pub dated_due : (n : NodeState) (ack : Ack) → due_now n ≡ Some ack → IsDated n ack
 dated_due n ack e = go (due n.parts.rel) refl e
   where
@@ -379,6 +386,7 @@ pub record DueNowFits (k : Sizes) (ack : Ack) : Type 0 where
   pub mine : ack.dst ≡ k.me
   pub fields : HasGoodFieldsIn k.format (bodies.Ack ack)
 
+-- the acknowledgement that is due fits
 pub due_now_fits : {numbers ids index : ℕ} (k : Sizes) (n : NodeState) (ack : Ack) → due_now n ≡ Some ack → PartsHold k numbers ids index n.parts
     → DueNowFits k ack
 due_now_fits {index = index} k n ack e h =

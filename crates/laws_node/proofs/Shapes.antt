@@ -134,8 +134,10 @@ marked_shape prios.Epoch v number p = refl
 
 piece_shape : (arts : Arts) (at : Arrival) (p : Parts) (piece : Piece) → parts_shape (handle arts at p piece).parts ≡ parts_shape p
 piece_shape arts at p (WeightPiece o) =
-    either (is_new (items.Weight (weight_answer (is_signed arts at.fixed o) (offer_to at.fixed.me p.weights o.body)))) (record p { weights = weights.held p.weights o }) p (of_weights p (weights.held p.weights o) (held_shape p.weights o))
-piece_shape arts at p (PrioAckPiece number) = of_prio p (prio.acked p.prio at.from.0 number) (one_peer p.prio at.from.0 (λ q. rows.acked q number) (acked_shape number))
+    either (is_new (items.Weight (weight_answer (is_signed arts at.fixed o) (offer_to at.fixed.me p.weights o.body))))
+    (record p { weights = weights.held p.weights o }) p (of_weights p (weights.held p.weights o) (held_shape p.weights o))
+piece_shape arts at p (PrioAckPiece number) =
+    of_prio p (prio.acked p.prio at.from.0 number) (one_peer p.prio at.from.0 (λ q. rows.acked q number) (acked_shape number))
 piece_shape arts at p (PrioPiece number o) =
     let answer = prio_answer (is_signed arts at.fixed o) (is_dated p.lives o.body) (prio.judge_prio p.prio o.body at.now) in
     let admitted = record p { prio = prio.admit_prio p.prio o (Some at.from) } in
@@ -145,9 +147,11 @@ piece_shape arts at p (ReportPiece flow sboot dboot base have) =
     either (are_held p.lives flow sboot dboot) (record p { rel = rel.reported p.rel at.from flow base have }) p
     (of_rel p (rel.reported p.rel at.from flow base have) (reported_shape p.rel at.from flow base have))
 piece_shape arts at p (AckPiece flow o) =
-    either (is_new (items.Ack (ack_answer (is_signed arts at.fixed o) (is_dated p.lives o.body) (rel.judge_ack_of p.rel flow o.body)))) (record p { rel = rel.admit_ack p.rel o }) p (of_rel p (rel.admit_ack p.rel o) (acknowledged_shape p.rel o))
+    either (is_new (items.Ack (ack_answer (is_signed arts at.fixed o) (is_dated p.lives o.body) (rel.judge_ack_of p.rel flow o.body))))
+    (record p { rel = rel.admit_ack p.rel o }) p (of_rel p (rel.admit_ack p.rel o) (acknowledged_shape p.rel o))
 piece_shape arts at p (RelPiece flow o) =
-    either (is_new (items.Rel (rel_answer (is_signed arts at.fixed o) (is_dated p.lives o.body) (rel.judge_rel_of p.rel flow o.body)))) (record p { rel = rel.admit_rel p.rel o }) p (of_rel p (rel.admit_rel p.rel o) (new_rel_shape p.rel o))
+    either (is_new (items.Rel (rel_answer (is_signed arts at.fixed o) (is_dated p.lives o.body) (rel.judge_rel_of p.rel flow o.body))))
+    (record p { rel = rel.admit_rel p.rel o }) p (of_rel p (rel.admit_rel p.rel o) (new_rel_shape p.rel o))
 piece_shape arts at p (EpochPiece o) =
     either (is_new (items.Epoch (epoch_answer (is_signed arts at.fixed o) (judge_epoch at.fixed.me p.lives o.body)))) (met p o) p (met_shape p o)
 
@@ -198,7 +202,8 @@ settled_node arts n None refusal = refl
 settled_node arts n (Some ack) (Some refusal) = refl
 settled_node arts n (Some ack) None =
     let o = signed_now arts n (bodies.Ack ack) in
-    done n n.links (record n.parts { rel = rel.settled n.parts.rel o }) refl (of_rel n.parts (rel.settled n.parts.rel o) (settled_shape n.parts.rel o (rel.due_place n.parts.rel)))
+    done n n.links (record n.parts { rel = rel.settled n.parts.rel o }) refl
+    (of_rel n.parts (rel.settled n.parts.rel o) (settled_shape n.parts.rel o (rel.due_place n.parts.rel)))
 
 -- ---- another version of the topology
 
@@ -256,12 +261,15 @@ shapes_stay arts n (SendRel dst payload) output new s =
     let o = signed_now arts n (rel_body n dst payload) in
     let r = rel.pushed_in n.parts.rel o in
     let p : Parts = record n.parts { rel = r } in
-    ap shape_of s.1 ∙ or_kept (rel_refusal n dst) n (signed_once n p) (done n n.links p refl (of_rel n.parts r (one_flow n.parts.rel (flow_said o.body) (λ f. pushed f o) (λ f. refl))))
+    ap shape_of s.1
+    ∙ or_kept (rel_refusal n dst) n (signed_once n p)
+    (done n n.links p refl (of_rel n.parts r (one_flow n.parts.rel (flow_said o.body) (λ f. pushed f o) (λ f. refl))))
 shapes_stay arts n (SendPrio m) output new s =
     let o = own_prio arts n m s.choice in
     let q = prio.admit_prio n.parts.prio o None in
     let p : Parts = record n.parts { prio = q } in
-    ap shape_of s.new_is ∙ or_kept (send_prio_refusal n m s.choice) n (signed_once n p) (done n n.links p refl (of_prio n.parts q (admitted_shape n.parts.prio o None)))
+    ap shape_of s.new_is
+    ∙ or_kept (send_prio_refusal n m s.choice) n (signed_once n p) (done n n.links p refl (of_prio n.parts q (admitted_shape n.parts.prio o None)))
 shapes_stay arts n (SetWeight v weight) output new s =
     let o = signed_now arts n (weight_body n v weight) in
     let w = weights.held n.parts.weights o in
@@ -312,7 +320,8 @@ shapes_begin f signer keys buffer store =
     let updates : weight_shape (weights.start t) ≡ start.weights =
     ap₂ (λ (r : ℕ) (c : ℕ). weight_with t.edges r c) (length-replicate (2 * length t.edges) None) (length-replicate (length t.nodes) None) in
     let urgent : prio_shape (prio.start f.me.0 nodes (map as_neighbour ns) store) ≡ start.prio =
-    ap₂ (λ (ps : List PeerShape) (n : ℕ). record { me = f.me.0; nodes = nodes; inbox = store; peers = ps; windows = n }) places (length-replicate (length nodes) []) in
+    ap₂ (λ (ps : List PeerShape) (n : ℕ). record { me = f.me.0; nodes = nodes; inbox = store; peers = ps; windows = n }) places
+    (length-replicate (length nodes) []) in
     let reliable : rel_shape (rel.start f.me nodes (map (λ n. n.0) ns) buffer) ≡ start.rel =
     ap₂ (λ (fs : List Flow) (ps : List RelPeerShape). record { me = f.me; nodes = nodes; bound = buffer; flows = fs; peers = ps })
     (same_flows (rel.pairs_of nodes)) peers in

@@ -67,7 +67,8 @@ sizes_with P f buffer store = record {
 }
 
 -- the same sizes are read off what was kept
-renamed : (P : Kept → Type 0) (f : Fixed) (buffer store : ℕ) (n : NodeState) → n.fixed ≡ f → NodeHolds (sizes_with P f buffer store) n → NodeHolds (sizes_of P n) n
+renamed : (P : Kept → Type 0) (f : Fixed) (buffer store : ℕ) (n : NodeState) → n.fixed ≡ f → NodeHolds (sizes_with P f buffer store) n
+    → NodeHolds (sizes_of P n) n
 renamed P f buffer store n same h =
     subst (λ (c : ℕ). NodeHolds (sizes_with P n.fixed n.parts.rel.bound c) n) (sym h.parts.prio.capacity)
     (subst (λ (b : ℕ). NodeHolds (sizes_with P n.fixed b store) n) (sym h.parts.rel.bound)
@@ -89,7 +90,9 @@ not_worn n v e most =
 
 -- what is asked of the message that is signed next
 abbrev pub Owns : Sizes → Arts → NodeState → Body → Type 0
-Owns k arts n body = signer_of body ≡ n.fixed.me → HasGoodFieldsIn n.fixed.topology.format body → IsAbout n.fixed.topology body → n.signer.index < n.signer.total → k.keeps (signed_now arts n body)
+Owns k arts n body =
+    signer_of body ≡ n.fixed.me → HasGoodFieldsIn n.fixed.topology.format body → IsAbout n.fixed.topology body → n.signer.index < n.signer.total
+    → k.keeps (signed_now arts n body)
 
 pub signed_once_holds : (s : Signer) → s.index < s.bound → SignerHolds s → SignerHolds (record s { index = s.index + 1 })
 signed_once_holds s below h = record { index = omega (arith, below); bound = h.bound; total = h.total }
@@ -107,7 +110,8 @@ rel_sent_keeps : (k : Sizes) (arts : Arts) (n : NodeState) (dst : NodeId) (paylo
 rel_sent_keeps k arts n dst payload fits short own_keeps e h =
     let sent = rel_sent_fits k n dst payload short e h in
     let own = own_fits arts n k (rel_body n dst payload) fits h.fixed.signature_len
-    (own_keeps refl (in_own_format k n (rel_body n dst payload) h sent.fields) (rel_about k n dst payload e h) (left n.signer h.signer sent.free)) sent.fields in
+    (own_keeps refl (in_own_format k n (rel_body n dst payload) h sent.fields) (rel_about k n dst payload e h) (left n.signer h.signer sent.free))
+    sent.fields in
     record {
       fixed = h.fixed;
       live = h.live;
@@ -131,7 +135,8 @@ prio_sent_keeps : (k : Sizes) (arts : Arts) (n : NodeState) (m : PrioSend) (choi
 prio_sent_keeps k arts n m choice fits sizes own_keeps e is h =
     let sent = prio_sent_fits k n m choice sizes e is h in
     let own = own_fits arts n k (prio_body n m (mask_in choice)) fits h.fixed.signature_len
-    (own_keeps refl (in_own_format k n (prio_body n m (mask_in choice)) h sent.fields) (prio_about k n m choice (me_is_there arts n.fixed n.signer fits) e is h) (left n.signer h.signer sent.free)) sent.fields in
+    (own_keeps refl (in_own_format k n (prio_body n m (mask_in choice)) h sent.fields) (prio_about k n m choice (me_is_there arts n.fixed n.signer fits) e is h)
+    (left n.signer h.signer sent.free)) sent.fields in
     record {
       fixed = h.fixed;
       live = h.live;
@@ -157,7 +162,8 @@ weight_sent_keeps : (k : Sizes) (arts : Arts) (n : NodeState) (v : NodeId) (weig
 weight_sent_keeps k arts n v weight fits least most own_keeps e h =
     let sent = weight_sent_fits k n v weight least most e h in
     let own = own_fits arts n k (weight_body n v weight) fits h.fixed.signature_len
-    (own_keeps refl (in_own_format k n (weight_body n v weight) h sent.fields) (weight_about n v weight (me_is_there arts n.fixed n.signer fits) e) (left n.signer h.signer sent.free)) sent.fields in
+    (own_keeps refl (in_own_format k n (weight_body n v weight) h sent.fields) (weight_about n v weight (me_is_there arts n.fixed n.signer fits) e)
+    (left n.signer h.signer sent.free)) sent.fields in
     record {
       fixed = h.fixed;
       live = h.live;
@@ -234,7 +240,8 @@ first_own k arts n input output body after payload told own mine fields about le
     own body (record { mine = mine; fields = fields; about = about; payload = payload; left = left; before = []; after = after; told = told })
 
 -- after what expired
-tick_holds : (k : Sizes) (arts : Arts) (n : NodeState) (now : ℕ) (output : Output) → ArtsFit arts n.fixed n.signer → now < 2 ^ 64 → output ≡ tick_output arts n now
+tick_holds : (k : Sizes) (arts : Arts) (n : NodeState) (now : ℕ) (output : Output) → ArtsFit arts n.fixed n.signer → now < 2 ^ 64
+    → output ≡ tick_output arts n now
     → OwnKeep arts k.keeps n (Tick now) output.effects → NodeHolds k n → NodeHolds k (after_tick arts n now)
 tick_holds k arts n now output fits small is own h = go (due_now n) refl (signer_refusal n.signer) refl
   where
@@ -261,6 +268,7 @@ tick_holds k arts n now output fits small is own h = go (due_now n) refl (signer
         }))
         is_due e later
 
+-- a step of a node within its bounds leaves it so, and what it keeps is what its answers say
 pub step_holds : (k : Sizes) (arts : Arts) (n : NodeState) (input : Input) (output : Output) (new : NodeState) → ArtsFit arts n.fixed n.signer → InputFits input
     → NewKeep k.keeps output.answered → OwnKeep arts k.keeps n input output.effects → NodeStep arts n input output new → NodeHolds k n → NodeHolds k new
 step_holds k arts n (Poll v) output new fits input news own s h =
@@ -268,25 +276,29 @@ step_holds k arts n (Poll v) output new fits input news own s h =
 step_holds k arts n (Datagram v bytes) output new fits input news own s h =
     subst (NodeHolds k) (sym s.1) (or_holds (NodeHolds k) n _ (call_refusal n v) h
     (λ e. arrival_keeps k arts n v bytes fits input
-    (subst (λ (r : Option NodeRefused). NewKeep k.keeps (refused_call r (arrived arts n v bytes)).answered) e (subst (λ (o : Output). NewKeep k.keeps o.answered) s.0 news))
+    (subst (λ (r : Option NodeRefused). NewKeep k.keeps (refused_call r (arrived arts n v bytes)).answered) e
+    (subst (λ (o : Output). NewKeep k.keeps o.answered) s.0 news))
     (not_worn n v e h.calls) h))
 step_holds k arts n (Tick now) output new fits input news own s h = subst (NodeHolds k) (sym s.1) (tick_holds k arts n now output fits input s.0 own h)
 step_holds k arts n (SendRel dst payload) output new fits input news own s h =
     subst (NodeHolds k) (sym s.1) (or_holds (NodeHolds k) n _ (rel_refusal n dst) h
     (λ e. rel_sent_keeps k arts n dst payload fits input
     (first_own k arts n (SendRel dst payload) output (rel_body n dst payload) [] refl
-    (ap (λ (o : Output). o.effects) s.0 ∙ ap (λ (r : Option SendRefused). (refused_send r (accepted (rel_number n dst) (rel_sent arts n dst payload))).effects) e) own) e h))
+    (ap (λ (o : Output). o.effects) s.0
+    ∙ ap (λ (r : Option SendRefused). (refused_send r (accepted (rel_number n dst) (rel_sent arts n dst payload))).effects) e) own) e h))
 step_holds k arts n (SendPrio m) output new fits input news own s h =
     subst (NodeHolds k) (sym s.new_is) (or_holds (NodeHolds k) n _ (send_prio_refusal n m s.choice) h
     (λ e. prio_sent_keeps k arts n m s.choice fits input
     (first_own k arts n (SendPrio m) output (prio_body n m (mask_in s.choice)) (prio_effects n.parts.prio (own_prio arts n m s.choice) None) refl
-    (ap (λ (o : Output). o.effects) s.output_is ∙ ap (λ (r : Option SendRefused). (refused_send r (accepted n.parts.prio.next (prio_sent arts n m s.choice))).effects) e) own)
+    (ap (λ (o : Output). o.effects) s.output_is
+    ∙ ap (λ (r : Option SendRefused). (refused_send r (accepted n.parts.prio.next (prio_sent arts n m s.choice))).effects) e) own)
     e (s.is_choice (either (prio_refusal n m) (no_paths s.choice) e).0) h))
 step_holds k arts n (SetWeight v weight) output new fits input news own s h =
     subst (NodeHolds k) (sym s.1) (or_holds (NodeHolds k) n _ (weight_refusal n v weight) h
     (λ e. weight_sent_keeps k arts n v weight fits input.0 input.1
     (first_own k arts n (SetWeight v weight) output (weight_body n v weight) (weight_effects (weight_body n v weight)) refl
-    (ap (λ (o : Output). o.effects) s.0 ∙ ap (λ (r : Option SendRefused). (refused_send r (accepted (weight_number n v) (weight_sent arts n v weight))).effects) e) own) e h))
+    (ap (λ (o : Output). o.effects) s.0
+    ∙ ap (λ (r : Option SendRefused). (refused_send r (accepted (weight_number n v) (weight_sent arts n v weight))).effects) e) own) e h))
 step_holds k arts n (TakeRel src) output new fits input news own s h =
     subst (NodeHolds k) (sym s.1) (record {
       fixed = h.fixed;
@@ -324,10 +336,12 @@ step_holds k arts n (Publish document) output new fits input news own s h =
 
 -- ---- with the own signatures valid
 
+-- a call that is refused answers no object where it would answer none
 pub none_called : (o : Output) (r : Option NodeRefused) → o.answered ≡ [] → (refused_call r o).answered ≡ []
 none_called o None e = e
 none_called o (Some refused) e = refl
 
+-- a send that is refused answers no object where it would answer none
 pub none_sent : (o : Output) (r : Option SendRefused) → o.answered ≡ [] → (refused_send r o).answered ≡ []
 none_sent o None e = e
 none_sent o (Some refused) e = refl
@@ -347,8 +361,10 @@ step_new arts n (Datagram v bytes) output new s =
     (pieces_where (reply_at arts n v bytes) (pieces_in n.fixed (sections_in arts n.fixed bytes)))))
 step_new arts n (Tick now) output new s = none_new _ output.answered (ap (λ (o : Output). o.answered) s.0)
 step_new arts n (SendRel dst payload) output new s = none_new _ output.answered (ap (λ (o : Output). o.answered) s.0 ∙ none_sent _ (rel_refusal n dst) refl)
-step_new arts n (SendPrio m) output new s = none_new _ output.answered (ap (λ (o : Output). o.answered) s.output_is ∙ none_sent _ (send_prio_refusal n m s.choice) refl)
-step_new arts n (SetWeight v weight) output new s = none_new _ output.answered (ap (λ (o : Output). o.answered) s.0 ∙ none_sent _ (weight_refusal n v weight) refl)
+step_new arts n (SendPrio m) output new s =
+    none_new _ output.answered (ap (λ (o : Output). o.answered) s.output_is ∙ none_sent _ (send_prio_refusal n m s.choice) refl)
+step_new arts n (SetWeight v weight) output new s =
+    none_new _ output.answered (ap (λ (o : Output). o.answered) s.0 ∙ none_sent _ (weight_refusal n v weight) refl)
 step_new arts n (TakeRel src) output new s = none_new _ output.answered (ap (λ (o : Output). o.answered) s.0)
 step_new arts n TakePrio output new s = none_new _ output.answered (ap (λ (o : Output). o.answered) s.0)
 step_new arts n (Publish document) output new s = none_new _ output.answered (ap (λ (o : Output). o.answered) s.0)

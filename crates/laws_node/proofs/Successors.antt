@@ -26,6 +26,7 @@ same_length same [] (y ∷ ys) e = absurd (cc)
 same_length same (x ∷ xs) [] e = absurd (cc)
 same_length same (x ∷ xs) (y ∷ ys) e = ap suc (same_length same xs ys (both (same x y) (pointwise same xs ys) e).1)
 
+-- there is a weight for each edge
 pub length_weights : (edges : List Edge) → length (weights_in edges) ≡ length edges
 length_weights [] = refl
 length_weights (e ∷ edges) = ap suc (length_weights edges)
@@ -90,6 +91,7 @@ pub record Later (old new : Topology) : Type 0 where
   pub ends : pointwise has_same_ends old.edges new.edges ≡ true
   pub stay : list_any (returns old.edges new.edges) old.nodes ≡ false
 
+-- a topology that succeeds another is a later one of the same nodes and edges
 pub later : (old new : Topology) → succeeds old new ≡ true → Later old new
 later old new e =
     let above = nat_lt old.version new.version in

@@ -4,6 +4,7 @@ use Rattle.std.specs.List.{All, slice_get}
 use Rattle.std.proofs.lemmas.List.Elements.{All-cons, All-head, All-nil, All-tail}
 use Rattle.sp_base.specs.Rows.{first_where, replace_where}
 
+-- what holds of both holds of whichever is chosen
 pub cond_either : {X : Type 0} (P : X → Type 0) (t : Bool) (x y : X) → P x → P y → P (cond t x y)
 cond_either P true x y px py = px
 cond_either P false x y px py = py
@@ -22,11 +23,13 @@ pub or_right : (a b : Bool) → b ≡ true → (a || b) ≡ true
 or_right true b is = refl
 or_right false b is = is
 
+-- what holds of all and of the default holds of the first that passes
 pub all_first : {X : Type 0} (P : X → Type 0) (test : X → Bool) (none : X) (xs : List X) → All P xs → P none → P (first_where test none xs)
 all_first P test none [] all p = p
 all_first P test none (x ∷ xs) all p =
     cond_either P (test x) x (first_where test none xs) (All-head P x xs all) (all_first P test none xs (All-tail P x xs all) p)
 
+-- what holds of all and of the new one holds after a replacement
 pub all_replace : {X : Type 0} (P : X → Type 0) (test : X → Bool) (y : X) (xs : List X) → All P xs → P y → All P (replace_where test y xs)
 all_replace P test y [] all p = All-nil P
 all_replace P test y (x ∷ xs) all p =
@@ -52,19 +55,23 @@ replace_keys {X} {K} key test y same (x ∷ xs) =
     cond_where (λ (ys : List X). map key ys ≡ map key (x ∷ xs)) (test x) (y ∷ xs) (x ∷ replace_where test y xs)
     (λ is. ap (λ (k : K). k ∷ map key xs) (sym (same x is))) (λ is. ap (λ (ks : List K). key x ∷ ks) (replace_keys key test y same xs))
 
+-- what holds of all of a list may be weakened
 pub all_weaker : {X : Type 0} (P Q : X → Type 0) (xs : List X) → ((x : X) → P x → Q x) → All P xs → All Q xs
 all_weaker P Q [] weaker all = All-nil Q
 all_weaker P Q (x ∷ xs) weaker all = All-cons Q x xs (weaker x (All-head P x xs all)) (all_weaker P Q xs weaker (All-tail P x xs all))
 
+-- what holds of all and of one more holds of all with it
 pub all_push : {X : Type 0} (P : X → Type 0) (xs : List X) (y : X) → All P xs → P y → All P (xs ++ y ∷ [])
 all_push P [] y all p = All-cons P y [] p (All-nil P)
 all_push P (x ∷ xs) y all p = All-cons P x (xs ++ y ∷ []) (All-head P x xs all) (all_push P xs y (All-tail P x xs all) p)
 
+-- what holds of all holds of those behind the first ones
 pub all_drop_first : {X : Type 0} (P : X → Type 0) (n : ℕ) (xs : List X) → All P xs → All P (drop n xs)
 all_drop_first P zero xs all = all
 all_drop_first P (suc n) [] all = All-nil P
 all_drop_first P (suc n) (x ∷ xs) all = all_drop_first P n xs (All-tail P x xs all)
 
+-- what holds of all holds of the one at a place
 pub all_get : {X : Type 0} (P : X → Type 0) (xs : List X) (i : ℕ) (x : X) → All P xs → slice_get xs i ≡ Some x → P x
 all_get P [] i x all at = absurd (cc)
 all_get P (a ∷ xs) zero x all at = subst P (let e : a ≡ x = cc in e) (All-head P a xs all)

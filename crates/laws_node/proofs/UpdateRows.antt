@@ -28,7 +28,8 @@ pub row_is : (edge : ℕ) (e : Edge) (end row : ℕ) → row_of edge e end ≡ S
 row_is edge e end row at = low (e.low.0 == end) refl
   where
     high : (t : Bool) → (e.high.0 == end) ≡ t → (e.low.0 == end) ≡ false → IsRow edge e end row
-    high true is not = let found : Some (2 * edge + 1) ≡ Some row = rw (not, is) at at in inr ((let same : 2 * edge + 1 ≡ row = cc in sym same), sym (eqb-true _ _ is))
+    high true is not = let found : Some (2 * edge + 1) ≡ Some row = rw (not, is) at at in
+        inr ((let same : 2 * edge + 1 ≡ row = cc in sym same), sym (eqb-true _ _ is))
     high false is not = absurd (let found : None ≡ Some row = rw (not, is) at at in cc)
 
     low : (t : Bool) → (e.low.0 == end) ≡ t → IsRow edge e end row

@@ -34,7 +34,13 @@ own_more me number more (bodies.Epoch a) up own = tt
 
 update_more : (k : Sizes) (index more row : ℕ) (o : Kept) → index ≤ more → UpdateHolds k index row o → UpdateHolds k more row o
 update_more k index more row o up h =
-    record { kind = h.kind; place = h.place; fits = h.fits; own = own_more k.me (MAX_OWN_HEARD + index) (MAX_OWN_HEARD + more) o.body (omega (arith, up)) h.own }
+    record {
+      kind = h.kind;
+      place = h.place;
+      fits = h.fits;
+      own =
+          own_more k.me (MAX_OWN_HEARD + index) (MAX_OWN_HEARD + more) o.body (omega (arith, up)) h.own;
+    }
 
 some_weaker : {X : Type 0} (P Q : X → Type 0) (o : Option X) → ((x : X) → P x → Q x) → IfSome o P → IfSome o Q
 some_weaker P Q None weaker p = tt
@@ -234,6 +240,7 @@ own_row edges edge me v at =
     ends e both false one true two there = (2 * edge + 1, rw (there, one, two) refl)
     ends e both false one false two there = absurd (grind (arith, nat_tests, both, one, two))
 
+-- the place that `position` tells is within the list
 pub place_within : {X : Type 0} (test : X → Bool) (xs : List X) (i : ℕ) → position test xs ≡ Some i → i < length xs
 place_within test [] i at = absurd (cc)
 place_within test (x ∷ xs) i at = (is_first test (x ∷ xs) i x at).within

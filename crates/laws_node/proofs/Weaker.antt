@@ -67,6 +67,7 @@ module _ (k : Sizes) (Q : Kept → Type 0) (less : (o : Kept) → k.keeps o → 
   life_weaker : (l : Life) → LifeHolds k l → LifeHolds (asking Q k) l
   life_weaker l h = record { object = epoch_weaker l.node l.object h.object }
 
+  -- a node within its bounds is so where less is asked of what it keeps
   pub node_weaker : (n : NodeState) → NodeHolds k n → NodeHolds (asking Q k) n
   node_weaker n h = record {
     fixed = record {
@@ -107,7 +108,8 @@ module _ (k : Sizes) (Q : Kept → Type 0) (less : (o : Kept) → k.keeps o → 
         bound = h.parts.rel.bound;
         nodes = h.parts.rel.nodes;
         known = h.parts.rel.known;
-        flows = all_weaker (FlowHolds k n.signer.index) (FlowHolds (asking Q k) n.signer.index) n.parts.rel.flows (flow_weaker n.signer.index) h.parts.rel.flows;
+        flows = all_weaker (FlowHolds k n.signer.index) (FlowHolds (asking Q k) n.signer.index) n.parts.rel.flows (flow_weaker n.signer.index)
+            h.parts.rel.flows;
         keys = h.parts.rel.keys;
         once = h.parts.rel.once;
       };

@@ -30,6 +30,7 @@ found_passes (n ∷ nodes) id d h = elim (cases_Bool (n.0 == id)) [
   | inr t ↦ rw t (found_passes nodes id d (rw t at h))
 ]
 
+-- a node has a place
 pub has_place : (nodes : List NodeId) (id : ℕ) → is_node nodes id ≡ true → (i : ℕ) × (place_of nodes id ≡ Some i)
 has_place nodes id h = go (place_of nodes id) refl
   where
@@ -60,6 +61,7 @@ mark_there ws nodes id src q other = go (place_of nodes id) refl (place_of nodes
       | inr t ↦ get_or-set_other ws i k (with_mark (slice_index_or ws i []) q) [] (λ same. absurd (let wrong : true ≡ false = sym (eq-eqb k i same) ∙ t in cc))
     ]
 
+-- there are as many windows after one more mark
 pub long_with : (ws : List (List ℕ)) (place : Option ℕ) (q : ℕ) → length (windows_with ws place q) ≡ length ws
 long_with ws None q = refl
 long_with ws (Some place) q = length-set ws place (with_mark (slice_index_or ws place []) q)
@@ -72,6 +74,7 @@ less_here ws nodes src long there =
     let within = place_within (λ (n : NodeId). n.0 == src) nodes at.0 at.1 in
     rw at.1 (get_or-set_same ws at.0 [] [] (omega (arith, within, long)))
 
+-- emptying the window of one node leaves those of the others
 pub less_there : (ws : List (List ℕ)) (nodes : List NodeId) (id src : ℕ) → (id ≡ src → ⊥)
     → window_at (windows_less ws (place_of nodes id)) (place_of nodes src) ≡ window_at ws (place_of nodes src)
 less_there ws nodes id src other = go (place_of nodes id) refl (place_of nodes src) refl
@@ -84,6 +87,7 @@ less_there ws nodes id src other = go (place_of nodes id) refl (place_of nodes s
       | inr t ↦ get_or-set_other ws i k [] [] (λ same. absurd (let wrong : true ≡ false = sym (eq-eqb k i same) ∙ t in cc))
     ]
 
+-- there are as many windows after one was emptied
 pub long_less : (ws : List (List ℕ)) (place : Option ℕ) → length (windows_less ws place) ≡ length ws
 long_less ws None = refl
 long_less ws (Some place) = length-set ws place []

@@ -98,6 +98,7 @@ pub under_own : (edges : List Edge) → under edges (weights_in edges) ≡ edges
 under_own [] = refl
 under_own (e ∷ edges) = ap (λ (es : List Edge). e ∷ es) (under_own edges)
 
+-- a node at its start keeps nothing that its topology withdraws
 pub booted_obeys : (f : Fixed) (signer : Signer) (keys : List (List ℕ)) (buffer store : ℕ) → Obeys (booted f signer keys buffer store)
 booted_obeys f signer keys buffer store =
     let t = f.topology in

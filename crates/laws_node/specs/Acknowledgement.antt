@@ -22,9 +22,11 @@ events =
     -- 1 may send two more, which wait for their acknowledgement
     ∷ Rel 1 3 [] ∷ Rel 1 3 [] ∷ Rel 1 3 [] ∷ []
 
+-- what is told of the signature of a message with this number
 abbrev pub signed_rel : ℕ → List ℕ → Effect
 signed_rel number rest = Signed (2 ∷ 1 ∷ 3 ∷ 0 ∷ 0 ∷ 0 ∷ 0 ∷ 0 ∷ 0 ∷ 0 ∷ number ∷ rest)
 
+-- what each event answers and causes, in order
 abbrev pub entries : List (Reply × List Effect)
 entries =
     (Accepted 1, signed_rel 1 (0 ∷ 2 ∷ 104 ∷ 105 ∷ []) ∷ [])
@@ -41,5 +43,6 @@ entries =
     ∷ (Accepted 3, signed_rel 3 (0 ∷ 0 ∷ []) ∷ [])
     ∷ (Refused (Full 1 3), []) ∷ []
 
+-- the story comes out as it is written here
 abbrev pub AcknowledgementIsWorked : Type 0
 AcknowledgementIsWorked = journal begins events ≡ entries

@@ -26,6 +26,7 @@ pub record Follows (v : NodeId) (boot : ℕ) (old new : Parts) : Type 0 where
   pub window : window_in new.prio v.0 ≡ []
   pub flows : (flow : Flow) → flow_in new.rel.flows flow ≡ (if is_end v flow then no_flow flow else flow_in old.rel.flows flow)
 
+-- the law of what a new Epoch object leaves: its boot is held, and flows with that end begin anew
 abbrev pub EpochTaken : Type 0
 EpochTaken = (arts : Arts) (at : Arrival) (p : Parts) (o : Kept)
     → epoch_answer (is_signed arts at.fixed o) (judge_epoch at.fixed.me p.lives o.body) ≡ epoch.New
@@ -36,6 +37,7 @@ abbrev pub BootsNeverFall : Type 0
 BootsNeverFall = (arts : Arts) (old : NodeState) (input : Input) (output : Output) (new : NodeState) (v : NodeId) → NodeStep arts old input output new
     → held_boot old.parts.lives v ≤ held_boot new.parts.lives v
 
+-- the law that no step changes the boot that a node holds of itself
 abbrev pub OwnBootStays : Type 0
 OwnBootStays = (arts : Arts) (old : NodeState) (input : Input) (output : Output) (new : NodeState) → NodeStep arts old input output new
     → held_boot new.parts.lives old.fixed.me ≡ held_boot old.parts.lives old.fixed.me

@@ -20,9 +20,11 @@ abbrev pub IsRel : Body → Type 0
 IsRel (bodies.Rel r) = Unit {0}
 IsRel _ = ⊥
 
+-- a payload that isn't longer than one may be
 abbrev pub IsShort : List ℕ → Type 0
 IsShort payload = length payload ≤ MAX_PAYLOAD_BYTES
 
+-- an acknowledgement that is kept: it is of this flow, and fits
 pub record AckKept (k : Sizes) (flow : Flow) (o : Kept) : Type 0 where
   pub kind : IsAckOf flow o.body
   pub fits : Fits k o
@@ -42,9 +44,11 @@ pub record FlowHolds (k : Sizes) (index : ℕ) (f : FlowState) : Type 0 where
   pub ack : IfSome f.ack (AckKept k (ends f))
   pub inbox : All IsShort f.inbox
 
+-- two flows that aren't the same
 abbrev pub Differ : Flow → Flow → Type 0
 Differ f g = ¬ (f ≡ g)
 
+-- the reliable part within its bounds, with a row for each flow, and with what was said of each alone
 pub record RelHolds (k : Sizes) (index : ℕ) (r : RelState) : Type 0 where
   pub me : r.me ≡ k.me
   pub bound : r.bound ≡ k.buffer

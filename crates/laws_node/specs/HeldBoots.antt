@@ -12,9 +12,11 @@ abbrev pub IsEpochOf : NodeId → Body → Type 0
 IsEpochOf v (bodies.Epoch e) = e.origin ≡ v
 IsEpochOf v _ = ⊥
 
+-- an Epoch object that is kept: it is of this node, and fits
 pub record EpochKept (k : Sizes) (v : NodeId) (o : Kept) : Type 0 where
   pub kind : IsEpochOf v o.body
   pub fits : Fits k o
 
+-- a life whose object, if there is one, is its node's
 pub record LifeHolds (k : Sizes) (l : Life) : Type 0 where
   pub object : IfSome l.object (EpochKept k l.node)

@@ -15,9 +15,11 @@ abbrev pub held_if : Offer → WeightState → Kept → WeightState
 held_if offers.New s kept = held s kept
 held_if _ s kept = s
 
+-- what is held after one more update
 abbrev pub after_one : WeightState → Kept → WeightState
 after_one s kept = held_if (offer_of s kept.body) s kept
 
+-- the update, where it was held
 abbrev pub taken_if : Offer → Kept → List Kept
 taken_if offers.New kept = kept ∷ []
 taken_if _ kept = []

@@ -43,6 +43,7 @@ pub record ArtsFit (arts : Arts) (f : Fixed) (s : Signer) : Type 0 where
 abbrev pub ReadsBack : Arts → Type 0
 ReadsBack arts = (body : Body) → IsTrue (arts.is_good body) → arts.read (arts.spell body) ≡ Ok body
 
+-- what a client may ask of a priority message
 abbrev pub PrioSendFits : PrioSend → Type 0
 PrioSendFits m = (1 ≤ m.prio) × (m.prio ≤ MAX_PRIORITY) × (m.expiry < 2 ^ 64) × (length m.payload ≤ MAX_PAYLOAD_BYTES)
 

@@ -26,6 +26,7 @@ pub record LinkHolds (calls : ℕ) (l : Link) : Type 0 where
   pub peer_boot : l.peer_boot < 2 ^ 64
   pub sent : l.sent ≤ calls
 
+-- what is fixed of a node is that of its sizes
 pub record FixedHolds (k : Sizes) (f : Fixed) : Type 0 where
   pub me : f.me ≡ k.me
   pub format : f.topology.format ≡ k.format
@@ -37,11 +38,13 @@ pub record FixedHolds (k : Sizes) (f : Fixed) : Type 0 where
   pub signature_len : f.signature_len ≡ k.signature_len
   pub short : f.signature_len < 65536
 
+-- a signer whose next index is below its bound, and that below its total
 pub record SignerHolds (s : Signer) : Type 0 where
   pub index : s.index ≤ s.bound
   pub bound : s.bound ≤ s.total
   pub total : s.total ≤ most_indexes
 
+-- all parts of a node within their bounds, under so many numbers, ids and signatures
 pub record PartsHold (k : Sizes) (numbers ids index : ℕ) (p : Parts) : Type 0 where
   pub weights : WeightsHold k index p.weights
   pub prio : PrioHolds k numbers ids index p.prio
@@ -61,6 +64,7 @@ pub record LiveHolds (k : Sizes) (l : Live) : Type 0 where
   pub weights : All (λ weight. weight ≤ MAX_WEIGHT) l.weights
   pub document : FitsAFrame l.document
 
+-- a node within its bounds, with each thing in its place
 pub record NodeHolds (k : Sizes) (n : NodeState) : Type 0 where
   pub fixed : FixedHolds k n.fixed
   pub live : LiveHolds k n.live

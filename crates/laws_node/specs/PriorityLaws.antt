@@ -11,9 +11,11 @@ use Rattle.sp_rules.specs.declared.window.TheConstants.{WINDOW}
 abbrev pub WindowSeesItsMarks : Type 0
 WindowSeesItsMarks = (marks : List ℕ) (q : ℕ) → is_seen (window_of marks) q ≡ (is_in q marks || nat_le (q + WINDOW) (greatest marks))
 
+-- the law that a number that was marked is seen
 abbrev pub MarkedIsSeen : Type 0
 MarkedIsSeen = (ms : List ℕ) (q : ℕ) → is_seen (with_mark ms q) q ≡ true
 
+-- the law that what is seen stays seen
 abbrev pub SeenStaysSeen : Type 0
 SeenStaysSeen = (ms : List ℕ) (new q : ℕ) → is_seen ms q ≡ true → is_seen (with_mark ms new) q ≡ true
 

@@ -22,6 +22,7 @@ use Rattle.laws_node.specs.Story.{node, row, toys}
 abbrev pub first : Topology
 first = record row { format = FORMAT_2 }
 
+-- arts by which any four numbers are a document
 abbrev pub changing : Arts
 changing = record toys {
   read_document = λ b. Some (record {
@@ -31,17 +32,21 @@ changing = record toys {
   });
 }
 
+-- a document: its version, two weights, and who signed it
 abbrev pub document : (version low high signer : ℕ) → List ℕ
 document version low high signer = version ∷ low ∷ high ∷ signer ∷ []
 
+-- node 1 at its start
 abbrev pub one : NodeState
 one =
     booted (record { me = node 1; boot = 1; topology = first; document = document 1 10 10 9; signature_len = 1; admin = 9 ∷ []; epochs = false })
     (record { seed = 1 ∷ []; index = 0; bound = 1024; total = 1024 }) ((100 ∷ []) ∷ []) 2 4
 
+-- node 1 after it sent a message to 3
 abbrev pub sent : NodeState
 sent = after_send_rel changing one (node 3) (104 ∷ 105 ∷ [])
 
+-- the output of a document
 abbrev pub answer : DocumentAnswer → List Effect → Output
 answer a told = record { reply = Replaced a; effects = told; answered = []; adopted = None }
 

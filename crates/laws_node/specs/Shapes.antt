@@ -24,6 +24,7 @@ pub record LinkShape : Type 0 where
 abbrev pub link_shape : Link → LinkShape
 link_shape l = record { me = l.me; peer = l.peer; boot = l.boot; key = l.key }
 
+-- what doesn't change of weights
 pub record WeightShape : Type 0 where
   pub edges : List Edge
   pub rows : ℕ
@@ -33,6 +34,7 @@ pub record WeightShape : Type 0 where
 abbrev pub weight_shape : WeightState → WeightShape
 weight_shape w = record { edges = w.edges; rows = length w.rows; cycles = length w.cycles }
 
+-- what doesn't change of a neighbour's store
 pub record PeerShape : Type 0 where
   pub peer : ℕ
   pub edge : ℕ
@@ -42,6 +44,7 @@ pub record PeerShape : Type 0 where
 abbrev pub peer_shape : PrioPeer → PeerShape
 peer_shape q = record { peer = q.peer; edge = q.edge; capacity = q.store.capacity }
 
+-- what doesn't change of the priority part
 pub record PrioShape : Type 0 where
   pub me : ℕ
   pub nodes : List NodeId
@@ -57,6 +60,7 @@ prio_shape s = record { me = s.me; nodes = s.nodes; inbox = s.inbox.capacity; pe
 abbrev pub view_ends : View → Flow
 view_ends w = record { src = w.src; dst = w.dst }
 
+-- what doesn't change of what a neighbour reported
 pub record RelPeerShape : Type 0 where
   pub peer : NodeId
   pub views : List Flow
@@ -65,6 +69,7 @@ pub record RelPeerShape : Type 0 where
 abbrev pub rel_peer_shape : RelPeer → RelPeerShape
 rel_peer_shape p = record { peer = p.peer; views = map view_ends p.views }
 
+-- what doesn't change of the reliable part
 pub record RelShape : Type 0 where
   pub me : NodeId
   pub nodes : List NodeId
@@ -76,6 +81,7 @@ pub record RelShape : Type 0 where
 abbrev pub rel_shape : RelState → RelShape
 rel_shape r = record { me = r.me; nodes = r.nodes; bound = r.bound; flows = map ends r.flows; peers = map rel_peer_shape r.peers }
 
+-- what doesn't change of a node
 pub record Shape : Type 0 where
   pub fixed : Fixed
   pub seed : List ℕ
@@ -107,6 +113,7 @@ shape_of n = record {
 
 -- ---- the laws
 
+-- the law that no step changes a node's shape
 abbrev pub ShapesStay : Type 0
 ShapesStay = (arts : Arts) (old : NodeState) (input : Input) (output : Output) (new : NodeState) → NodeStep arts old input output new
     → shape_of new ≡ shape_of old
@@ -143,6 +150,7 @@ shape_at_start f signer keys buffer store =
       origins = length f.topology.nodes;
     }
 
+-- the law of a node's shape at its start
 abbrev pub ShapesBegin : Type 0
 ShapesBegin =
     (f : Fixed) (signer : Signer) (keys : List (List ℕ)) (buffer store : ℕ)

@@ -7,7 +7,8 @@ use Rattle.sp_msg.specs.Bodies.{HasGoodFieldsIn}
 use Rattle.sp_msg.specs.declared.kept.Kept.{Kept}
 use Rattle.sp_topology.specs.declared.topology.Edge.{Edge}
 
--- this node, the format, the nodes and the edges of its topology, the length of all signatures, the bounds of its flows and stores, and what is asked of each message
+-- this node, the format, the nodes and the edges of its topology, the length of all signatures, the bounds of its flows and stores, and what is asked of each
+-- message
 -- beside its form
 pub record Sizes : Type 1 where
   pub me : NodeId
@@ -25,6 +26,7 @@ pub record Fits (k : Sizes) (o : Kept) : Type 0 where
   pub long : length o.signature ≡ k.signature_len
   pub holds : k.keeps o
 
+-- a node of this format
 abbrev pub IsNode : (format : ℕ) → NodeId → Type 0
 IsNode format v = (1 ≤ v.0) × (v.0 ≤ max_nodes format)
 

@@ -14,6 +14,7 @@ abbrev pub IsPrio : Body → Type 0
 IsPrio (bodies.Prio p) = Unit {0}
 IsPrio _ = ⊥
 
+-- an entry that is a priority message, and whose id was given
 pub record EntryHolds (k : Sizes) (last : ℕ) (e : Entry) : Type 0 where
   pub id : e.id ≤ last
   pub kind : IsPrio e.kept.body
@@ -34,6 +35,7 @@ pub record PrioPeerHolds (k : Sizes) (numbers ids : ℕ) (q : PrioPeer) : Type 0
   pub given : All (λ pair. pair.0 ≤ q.number) q.flight
   pub heard : q.heard < 2 ^ 64
 
+-- the priority part within its bounds, with a row for each neighbour
 pub record PrioHolds (k : Sizes) (numbers ids index : ℕ) (p : PrioState) : Type 0 where
   pub me : p.me ≡ k.me.0
   pub nodes : All (IsNode k.format) p.nodes

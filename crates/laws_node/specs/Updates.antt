@@ -17,12 +17,14 @@ abbrev pub OwnUpTo : NodeId → ℕ → Body → Type 0
 OwnUpTo me number (bodies.Weight u) = (u.origin.0 == me.0) ≡ true → u.seq ≤ number
 OwnUpTo me number _ = Unit {0}
 
+-- an update in the row of its own end, and of this node no later one than it signed
 pub record UpdateHolds (k : Sizes) (index row : ℕ) (o : Kept) : Type 0 where
   pub kind : IsUpdate o.body
   pub place : row_for k.edges o.body ≡ Some row
   pub fits : Fits k o
   pub own : OwnUpTo k.me (MAX_OWN_HEARD + index) o.body
 
+-- each row of weights holds an update of its own end
 pub record WeightsHold (k : Sizes) (index : ℕ) (w : WeightState) : Type 0 where
   pub edges : w.edges ≡ k.edges
   pub least : length w.least ≡ length k.edges

@@ -46,6 +46,7 @@ pub record RisesTo (old new : NodeState) : Type 0 where
   pub version : old.live.version ≤ new.live.version
   pub removed : (u : NodeId) → is_one_of (removed_now old) u ≡ true → is_one_of (removed_now new) u ≡ true
 
+-- the law that a step leaves the version as it is, or takes a later one
 abbrev pub VersionsRise : Type 0
 VersionsRise = (arts : Arts) (old : NodeState) (input : Input) (output : Output) (new : NodeState) → IsSized old
     → NodeStep arts old input output new → RisesTo old new
@@ -62,6 +63,7 @@ pub record RowObeys (weights : List ℕ) (removed : List NodeId) (q : PrioPeer) 
 abbrev pub FlowObeys : List NodeId → FlowState → Type 0
 FlowObeys removed f = is_over removed (ends f) ≡ true → f.active ≡ false
 
+-- parts that know these weights and removed nodes, and keep nothing that they withdraw
 pub record PartsObey (weights : List ℕ) (removed : List NodeId) (p : Parts) : Type 0 where
   pub least : p.weights.least ≡ weights
   pub prio : p.prio.removed ≡ removed

@@ -51,12 +51,14 @@ blind = record { me = 2; nodes = both; removed = []; inbox = empty_store 4; peer
 
 -- priority message 1 from 1 to 2
 abbrev pub urgent : Kept
-urgent = record { body = bodies.Prio (record { src = node 1; dst = node 2; sboot = 0; seq = 1; prio = 1; expiry = 9; mask = mask_from 0; payload = [] }); signature = [] }
+urgent = record
+    { body = bodies.Prio (record { src = node 1; dst = node 2; sboot = 0; seq = 1; prio = 1; expiry = 9; mask = mask_from 0; payload = [] }); signature = [] }
 
 -- the sizes of node 2
 abbrev pub sizes : Sizes
 sizes = record { me = node 2; format = FORMAT_1; nodes = both; edges = []; signature_len = 4756; buffer = 2; store = 4; keeps = λ o. Unit {0} }
 
+-- without its row a message is new again and again
 pub record RowsAreNeeded : Type 0 where
   -- without a row a message is new, its delivery is told, and it is new again; so is a priority message without a window
   pub new : judge_rel_of hollow flow message.body ≡ rels.New

@@ -60,7 +60,8 @@ is_step x y = (is_node x.0 y.0 && is_node x.1 y.1) || (is_node x.0 y.1 && is_nod
 
 -- whether two paths share no node but the ends, and no edge
 abbrev pub are_apart : NodeId → NodeId → List NodeId → List NodeId → Bool
-are_apart s t p q = list_all (λ v. not (list_any (is_node v) q) || (is_node v s || is_node v t)) p && list_all (λ x. not (list_any (is_step x) (steps q))) (steps p)
+are_apart s t p q =
+    list_all (λ v. not (list_any (is_node v) q) || (is_node v s || is_node v t)) p && list_all (λ x. not (list_any (is_step x) (steps q))) (steps p)
 
 not_both : (b : Bool) → not b ≡ true → b ≡ true → ⊥
 not_both true e f = absurd cc
@@ -69,8 +70,10 @@ not_both false e f = absurd cc
 pub apart_by : (s t : NodeId) (p q : List NodeId) → are_apart s t p q ≡ true → Apart s t p q
 apart_by s t p q e = record { nodes = nodes; edges = edges }
   where
-    parts : (list_all (λ v. not (list_any (is_node v) q) || (is_node v s || is_node v t)) p ≡ true) × (list_all (λ x. not (list_any (is_step x) (steps q))) (steps p) ≡ true)
-    parts = both_true (list_all (λ v. not (list_any (is_node v) q) || (is_node v s || is_node v t)) p) (list_all (λ x. not (list_any (is_step x) (steps q))) (steps p)) e
+    parts : (list_all (λ v. not (list_any (is_node v) q) || (is_node v s || is_node v t)) p ≡ true)
+        × (list_all (λ x. not (list_any (is_step x) (steps q))) (steps p) ≡ true)
+    parts = both_true (list_all (λ v. not (list_any (is_node v) q) || (is_node v s || is_node v t)) p)
+        (list_all (λ x. not (list_any (is_step x) (steps q))) (steps p)) e
 
     an_end : (v : NodeId) → (is_node v s || is_node v t) ≡ true → (v ≡ s) ⊎ (v ≡ t)
     an_end v f = go (either_true (is_node v s) (is_node v t) f)
@@ -80,7 +83,9 @@ apart_by s t p q e = record { nodes = nodes; edges = edges }
         go (inr k) = inr (same_node v t (eqb-true _ _ k))
 
     nodes : (v : NodeId) → Contains p v → Contains q v → (v ≡ s) ⊎ (v ≡ t)
-    nodes v on_p on_q = go (either_true (not (list_any (is_node v) q)) (is_node v s || is_node v t) (all_has (λ u. not (list_any (is_node u) q) || (is_node u s || is_node u t)) p v parts.0 (has p v on_p)))
+    nodes v on_p on_q =
+        go (either_true (not (list_any (is_node v) q)) (is_node v s || is_node v t)
+        (all_has (λ u. not (list_any (is_node u) q) || (is_node u s || is_node u t)) p v parts.0 (has p v on_p)))
       where
         go : (not (list_any (is_node v) q) ≡ true) ⊎ ((is_node v s || is_node v t) ≡ true) → (v ≡ s) ⊎ (v ≡ t)
         go (inl f) = absurd (not_both (list_any (is_node v) q) f (has_any (is_node v) q v (has q v on_q) (same_number v.0)))
@@ -106,8 +111,10 @@ apart_by s t p q e = record { nodes = nodes; edges = edges }
         go (inl at) = not_both (list_any (is_step (u, v)) (steps q)) none (has_any (is_step (u, v)) (steps q) (u, v) (has (steps q) (u, v) at) same_way)
         go (inr at) = not_both (list_any (is_step (u, v)) (steps q)) none (has_any (is_step (u, v)) (steps q) (v, u) (has (steps q) (v, u) at) other_way)
 
-pub optimal_by : (g : Graph) (s t : NodeId) (paths : List (List NodeId)) (p : Part → ℤ) → list_all (λ a. int_le (pos 0) (reduced_cost p a)) (residual g s t paths) ≡ true → IsOptimal g s t paths p
-optimal_by g s t paths p e = all_true (λ a. pos 0 ≤ℤ reduced_cost p a) (λ a. int_le (pos 0) (reduced_cost p a)) (λ a is. omega (arith, ints, is)) (residual g s t paths) e
+pub optimal_by : (g : Graph) (s t : NodeId) (paths : List (List NodeId)) (p : Part → ℤ)
+    → list_all (λ a. int_le (pos 0) (reduced_cost p a)) (residual g s t paths) ≡ true → IsOptimal g s t paths p
+optimal_by g s t paths p e =
+    all_true (λ a. pos 0 ≤ℤ reduced_cost p a) (λ a. int_le (pos 0) (reduced_cost p a)) (λ a is. omega (arith, ints, is)) (residual g s t paths) e
 
 abbrev pub is_lower : Edge → Edge → Bool
 is_lower f e = nat_lt f.low.0 e.low.0 || (f.low.0 == e.low.0 && nat_lt f.high.0 e.high.0)

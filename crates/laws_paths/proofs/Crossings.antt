@@ -20,20 +20,24 @@ abbrev pub leaves : (Part → Bool) → Way → ℕ
 leaves cut w = cond (cut w.0 && not (cut w.1)) 1 0
 
 -- what leads from inside to outside leaves somewhere
-line_leaves : (cut : Part → Bool) (u : NodeId) (inner : List NodeId) (t : NodeId) → cut (parts.Out u) ≡ true → cut (parts.In t) ≡ false → 1 ≤ total (leaves cut) (ways u inner t)
+line_leaves : (cut : Part → Bool) (u : NodeId) (inner : List NodeId) (t : NodeId) → cut (parts.Out u) ≡ true → cut (parts.In t) ≡ false
+    → 1 ≤ total (leaves cut) (ways u inner t)
 line_leaves cut u [] t inside outside = rw (inside, outside) (omega arith)
 line_leaves cut u (v ∷ vs) t inside outside = into (cut (parts.In v)) refl (cut (parts.Out v)) refl (λ here. line_leaves cut v vs t here outside)
   where
-    into : (a : Bool) → cut (parts.In v) ≡ a → (b : Bool) → cut (parts.Out v) ≡ b → (cut (parts.Out v) ≡ true → 1 ≤ total (leaves cut) (ways v vs t)) → 1 ≤ total (leaves cut) (ways u (v ∷ vs) t)
+    into : (a : Bool) → cut (parts.In v) ≡ a → (b : Bool) → cut (parts.Out v) ≡ b → (cut (parts.Out v) ≡ true → 1 ≤ total (leaves cut) (ways v vs t))
+        → 1 ≤ total (leaves cut) (ways u (v ∷ vs) t)
     into false e b f rest = rw (inside, e) (omega arith)
     into true e false f rest = rw (inside, e, f) (omega arith)
     into true e true f rest = let more = rest f in rw (inside, e, f) (omega (arith, more))
 
-all_leave : (g : Graph) (s t : NodeId) (ps : List (List NodeId)) (cut : Part → Bool) → All (IsPath g s t) ps → IsCut s t cut → length ps ≤ total (leaves cut) (together ps)
+all_leave : (g : Graph) (s t : NodeId) (ps : List (List NodeId)) (cut : Part → Bool) → All (IsPath g s t) ps → IsCut s t cut
+    → length ps ≤ total (leaves cut) (together ps)
 all_leave g s t [] cut good is = omega arith
 all_leave g s t (p ∷ ps) cut good is =
     let l = laid g s t p (All-head (IsPath g s t) p ps good) in
-    let one : 1 ≤ total (leaves cut) (ways_of p) = subst (λ (ws : List Way). 1 ≤ total (leaves cut) ws) (sym l.ways_are) (line_leaves cut s l.inner t is.source is.destination) in
+    let one : 1 ≤ total (leaves cut) (ways_of p) =
+    subst (λ (ws : List Way). 1 ≤ total (leaves cut) ws) (sym l.ways_are) (line_leaves cut s l.inner t is.source is.destination) in
     let rest = all_leave g s t ps cut (All-tail (IsPath g s t) p ps good) is in
     omega (arith, one, rest, total_append (leaves cut) (ways_of p) (together ps))
 

@@ -13,7 +13,8 @@ use Rattle.sp_graph.specs.Split.{Arc, arcs_of, is_same}
 use Rattle.sp_graph.specs.Walks.{IsPath}
 use Rattle.laws_paths.specs.Laws.{CertifiedIsLeast}
 use Rattle.laws_paths.proofs.Kept.{both_true, is_same_itself, is_same_true}
-use Rattle.laws_paths.proofs.Lists.{Has, any_has, either_true, has_any, has_either, has_left, has_map, has_right, held, or_first, or_true, total, total_append, within}
+use Rattle.laws_paths.proofs.Lists.{Has, any_has, either_true, has_any, has_either, has_left, has_map, has_right, held, or_first, or_true, total, total_append}
+use Rattle.laws_paths.proofs.Lists.{within}
 use Rattle.laws_paths.proofs.Sets.{all_kept, all_once, laid, prices, together}
 use Rattle.laws_paths.proofs.Ways.{Way, arc_at, price, ways, ways_of}
 
@@ -71,7 +72,8 @@ line_is g p u (v ∷ vs) t low =
     omega (arith, ints, one, two, rest)
 
 -- a path on which the potential falls nowhere spends no more than any other path
-pair : (g : Graph) (p : Part → ℤ) (s t : NodeId) (ours theirs : List NodeId) → IsPath g s t ours → IsPath g s t theirs → ((w : Way) → Has (ways_of ours) w → Rises g p w)
+pair : (g : Graph) (p : Part → ℤ) (s t : NodeId) (ours theirs : List NodeId) → IsPath g s t ours → IsPath g s t theirs
+    → ((w : Way) → Has (ways_of ours) w → Rises g p w)
     → spent g p (ways_of ours) ≤ spent g p (ways_of theirs)
 pair g p s t ours theirs good other low =
     let l = laid g s t ours good in
@@ -82,15 +84,18 @@ pair g p s t ours theirs good other low =
     let there : spent g p (ways_of theirs) ≡ spent g p (ways s m.inner t) = ap (spent g p) m.ways_are in
     omega (arith, ints, one, two, here, there)
 
-pair_up : (g : Graph) (p : Part → ℤ) (s t : NodeId) (ours theirs : List (List NodeId)) → length ours ≡ length theirs → All (IsPath g s t) ours → All (IsPath g s t) theirs
+pair_up : (g : Graph) (p : Part → ℤ) (s t : NodeId) (ours theirs : List (List NodeId)) → length ours ≡ length theirs → All (IsPath g s t) ours
+    → All (IsPath g s t) theirs
     → ((w : Way) → Has (together ours) w → Rises g p w) → spent g p (together ours) ≤ spent g p (together theirs)
 pair_up g p s t [] [] even good other low = omega arith
 pair_up g p s t [] (q ∷ qs) even good other low = absurd (omega (arith, even))
 pair_up g p s t (o ∷ os) [] even good other low = absurd (omega (arith, even))
 pair_up g p s t (o ∷ os) (q ∷ qs) even good other low =
     let of_way : Way → ℕ = λ w. price g w + loss g p w in
-    let one = pair g p s t o q (All-head (IsPath g s t) o os good) (All-head (IsPath g s t) q qs other) (λ w h. low w (has_left (ways_of o) (together os) w h)) in
-    let rest = pair_up g p s t os qs (omega (arith, even)) (All-tail (IsPath g s t) o os good) (All-tail (IsPath g s t) q qs other) (λ w h. low w (has_right (ways_of o) (together os) w h)) in
+    let one = pair g p s t o q (All-head (IsPath g s t) o os good) (All-head (IsPath g s t) q qs other)
+    (λ w h. low w (has_left (ways_of o) (together os) w h)) in
+    let rest = pair_up g p s t os qs (omega (arith, even)) (All-tail (IsPath g s t) o os good) (All-tail (IsPath g s t) q qs other)
+    (λ w h. low w (has_right (ways_of o) (together os) w h)) in
     omega (arith, one, rest, total_append of_way (ways_of o) (together os), total_append of_way (ways_of q) (together qs))
 
 both_sums : (g : Graph) (p : Part → ℤ) (ws : List Way) → spent g p ws ≡ total (price g) ws + total (loss g p) ws
@@ -106,7 +111,8 @@ unfolding goes
 used_is_way g [] w e = absurd cc
 used_is_way g (p ∷ ps) w e = go (either_true (list_any (goes w) (ways_of p)) (uses ps (arc_at g w)) e) (used_is_way g ps w)
   where
-    go : (list_any (goes w) (ways_of p) ≡ true) ⊎ (uses ps (arc_at g w) ≡ true) → (uses ps (arc_at g w) ≡ true → Has (together ps) w) → Has (together (p ∷ ps)) w
+    go : (list_any (goes w) (ways_of p) ≡ true) ⊎ (uses ps (arc_at g w) ≡ true) → (uses ps (arc_at g w) ≡ true → Has (together ps) w)
+        → Has (together (p ∷ ps)) w
     go (inl f) rest =
         let at = any_has (goes w) (ways_of p) f in
         let k = both_true (is_same at.0.0 w.0) (is_same at.0.1 w.1) at.2 in
@@ -120,6 +126,7 @@ goes_itself : (w : Way) → goes w w ≡ true
 unfolding goes
 goes_itself w = let one = is_same_itself w.0 in let two = is_same_itself w.1 in rw (one, two) refl
 
+-- a way that paths go together is used by them
 pub way_is_used : (g : Graph) (ps : List (List NodeId)) (w : Way) → Has (together ps) w → uses ps (arc_at g w) ≡ true
 unfolding goes
 way_is_used g [] w h = absurd h
@@ -136,13 +143,15 @@ at_arc g s t ps p best a h =
     let left : Arc → Arc = λ b. cond (uses ps b) (turned b) b in
     held (λ b. pos 0 ≤ℤ reduced_cost p b) (residual g s t ps) (left a) best (has_map left (arcs_of g s t) a h)
 
-rises : (g : Graph) (s t : NodeId) (ps : List (List NodeId)) (p : Part → ℤ) → IsOptimal g s t ps p → (w : Way) → Has (arcs_of g s t) (arc_at g w) → uses ps (arc_at g w) ≡ true → Rises g p w
+rises : (g : Graph) (s t : NodeId) (ps : List (List NodeId)) (p : Part → ℤ) → IsOptimal g s t ps p → (w : Way) → Has (arcs_of g s t) (arc_at g w)
+    → uses ps (arc_at g w) ≡ true → Rises g p w
 unfolding Rises rise
 rises g s t ps p best w h used =
     let low : pos 0 ≤ℤ reduced_cost p (turned (arc_at g w)) = rw used at (at_arc g s t ps p best (arc_at g w) h) in
     omega (arith, ints, low)
 
-no_loss : (g : Graph) (s t : NodeId) (ps : List (List NodeId)) (p : Part → ℤ) → IsOptimal g s t ps p → (w : Way) → Has (arcs_of g s t) (arc_at g w) → uses ps (arc_at g w) ≡ false → loss g p w ≡ 0
+no_loss : (g : Graph) (s t : NodeId) (ps : List (List NodeId)) (p : Part → ℤ) → IsOptimal g s t ps p → (w : Way) → Has (arcs_of g s t) (arc_at g w)
+    → uses ps (arc_at g w) ≡ false → loss g p w ≡ 0
 unfolding loss rise
 no_loss g s t ps p best w h free = go ((p w.1 -ℤ p w.0) -ℤ pos (price g w)) refl
   where
@@ -155,7 +164,8 @@ no_loss g s t ps p best w h free = go ((p w.1 -ℤ p w.0) -ℤ pos (price g w)) 
 
 pub certified_is_least : CertifiedIsLeast
 certified_is_least g s t k ps p right good best qs other =
-    let lost = within (loss g p) (together qs) (together ps) (all_once g s t qs other.are_paths other.apart) (λ w h counts. counted w h counts (uses ps (arc_at g w)) refl) in
+    let lost = within (loss g p) (together qs) (together ps) (all_once g s t qs other.are_paths other.apart)
+    (λ w h counts. counted w h counts (uses ps (arc_at g w)) refl) in
     let spent_most = pair_up g p s t ps qs (good.count ∙ sym other.count) good.are_paths other.are_paths
     (λ w h. rises g s t ps p best w (all_kept g s t ps right good.are_paths w h) (way_is_used g ps w h)) in
     omega (arith, lost, spent_most, both_sums g p (together ps), both_sums g p (together qs), prices g s t ps good.are_paths, prices g s t qs other.are_paths)

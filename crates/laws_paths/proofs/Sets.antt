@@ -39,7 +39,8 @@ of_way g s t path l w h = kind s l.inner t w (subst (λ (ws : List Way). Has ws 
 path_once : (g : Graph) (s t : NodeId) (path : List NodeId) → IsPath g s t path → Distinct (ways_of path)
 path_once g s t path good = let l = laid g s t path good in subst Distinct (sym l.ways_are) (ways_once s l.inner t l.once)
 
-path_kept : (g : Graph) (s t : NodeId) (path : List NodeId) → IsGraph g → IsPath g s t path → (w : Way) → Has (ways_of path) w → Has (arcs_of g s t) (arc_at g w)
+path_kept : (g : Graph) (s t : NodeId) (path : List NodeId) → IsGraph g → IsPath g s t path → (w : Way) → Has (ways_of path) w
+    → Has (arcs_of g s t) (arc_at g w)
 path_kept g s t path right good w h =
     let l = laid g s t path good in
     arcs_kept g s l.inner t right l.once
@@ -47,7 +48,8 @@ path_kept g s t path right good w h =
     w (subst (λ (ws : List Way). Has ws w) l.ways_are h)
 
 -- two paths that are apart have no way in common
-no_shared : (g : Graph) (s t : NodeId) (p q : List NodeId) → IsPath g s t p → IsPath g s t q → Apart s t p q → (w : Way) → Has (ways_of p) w → Has (ways_of q) w → ⊥
+no_shared : (g : Graph) (s t : NodeId) (p q : List NodeId) → IsPath g s t p → IsPath g s t q → Apart s t p q → (w : Way) → Has (ways_of p) w → Has (ways_of q) w
+    → ⊥
 no_shared g s t p q good other apart w h k = go (of_way g s t p l w h) (of_way g s t q m w k)
   where
     l : Laid g s t p
@@ -74,7 +76,11 @@ no_shared g s t p q good other apart w h k = go (of_way g s t p l w h) (of_way g
         let same : (parts.Out a, parts.In b) ≡ (parts.Out c, parts.In d) = sym is ∙ also in
         let from : a ≡ c = ap (λ (x : Way). node_of x.0) same in
         let end : b ≡ d = ap (λ (x : Way). node_of x.1) same in
-        apart.edges a b (contains (steps p) (a, b) (on_p (a, b) at)) (inl (contains (steps q) (a, b) (on_q (a, b) (subst (λ (x : NodeId). Has (steps (line s m.inner t)) (x, b)) (sym from) (subst (λ (x : NodeId). Has (steps (line s m.inner t)) (c, x)) (sym end) to)))))
+        apart.edges a b (contains (steps p) (a, b) (on_p (a, b) at))
+        (inl (contains (steps q) (a, b)
+        (on_q (a, b)
+        (subst (λ (x : NodeId). Has (steps (line s m.inner t)) (x, b)) (sym from)
+        (subst (λ (x : NodeId). Has (steps (line s m.inner t)) (c, x)) (sym end) to)))))
     go (Along a b at is) (Across v to also) = let same : true ≡ false = ap (λ (x : Way). is_out x.0) (sym is ∙ also) in absurd cc
     go (Across v at is) (Along c d to also) = let same : false ≡ true = ap (λ (x : Way). is_out x.0) (sym is ∙ also) in absurd cc
     go (Across v at is) (Across x to also) =
@@ -82,9 +88,12 @@ no_shared g s t p q good other apart w h k = go (of_way g s t p l w h) (of_way g
         let one : v ≡ x = ap (λ (y : Way). node_of y.0) same in
         an_end v at (apart.nodes v (contains p v (inside p l.inner v l.is at)) (contains q v (inside q m.inner v m.is (subst (Has m.inner) (sym one) to))))
 
-no_shared_with_all : (g : Graph) (s t : NodeId) (p : List NodeId) (qs : List (List NodeId)) → IsPath g s t p → All (IsPath g s t) qs → All (Apart s t p) qs → (w : Way) → Has (ways_of p) w → Has (together qs) w → ⊥
+no_shared_with_all : (g : Graph) (s t : NodeId) (p : List NodeId) (qs : List (List NodeId)) → IsPath g s t p → All (IsPath g s t) qs → All (Apart s t p) qs
+    → (w : Way) → Has (ways_of p) w → Has (together qs) w → ⊥
 no_shared_with_all g s t p [] good others apart w h k = k
-no_shared_with_all g s t p (q ∷ qs) good others apart w h k = go (has_either (ways_of q) (together qs) w k) (no_shared_with_all g s t p qs good (All-tail (IsPath g s t) q qs others) (All-tail (Apart s t p) q qs apart) w h)
+no_shared_with_all g s t p (q ∷ qs) good others apart w h k =
+    go (has_either (ways_of q) (together qs) w k)
+    (no_shared_with_all g s t p qs good (All-tail (IsPath g s t) q qs others) (All-tail (Apart s t p) q qs apart) w h)
   where
     go : Has (ways_of q) w ⊎ Has (together qs) w → (Has (together qs) w → ⊥) → ⊥
     go (inl at) rest = no_shared g s t p q good (All-head (IsPath g s t) q qs others) (All-head (Apart s t p) q qs apart) w h at
@@ -95,10 +104,12 @@ all_once g s t [] good apart = tt
 all_once g s t (p ∷ ps) good apart =
     let first = All-head (IsPath g s t) p ps good in
     let later = All-tail (IsPath g s t) p ps good in
-    distinct_append (ways_of p) (together ps) (path_once g s t p first) (all_once g s t ps later (λ i j d less inside. apart (suc i) (suc j) d (omega (arith, less)) (omega (arith, inside))))
+    distinct_append (ways_of p) (together ps) (path_once g s t p first)
+    (all_once g s t ps later (λ i j d less inside. apart (suc i) (suc j) d (omega (arith, less)) (omega (arith, inside))))
     (no_shared_with_all g s t p ps first later (λ j d inside. apart 0 (suc j) d (omega arith) (omega (arith, inside))))
 
-pub all_kept : (g : Graph) (s t : NodeId) (ps : List (List NodeId)) → IsGraph g → All (IsPath g s t) ps → (w : Way) → Has (together ps) w → Has (arcs_of g s t) (arc_at g w)
+pub all_kept : (g : Graph) (s t : NodeId) (ps : List (List NodeId)) → IsGraph g → All (IsPath g s t) ps → (w : Way) → Has (together ps) w
+    → Has (arcs_of g s t) (arc_at g w)
 all_kept g s t [] right good w h = absurd h
 all_kept g s t (p ∷ ps) right good w h = go (has_either (ways_of p) (together ps) w h) (all_kept g s t ps right (All-tail (IsPath g s t) p ps good) w)
   where

@@ -62,7 +62,12 @@ one =
     let over_both : List NodeId = node 1 ∷ node 2 ∷ node 3 ∷ node 4 ∷ [] in
     let paths = IsPath trap (node 1) (node 4) in
     let apart = Apart (node 1) (node 4) in
-    record { count = refl; are_paths = All-cons paths over_both [] p (All-nil paths); apart = AllPairs-cons apart over_both [] (All-nil (apart over_both)) (no_pairs apart) }
+    record {
+      count = refl;
+      are_paths = All-cons paths over_both [] p (All-nil paths);
+      apart =
+          AllPairs-cons apart over_both [] (All-nil (apart over_both)) (no_pairs apart);
+    }
 
 two : Disjoint trap (node 1) (node 4) 2 two_paths
 two =
@@ -75,7 +80,8 @@ two =
     record {
       count = refl;
       are_paths = All-cons paths over_2 (over_3 ∷ []) p (All-cons paths over_3 [] q (All-nil paths));
-      apart = AllPairs-cons apart over_2 (over_3 ∷ []) (All-cons (apart over_2) over_3 [] (apart_by (node 1) (node 4) over_2 over_3 refl) (All-nil (apart over_2)))
+      apart = AllPairs-cons apart over_2 (over_3 ∷ [])
+          (All-cons (apart over_2) over_3 [] (apart_by (node 1) (node 4) over_2 over_3 refl) (All-nil (apart over_2)))
           (AllPairs-cons apart over_3 [] (All-nil (apart over_3)) (no_pairs apart));
     }
 

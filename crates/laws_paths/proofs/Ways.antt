@@ -37,6 +37,7 @@ abbrev pub ways : NodeId → List NodeId → NodeId → List Way
 ways u [] t = (parts.Out u, parts.In t) ∷ []
 ways u (v ∷ vs) t = (parts.Out u, parts.In v) ∷ (parts.In v, parts.Out v) ∷ ways v vs t
 
+-- the ways of a line of nodes, one hop after another
 pub ways_are : (u : NodeId) (inner : List NodeId) (t : NodeId) → ways_of (line u inner t) ≡ ways u inner t
 ways_are u [] t = refl
 ways_are u (v ∷ []) t = refl
@@ -75,6 +76,7 @@ step_from u [] t a b (inr h) = absurd h
 step_from u (v ∷ vs) t a b (inl e) = inl (ap (λ (x : NodeId × NodeId). x.0) e)
 step_from u (v ∷ vs) t a b (inr h) = inr (step_from v vs t a b h)
 
+-- each step of a line leads to a node behind its first
 pub step_to : (u : NodeId) (inner : List NodeId) (t a b : NodeId) → Has (steps (line u inner t)) (a, b) → Has (inner ++ t ∷ []) b
 step_to u [] t a b (inl e) = inl (ap (λ (x : NodeId × NodeId). x.1) e)
 step_to u [] t a b (inr h) = absurd h
@@ -119,7 +121,9 @@ ways_once u (v ∷ vs) t once = (edge, (node, ways_once v vs t once.1))
     node : Has (ways v vs t) (parts.In v, parts.Out v) → ⊥
     node h = through_it (kind v vs t (parts.In v, parts.Out v) h)
 
-pub cost_is : (g : Graph) (path : List NodeId) (u : NodeId) (inner : List NodeId) (t : NodeId) → path ≡ line u inner t → path_cost g path ≡ total (price g) (ways_of path)
+pub cost_is : (g : Graph) (path : List NodeId) (u : NodeId) (inner : List NodeId) (t : NodeId) → path ≡ line u inner t
+    → path_cost g path ≡ total (price g) (ways_of path)
 cost_is g path u inner t is =
     let price_of : NodeId × NodeId → ℕ = λ step. weight_between g.edges step.0 step.1 in
-    total_is price_of (steps path) ∙ ap (λ (p : List NodeId). total price_of (steps p)) is ∙ prices_are g u inner t ∙ ap (total (price g)) (sym (ways_are u inner t)) ∙ ap (λ (p : List NodeId). total (price g) (ways_of p)) (sym is)
+    total_is price_of (steps path) ∙ ap (λ (p : List NodeId). total price_of (steps p)) is ∙ prices_are g u inner t
+    ∙ ap (total (price g)) (sym (ways_are u inner t)) ∙ ap (λ (p : List NodeId). total (price g) (ways_of p)) (sym is)

@@ -17,15 +17,19 @@ use Rattle.sp_graph.specs.Edges.{IsGraph}
 abbrev pub node : ℕ → NodeId
 node n = record { 0 = n }
 
+-- an edge between two numbers
 abbrev pub edge : ℕ → ℕ → ℕ → Edge
 edge low high weight = record { low = node low; high = node high; weight = weight }
 
+-- the graph: 1-2-3-4 is cheapest, and leaves no second path
 abbrev pub trap : Graph
 trap = record { nodes = 4; edges = edge 1 2 1 ∷ edge 1 3 4 ∷ edge 2 3 1 ∷ edge 2 4 4 ∷ edge 3 4 1 ∷ [] }
 
+-- the cheapest path alone
 abbrev pub one_path : List (List NodeId)
 one_path = (node 1 ∷ node 2 ∷ node 3 ∷ node 4 ∷ []) ∷ []
 
+-- the two paths that are apart
 abbrev pub two_paths : List (List NodeId)
 two_paths = (node 1 ∷ node 2 ∷ node 4 ∷ []) ∷ (node 1 ∷ node 3 ∷ node 4 ∷ []) ∷ []
 

@@ -26,23 +26,28 @@ use Rattle.std.proofs.Common.{Bool, List, Some, ap, arith, cond, false, inl, inr
 use Rattle.std.proofs.lemmas.Bool.{ne_eqb}
 use Rattle.std.proofs.lemmas.Option.{slice_get_within}
 
-module _ (arts : Arts) (x : Setting) (all : List Event) (era : Era) (flow : Flow) (fits : SettingFits arts x) (reads : ComesThrough x.topology.format arts x.signature_len)
+module _ (arts : Arts) (x : Setting) (all : List Event) (era : Era) (flow : Flow) (fits : SettingFits arts x)
+    (reads : ComesThrough x.topology.format arts x.signature_len)
     (is_era : IsEra x flow era) where
   module _ (w y : Watched arts x all era) (e : Event) (u v : NodeId) where
     -- what is seen at v of a node that is there
     heard_at : (z : Watched arts x all era) (q : NodeState) → node_in z.at.world.nodes v ≡ Some q → (wires arts x all era flow).seen z v u ≡ heard_of era v u q
     heard_at z q at = lit 0 (heard_of era v u) (node_in z.at.world.nodes v) q at
 
-    viewed_at : (z : Watched arts x all era) (q : NodeState) → node_in z.at.world.nodes v ≡ Some q → view_seen arts x all era flow z v u ≡ view_at x era flow v u q
+    viewed_at : (z : Watched arts x all era) (q : NodeState) → node_in z.at.world.nodes v ≡ Some q
+        → view_seen arts x all era flow z v u ≡ view_at x era flow v u q
     viewed_at z q at = lit (no_view flow) (view_at x era flow v u) (node_in z.at.world.nodes v) q at
 
-    heard_off : (z : Watched arts x all era) → ((q : NodeState) → node_in z.at.world.nodes v ≡ Some q → in_life era v q ≡ false) → (wires arts x all era flow).seen z v u ≡ 0
+    heard_off : (z : Watched arts x all era) → ((q : NodeState) → node_in z.at.world.nodes v ≡ Some q → in_life era v q ≡ false)
+        → (wires arts x all era flow).seen z v u ≡ 0
     heard_off z off = dark 0 (heard_of era v u) (node_in z.at.world.nodes v) (λ q at. let t = off q at in rw t refl)
 
-    view_dark : (z : Watched arts x all era) → ((q : NodeState) → node_in z.at.world.nodes v ≡ Some q → in_life era v q ≡ false) → view_seen arts x all era flow z v u ≡ no_view flow
+    view_dark : (z : Watched arts x all era) → ((q : NodeState) → node_in z.at.world.nodes v ≡ Some q → in_life era v q ≡ false)
+        → view_seen arts x all era flow z v u ≡ no_view flow
     view_dark z off = dark (no_view flow) (view_at x era flow v u) (node_in z.at.world.nodes v) (λ q at. let t = off q at in rw t refl)
 
-    deaf_of : (wires arts x all era flow).seen y v u ≡ (wires arts x all era flow).seen w v u → view_seen arts x all era flow y v u ≡ view_seen arts x all era flow w v u
+    deaf_of : (wires arts x all era flow).seen y v u ≡ (wires arts x all era flow).seen w v u
+        → view_seen arts x all era flow y v u ≡ view_seen arts x all era flow w v u
         → IsDeaf (Watched arts x all era) (sight arts x all era flow) (wires arts x all era flow) w y u v
     deaf_of seen view = record { seen = seen; views = record { base = ap (λ (z : View). z.base) view; have = ap (λ (z : View). z.have) view } }
 
@@ -68,7 +73,8 @@ module _ (arts : Arts) (x : Setting) (all : List Event) (era : Era) (flow : Flow
         let some = is_era.some u on in
         ne_eqb _ _ (λ same. omega (arith, same, boot, some))
 
-    pub hearing_of : (hop : IsBetween x era u v) → (a : Acted arts x all era w y e v) → (first : in_life era v a.node ≡ true) → (second : in_life era v a.after ≡ true)
+    pub hearing_of : (hop : IsBetween x era u v) → (a : Acted arts x all era w y e v) → (first : in_life era v a.node ≡ true)
+        → (second : in_life era v a.after ≡ true)
         → (k : ℕ) → Met arts x all era flow w u v a.node a.after k
         → IsHearing (Watched arts x all era) (sight arts x all era flow) (wires arts x all era flow) w y u v (k + 1)
     hearing_of hop a first second k met =
@@ -119,15 +125,18 @@ module _ (arts : Arts) (x : Setting) (all : List Event) (era : Era) (flow : Flow
     deaf_rest q =
         let node_same = same_read x w.at.world q.before q.now (heard_of era v u) (λ upto. refl) q.readied in
         let view_same = same_read x w.at.world q.before q.now (view_at x era flow v u) (λ upto. refl) q.readied in
-        deaf_of (heard_at y q.now q.left ∙ node_same ∙ sym (heard_at w q.before q.there)) (viewed_at y q.now q.left ∙ view_same ∙ sym (viewed_at w q.before q.there))
+        deaf_of (heard_at y q.now q.left ∙ node_same ∙ sym (heard_at w q.before q.there))
+        (viewed_at y q.now q.left ∙ view_same ∙ sym (viewed_at w q.before q.there))
 
-    hears_at : IsBetween x era u v → Course arts x all era w y e v → IsDeaf (Watched arts x all era) (sight arts x all era flow) (wires arts x all era flow) w y u v
+    hears_at : IsBetween x era u v → Course arts x all era w y e v
+        → IsDeaf (Watched arts x all era) (sight arts x all era flow) (wires arts x all era flow) w y u v
         ⊎ ((k : ℕ) × IsHearing (Watched arts x all era) (sight arts x all era flow) (wires arts x all era flow) w y u v k)
     hears_at hop (Away before after) = inl (deaf_of (heard_off y after ∙ sym (heard_off w before)) (view_dark y after ∙ sym (view_dark w before)))
     hears_at hop (Born epochs before at) =
         let q = node_at_start arts x v (next_start x w.at.world v) in
         let off = born_off epochs hop.first in
-        inl (deaf_of (heard_at y q at ∙ unknown_heard q off ∙ sym (heard_off w before)) (viewed_at y q at ∙ unknown_view q epochs off ∙ sym (view_dark w before)))
+        inl (deaf_of (heard_at y q at ∙ unknown_heard q off ∙ sym (heard_off w before))
+        (viewed_at y q at ∙ unknown_view q epochs off ∙ sym (view_dark w before)))
     hears_at hop (Rests q first second) = inl (deaf_rest q)
     hears_at hop (Steps a first second) = elim (hearing arts x all era flow fits reads is_era w y e u v hop a first second) [
       | inl same ↦ inl (deaf_here a same)
@@ -147,10 +156,16 @@ module _ (arts : Arts) (x : Setting) (all : List Event) (era : Era) (flow : Flow
     window = λ w u. window arts x all era flow fits reads.carries w u;
     begins = λ w.
         let b = begins arts x all w.at in
-        let up = lifted arts x all era fits reads.carries b.events b.first w.at b.goes w refl in
-        (up.first, b.events, up.goes, λ u v hop. fresh_start arts x all era fits reads.carries flow up.first (ap (λ (s : State arts x all). s.events) up.is ∙ b.none) (ap (λ (s : State arts x all). s.world) up.is ∙ b.start) u v);
+        let up = lifted arts x all era fits reads.carries b.events b.first w.at b.goes w refl in (
+          up.first,
+          b.events,
+          up.goes,
+          λ u v hop. fresh_start arts x all era fits reads.carries flow up.first (ap (λ (s : State arts x all). s.events) up.is ∙ b.none)
+              (ap (λ (s : State arts x all). s.world) up.is ∙ b.start) u v,
+        );
   }
 
   pub always : (w : Watched arts x all era) (u v : NodeId) → IsBetween x era u v
       → HopHolds (Watched arts x all era) (sight arts x all era flow) (wires arts x all era flow) x.buffer w u v
-  always w = hops_hold (Watched arts x all era) (Leads arts x all era) (IsBetween x era) (sight arts x all era flow) (wires arts x all era flow) x.buffer lasting w
+  always w = hops_hold (Watched arts x all era) (Leads arts x all era) (IsBetween x era) (sight arts x all era flow) (wires arts x all era flow) x.buffer
+      lasting w

@@ -41,7 +41,8 @@ pub record Untold (arts : Arts) (n : NodeState) (u : NodeId) (bytes : List ℕ) 
   pub link : link_after arts n u bytes ≡ link_in n u
   pub pieces : (ps : List Piece) → pieces_where (reply_at arts n u bytes) ps ≡ []
 
-untold_answer : (l : Link) (h : Head) (a : LinkAnswer) (after : Option LinkReply) → is_tagged (unwrap_or after replies.Fresh) ≡ true → is_tagged (of_link a after) ≡ false
+untold_answer : (l : Link) (h : Head) (a : LinkAnswer) (after : Option LinkReply) → is_tagged (unwrap_or after replies.Fresh) ≡ true
+    → is_tagged (of_link a after) ≡ false
     → (after_answer l h a ≡ l) × ((ps : List Piece) → pieces_where (of_link a after) ps ≡ [])
 untold_answer l h answers.NotForMe after fresh off = (refl, λ ps. refl)
 untold_answer l h answers.BadTag after fresh off = (refl, λ ps. refl)
@@ -118,7 +119,9 @@ arrives arts x es js w e fits reads run u v hop b n at readied bytes none = elim
   | inr off ↦ inl (untold arts n u bytes off)
   | inl on ↦
       let made = is_made arts x (ready x w e) n u bytes hop.first none on in
-      let me : n.fixed.me ≡ v = readied_keeps x w b n (λ m. m.fixed.me ≡ v) (λ upto same. same) readied (ap (λ (f : Fixed). f.me) ((signs arts x es js w fits reads.carries run).nodes v b at).fixed) in
+      let me : n.fixed.me ≡ v =
+      readied_keeps x w b n (λ m. m.fixed.me ≡ v) (λ upto same. same) readied
+      (ap (λ (f : Fixed). f.me) ((signs arts x es js w fits reads.carries run).nodes v b at).fixed) in
       let there : slice_get (frames_in w.directions u v) made.0 ≡ Some (Some bytes) =
       ap (λ ds. slice_get (frames_in ds u v) made.0) (sym (ready_frames x w e))
       ∙ ap (λ z. slice_get (frames_in (ready x w e).directions u z) made.0) (sym me) ∙ made.1 in

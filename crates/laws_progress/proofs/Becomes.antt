@@ -42,7 +42,8 @@ pub data Becomes (arts : Arts) (x : Setting) (old : World) (e : Event) (j : Entr
       → list_any (is_me u) old.nodes ≡ false → Becomes arts x old e j new u n
 
 -- what doesn't ask for the bound of its indexes holds where it reserved more
-pub readied_keeps : (x : Setting) (w : World) (b n : NodeState) (P : NodeState → Type 0) → ((upto : ℕ) → P b → P (extended b upto)) → Readied x w b n → P b → P n
+pub readied_keeps : (x : Setting) (w : World) (b n : NodeState) (P : NodeState → Type 0) → ((upto : ℕ) → P b → P (extended b upto)) → Readied x w b n → P b
+    → P n
 readied_keeps x w b n P more (As_was same) h = subst P (sym same) h
 readied_keeps x w b n P more (Extended on short same) h = subst P (sym same) (more _ h)
 
@@ -100,7 +101,8 @@ module _ (arts : Arts) (x : Setting) (es : List Event) (js : List Entry) (old : 
                   absurd (let wrong : true ≡ false = sym ((keys.files on).nodes v b.0 b.1).started ∙ not_yet in cc)
               | inr t ↦ t
             ] in
-            subst (λ (w : NodeId). e ≡ events.Start w → IsStart arts x old w j new → n ≡ node_at_start arts x w (next_start x old w) → list_any (is_me w) old.nodes ≡ false
+            subst (λ (w : NodeId). e ≡ events.Start w → IsStart arts x old w j new → n ≡ node_at_start arts x w (next_start x old w)
+            → list_any (is_me w) old.nodes ≡ false
             → Becomes arts x old e j new u n) (sym mine) (λ a b c d. Begins on a b c d) is start it.1 none
       ]
   lived on (Exhausts v is none) u n at = stays_so u n (subst (λ (w : World). node_in w.nodes u ≡ Some n) none.world at) (life_event v u is)
@@ -147,7 +149,8 @@ runs_on arts x es js old e j new fits reads run turn u calm b at = there_found u
     before = found_there u b old.nodes at
 
     life : LifeCase arts x old e j new → list_any (is_me u) new.nodes ≡ true
-    life (Starts_now v is start) = ap (λ (w : World). list_any (is_me u) w.nodes) start.world ∙ more_run u old.nodes (node_at_start arts x v (next_start x old v)) before
+    life (Starts_now v is start) =
+        ap (λ (w : World). list_any (is_me u) w.nodes) start.world ∙ more_run u old.nodes (node_at_start arts x v (next_start x old v)) before
     life (Exhausts v is none) = ap (λ (w : World). list_any (is_me u) w.nodes) none.world ∙ before
     life (Stops v is stop) =
         let apart : (v.0 == u.0) ≡ false = ap (is_life_of u) (sym is) ∙ calm in

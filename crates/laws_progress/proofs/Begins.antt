@@ -37,7 +37,8 @@ use Rattle.laws_progress.proofs.Rows.{at_boot, near}
 use Rattle.laws_progress.proofs.Sweeps.{joined}
 use Rattle.laws_progress.proofs.Wires.{wires}
 
-none_seen : (f : Fixed) (u v : NodeId) (zs : List ((NodeId × EdgeId) × List ℕ)) → (first_where (is_link v) (new_link u v 0 []) (map (link_of f) zs)).seen ≡ (0, 0)
+none_seen : (f : Fixed) (u v : NodeId) (zs : List ((NodeId × EdgeId) × List ℕ))
+    → (first_where (is_link v) (new_link u v 0 []) (map (link_of f) zs)).seen ≡ (0, 0)
 none_seen f u v [] = refl
 none_seen f u v (z ∷ zs) = elim (cases_Bool (is_link v (link_of f z))) [
   | inl t ↦ rw t refl
@@ -68,7 +69,8 @@ boot_view : (x : Setting) (u v : NodeId) (flow : Flow) (n : NodeState) → node_
     → ((view_in (peer_in n.parts.rel.peers v).views flow).base ≡ 0) × ((view_in (peer_in n.parts.rel.peers v).views flow).have ≡ 0)
 boot_view x u v flow n at =
     let is = at_boot x u n at in
-    subst (λ (m : NodeState). ((view_in (peer_in m.parts.rel.peers v).views flow).base ≡ 0) × ((view_in (peer_in m.parts.rel.peers v).views flow).have ≡ 0)) (sym is)
+    subst (λ (m : NodeState). ((view_in (peer_in m.parts.rel.peers v).views flow).base ≡ 0) × ((view_in (peer_in m.parts.rel.peers v).views flow).have ≡ 0))
+    (sym is)
     (none_peer (pairs_of (nodes_of x.topology)) v flow (near x u))
 
 pub record BegunAt (arts : Arts) (x : Setting) (all : List Event) (w : State arts x all) : Type 0 where
@@ -78,7 +80,8 @@ pub record BegunAt (arts : Arts) (x : Setting) (all : List Event) (w : State art
   pub none : first.events ≡ []
   pub start : first.world ≡ at_start x
 
-begun : (arts : Arts) (x : Setting) (all : List Event) (es : List Event) (js : List Entry) (w : World) (run : Clean arts x es js w) (rest : List Event) (whole : all ≡ es ++ rest)
+begun : (arts : Arts) (x : Setting) (all : List Event) (es : List Event) (js : List Entry) (w : World) (run : Clean arts x es js w) (rest : List Event)
+    (whole : all ≡ es ++ rest)
     → BegunAt arts x all (record { events = es; journal = js; world = w; run = run; rest = rest; whole = whole })
 begun arts x all es js w Starts rest whole = record {
   first = record { events = []; journal = []; world = at_start x; run = Starts; rest = rest; whole = whole };
@@ -92,7 +95,8 @@ begun arts x all es js w (Turned {es = es'} {js = js'} {old = old} {e = e} {j = 
     record {
       first = before.first;
       events = before.events ++ e ∷ [];
-      goes = joined (State arts x all) (Follows arts x all) before.events (e ∷ []) before.first _ _ before.goes (Steps (Follow j refl refl range turn unforged) facts.Stays);
+      goes = joined (State arts x all) (Follows arts x all) before.events (e ∷ []) before.first _ _ before.goes
+          (Steps (Follow j refl refl range turn unforged) facts.Stays);
       none = before.none;
       start = before.start;
     }
@@ -105,9 +109,11 @@ begins arts x all w = begun arts x all w.events w.journal w.world w.run w.rest w
 kept_place : (arts : Arts) (old : World) (e : Event) (new : World) (u v : NodeId) (k : ℕ) (bytes : List ℕ) → FramesTurn arts old e new u v
     → slice_get (frames_in old.directions u v) k ≡ Some (Some bytes) → slice_get (frames_in new.directions u v) k ≡ Some (Some bytes)
 kept_place arts old e new u v k bytes (Makes on b there is) at =
-    ap (λ fs. slice_get fs k) is ∙ get_front (frames_in old.directions u v) (Some (frame_to arts b v) ∷ []) k (slice_get_within (frames_in old.directions u v) k (Some bytes) at) ∙ at
+    ap (λ fs. slice_get fs k) is
+    ∙ get_front (frames_in old.directions u v) (Some (frame_to arts b v) ∷ []) k (slice_get_within (frames_in old.directions u v) k (Some bytes) at) ∙ at
 kept_place arts old e new u v k bytes (Misses on down is) at =
-    ap (λ fs. slice_get fs k) is ∙ get_front (frames_in old.directions u v) (None ∷ []) k (slice_get_within (frames_in old.directions u v) k (Some bytes) at) ∙ at
+    ap (λ fs. slice_get fs k) is ∙ get_front (frames_in old.directions u v) (None ∷ []) k (slice_get_within (frames_in old.directions u v) k (Some bytes) at)
+    ∙ at
 kept_place arts old e new u v k bytes (Leaves off is) at = ap (λ fs. slice_get fs k) is ∙ at
 
 ran_before : (arts : Arts) (x : Setting) (old : World) (e : Event) (j : Entry) (new : World) (u : NodeId) (n : NodeState) → Becomes arts x old e j new u n
@@ -141,7 +147,8 @@ module _ (arts : Arts) (x : Setting) (all : List Event) (era : Era) (fits : Sett
         ran_before arts x z.world e j y.at.world v n.0
         (becomes arts x z.events z.journal z.world e j y.at.world fits reads z.run range turn unforged v n.0 n.1)
         (λ later. omega (arith, later, boot, last, top));
-    placed = λ u v on joined k bytes at life. y.placed u v on joined k bytes (kept_place arts z.world e y.at.world u v k bytes (frames_turn arts x z.world e j y.at.world turn u v) at) life;
+    placed = λ u v on joined k bytes at life. y.placed u v on joined k bytes
+        (kept_place arts z.world e y.at.world u v k bytes (frames_turn arts x z.world e j y.at.world turn u v) at) life;
   }
     where
       -- a node in its life is there after the event, in the same life
@@ -169,7 +176,8 @@ module _ (arts : Arts) (x : Setting) (all : List Event) (era : Era) (fits : Sett
     pub is : first.at ≡ z
     pub goes : Goes (Watched arts x all era) (Leads arts x all era) first es y
 
-  pub lifted : (es : List Event) (z y : State arts x all) → Goes (State arts x all) (Follows arts x all) z es y → (yw : Watched arts x all era) → yw.at ≡ y → Lifted es z yw
+  pub lifted : (es : List Event) (z y : State arts x all) → Goes (State arts x all) (Follows arts x all) z es y → (yw : Watched arts x all era) → yw.at ≡ y
+      → Lifted es z yw
   lifted [] z y facts.Stays yw is = record { first = yw; is = is; goes = facts.Stays }
   lifted (e ∷ es) z y (Steps {x = mid} step g) yw is =
       let rest = lifted es mid y g yw is in
@@ -200,7 +208,8 @@ module _ (arts : Arts) (x : Setting) (all : List Event) (era : Era) (fits : Sett
     view_none u v None at = (refl, refl)
     view_none u v (Some n) at =
         let view = boot_view x v u flow n at in
-        cond_either (λ (z : View). (z.base ≡ 0) × (z.have ≡ 0)) (in_era era flow v n && has_met x era u n) (view_in (peer_in n.parts.rel.peers u).views flow) (no_view flow)
+        cond_either (λ (z : View). (z.base ≡ 0) × (z.have ≡ 0)) (in_era era flow v n && has_met x era u n) (view_in (peer_in n.parts.rel.peers u).views flow)
+        (no_view flow)
         (view.0, view.1) (refl, refl)
 
     pub fresh_start : (w : Watched arts x all era) → w.at.events ≡ [] → w.at.world ≡ at_start x → (u v : NodeId)

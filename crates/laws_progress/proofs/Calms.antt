@@ -61,12 +61,14 @@ abbrev pub AreUp : (arts : Arts) (x : Setting) (all : List Event) (era : Era) (f
 AreUp arts x all era flow w = (v : NodeId) → era.on v ≡ true → Up arts x all era flow w v
 
 -- one event of the interval
-pub record Calmly (arts : Arts) (x : Setting) (all : List Event) (era : Era) (flow : Flow) (w : Watched arts x all era) (e : Event) (y : Watched arts x all era) : Type 0 where
+pub record Calmly (arts : Arts) (x : Setting) (all : List Event) (era : Era) (flow : Flow) (w : Watched arts x all era) (e : Event)
+    (y : Watched arts x all era) : Type 0 where
   pub leads : Leads arts x all era w e y
   pub before : AreUp arts x all era flow w
   pub after : AreUp arts x all era flow y
 
-module _ (arts : Arts) (x : Setting) (all : List Event) (era : Era) (flow : Flow) (fits : SettingFits arts x) (reads : ComesThrough x.topology.format arts x.signature_len)
+module _ (arts : Arts) (x : Setting) (all : List Event) (era : Era) (flow : Flow) (fits : SettingFits arts x)
+    (reads : ComesThrough x.topology.format arts x.signature_len)
     (is_era : IsEra x flow era) where
   -- ---- what is seen
 
@@ -81,14 +83,17 @@ module _ (arts : Arts) (x : Setting) (all : List Event) (era : Era) (flow : Flow
       → (held_boot p.node.parts.lives flow.src ≡ era.sboot) × (held_boot p.node.parts.lives flow.dst ≡ era.dboot)
   held_up w u p = holds_both p.node flow.src flow.dst era.sboot era.dboot (era_is era flow u p.node p.counts).1
 
-  claims : (w : Watched arts x all era) → LifeFlowClaims arts x flow.src flow.dst w.at.events w.at.journal (past arts x w.at.events w.at.journal w.at.world w.at.run) w.at.world
-  claims w = flows_are_kept_over_lives arts x w.at.events w.at.journal w.at.world fits reads.carries w.at.run flow.src flow.dst (both _ _ is_era.right.from).0 is_era.right.to is_era.right.different
+  claims : (w : Watched arts x all era)
+      → LifeFlowClaims arts x flow.src flow.dst w.at.events w.at.journal (past arts x w.at.events w.at.journal w.at.world w.at.run) w.at.world
+  claims w = flows_are_kept_over_lives arts x w.at.events w.at.journal w.at.world fits reads.carries w.at.run flow.src flow.dst (both _ _ is_era.right.from).0
+      is_era.right.to is_era.right.different
 
   -- the flow has not ended
   goes_on : (w : Watched arts x all era) (u : NodeId) (p : Up arts x all era flow w u) → has_ended p.node flow.src flow.dst ≡ false
   goes_on w u p = not_over arts x all era fits reads.carries flow is_era w u p.node p.there (era_is era flow u p.node p.counts).0
 
-  under_up : {X : Type 0} (w : Watched arts x all era) (u : NodeId) (p : Up arts x all era flow w u) (says : ℕ → ℕ → X) → under p.node flow.src flow.dst says ≡ says era.sboot era.dboot
+  under_up : {X : Type 0} (w : Watched arts x all era) (u : NodeId) (p : Up arts x all era flow w u) (says : ℕ → ℕ → X)
+      → under p.node flow.src flow.dst says ≡ says era.sboot era.dboot
   under_up w u p says = let h = held_up w u p in ap (λ a. says a (held_boot p.node.parts.lives flow.dst)) h.0 ∙ ap (says era.sboot) h.1
 
   pub acked_up : (w : Watched arts x all era) (p : Up arts x all era flow w flow.dst)
@@ -97,7 +102,8 @@ module _ (arts : Arts) (x : Setting) (all : List Event) (era : Era) (flow : Flow
       ap (λ (f : FlowState). f.at.base) (flow_up w flow.dst p) ∙ (claims w).base_at_end p.node p.there (goes_on w flow.dst p)
       ∙ under_up w flow.dst p (λ a b. acknowledged_under arts w.at.events w.at.journal flow.src a flow.dst b)
 
-  pub acknowledged : (w : Watched arts x all era) → AreUp arts x all era flow w → (u : NodeId) → (sight arts x all era flow).base w u ≤ (sight arts x all era flow).base w flow.dst
+  pub acknowledged : (w : Watched arts x all era) → AreUp arts x all era flow w → (u : NodeId)
+      → (sight arts x all era flow).base w u ≤ (sight arts x all era flow).base w flow.dst
   acknowledged w up u = elim (cases_Bool (era.on u)) [
     | inr off ↦ let none = ap (λ (f : FlowState). f.at.base) (flow_off w u off) in omega (arith, none)
     | inl on ↦
@@ -110,18 +116,21 @@ module _ (arts : Arts) (x : Setting) (all : List Event) (era : Era) (flow : Flow
   ]
 
   pub sent_up : (w : Watched arts x all era) (p : Up arts x all era flow w flow.src)
-      → (sight arts x all era flow).have w flow.src ≡ length (sent_under (past arts x w.at.events w.at.journal w.at.world w.at.run) flow.src era.sboot flow.dst era.dboot)
+      → (sight arts x all era flow).have w flow.src
+      ≡ length (sent_under (past arts x w.at.events w.at.journal w.at.world w.at.run) flow.src era.sboot flow.dst era.dboot)
   sent_up w p =
       ap (λ (f : FlowState). f.at.have) (flow_up w flow.src p) ∙ (claims w).have_at_source is_era.right.from p.node p.there (goes_on w flow.src p)
       ∙ ap length (under_up w flow.src p (λ a b. sent_under (past arts x w.at.events w.at.journal w.at.world w.at.run) flow.src a flow.dst b))
 
   pub delivered_up : (w : Watched arts x all era) (p : Up arts x all era flow w flow.dst)
-      → (sight arts x all era flow).have w flow.dst ≡ length (delivered_under (past arts x w.at.events w.at.journal w.at.world w.at.run) flow.src era.sboot flow.dst era.dboot)
+      → (sight arts x all era flow).have w flow.dst
+      ≡ length (delivered_under (past arts x w.at.events w.at.journal w.at.world w.at.run) flow.src era.sboot flow.dst era.dboot)
   delivered_up w p =
       ap (λ (f : FlowState). f.at.have) (flow_up w flow.dst p) ∙ (claims w).have_at_end p.node p.there (goes_on w flow.dst p)
       ∙ ap length (under_up w flow.dst p (λ a b. delivered_under (past arts x w.at.events w.at.journal w.at.world w.at.run) flow.src a flow.dst b))
 
-  pub sent_most : (w : Watched arts x all era) → AreUp arts x all era flow w → (u : NodeId) → (sight arts x all era flow).have w u ≤ (sight arts x all era flow).have w flow.src
+  pub sent_most : (w : Watched arts x all era) → AreUp arts x all era flow w → (u : NodeId)
+      → (sight arts x all era flow).have w u ≤ (sight arts x all era flow).have w flow.src
   sent_most w up u = elim (cases_Bool (era.on u)) [
     | inr off ↦ let none = ap (λ (f : FlowState). f.at.have) (flow_off w u off) in omega (arith, none)
     | inl on ↦
@@ -144,7 +153,8 @@ module _ (arts : Arts) (x : Setting) (all : List Event) (era : Era) (flow : Flow
       pub first : in_era era flow u act.node ≡ true
       pub second : in_era era flow u act.after ≡ true
 
-    in_life_of : (z : Watched arts x all era) (u : NodeId) (p : Up arts x all era flow z u) (n : NodeState) → node_in z.at.world.nodes u ≡ Some n → in_era era flow u n ≡ true
+    in_life_of : (z : Watched arts x all era) (u : NodeId) (p : Up arts x all era flow z u) (n : NodeState) → node_in z.at.world.nodes u ≡ Some n
+        → in_era era flow u n ≡ true
     in_life_of z u p n at = ap (in_era era flow u) (same_Some n p.node (sym at ∙ p.there)) ∙ p.counts
 
     pub moves_or : (u : NodeId) → era.on u ≡ true → Unmoved arts x all era w y e u ⊎ Moved u
@@ -183,7 +193,8 @@ module _ (arts : Arts) (x : Setting) (all : List Event) (era : Era) (flow : Flow
     -- ---- turns
 
     pub serves : (u v : NodeId) (p : ℕ) → IsBetween x era u v → is_poll u v e ≡ true → (sight arts x all era flow).knows w u v ≡ true
-        → next_after ((sight arts x all era flow).last w u v) ((sight arts x all era flow).actives w u) ≡ Some p → (sight arts x all era flow).last y u v ≡ Some p
+        → next_after ((sight arts x all era flow).last w u v) ((sight arts x all era flow).actives w u) ≡ Some p
+        → (sight arts x all era flow).last y u v ≡ Some p
     serves u v p hop is known next =
         let m = polls_now u v hop.first is in
         let a = m.act in
@@ -212,11 +223,13 @@ module _ (arts : Arts) (x : Setting) (all : List Event) (era : Era) (flow : Flow
         lit [] (actives_of era flow u) (node_in w.at.world.nodes u) a.before a.there
         ∙ sym (same_read x w.at.world a.before a.node (actives_of era flow u) (λ upto. refl) a.readied) ∙ rw counts refl in
         let place : next_place a.node.parts.rel v ≡ Some p =
-        ap (λ o. next_after o (map (λ f. f.active) a.node.parts.rel.flows)) (sym last_is) ∙ ap (next_after ((sight arts x all era flow).last w u v)) (sym actives_is) ∙ next in
+        ap (λ o. next_after o (map (λ f. f.active) a.node.parts.rel.flows)) (sym last_is)
+        ∙ ap (next_after ((sight arts x all era flow).last w u v)) (sym actives_is) ∙ next in
         lit None (λ n. (peer_in n.parts.rel.peers v).last) (node_in y.at.world.nodes u) a.after a.left
         ∙ ap (λ (r : RelState). (peer_in r.peers v).last) rel ∙ served_last a.node.parts.rel v p there place
 
-    pub serves_none : (u v : NodeId) → IsBetween x era u v → is_poll u v e ≡ false → (sight arts x all era flow).last y u v ≡ (sight arts x all era flow).last w u v
+    pub serves_none : (u v : NodeId) → IsBetween x era u v → is_poll u v e ≡ false
+        → (sight arts x all era flow).last y u v ≡ (sight arts x all era flow).last w u v
     serves_none u v hop off = elim (moves_or u hop.first) [
       | inl q ↦
           lit None (λ n. (peer_in n.parts.rel.peers v).last) (node_in y.at.world.nodes u) q.now q.left
@@ -238,7 +251,8 @@ module _ (arts : Arts) (x : Setting) (all : List Event) (era : Era) (flow : Flow
     takes_some d s (inr (inl missing)) = (let f : false ≡ true = missing in cc)
     takes_some d s (inr (inr other)) = other tt
 
-    pub makes_room : 1 ≤ x.buffer → is_take flow.dst flow.src e ≡ true → (sight arts x all era flow).have w flow.dst < (sight arts x all era flow).taken y + x.buffer
+    pub makes_room : 1 ≤ x.buffer → is_take flow.dst flow.src e ≡ true
+        → (sight arts x all era flow).have w flow.dst < (sight arts x all era flow).taken y + x.buffer
     makes_room some is =
         let take = take_is flow.dst flow.src e is in
         let m = mover flow.dst is_era.end (ap acting take) (λ nobody. takes_some flow.dst flow.src (subst (MovesNobody w.at.world) take nobody)) in
@@ -255,14 +269,16 @@ module _ (arts : Arts) (x : Setting) (all : List Event) (era : Era) (flow : Flow
         let was : flow_seen arts x all era flow w flow.dst ≡ flow_in r.flows flow =
         lit (no_flow flow) (flow_of era flow flow.dst) (node_in w.at.world.nodes flow.dst) a.before a.there
         ∙ sym (same_read x w.at.world a.before a.node (flow_of era flow flow.dst) (λ upto. refl) a.readied) ∙ rw counts refl in
-        let is_now : flow_seen arts x all era flow y flow.dst ≡ flow_in a.after.parts.rel.flows flow = seen_flow arts x all era flow y flow.dst a.after a.left after_counts in
+        let is_now : flow_seen arts x all era flow y flow.dst ≡ flow_in a.after.parts.rel.flows flow =
+        seen_flow arts x all era flow y flow.dst a.after a.left after_counts in
         let most : length (flow_in r.flows flow).inbox ≤ x.buffer =
         subst (λ (f : FlowState). length f.inbox ≤ x.buffer) was
         (seen_stands arts x all era flow fits reads.carries (λ f. length f.inbox ≤ x.buffer) (omega arith) (λ me f h. h.inbox) w flow.dst) in
         let room = room_at flow r.flows x.buffer some most in
         let flows : a.after.parts.rel.flows ≡ put_flow r.flows flow (after_take (flow_in r.flows flow)) =
         ap (λ (n : NodeState). n.parts.rel.flows) step.1 ∙ ap (λ fl. put_flow r.flows fl (after_take (flow_in r.flows fl))) mine in
-        let now : flow_seen arts x all era flow y flow.dst ≡ flow_in (put_flow r.flows flow (after_take (flow_in r.flows flow))) flow = is_now ∙ ap (λ fs. flow_in fs flow) flows in
+        let now : flow_seen arts x all era flow y flow.dst ≡ flow_in (put_flow r.flows flow (after_take (flow_in r.flows flow))) flow =
+        is_now ∙ ap (λ fs. flow_in fs flow) flows in
         let have = ap (λ (f : FlowState). f.at.have) was in
         let taken = ap (λ (f : FlowState). f.at.have - length f.inbox) now in
         omega (arith, room, have, taken)
@@ -287,7 +303,8 @@ module _ (arts : Arts) (x : Setting) (all : List Event) (era : Era) (flow : Flow
           ∙ sym (lit false (knows_now x era u v) (node_in w.at.world.nodes u) a.before a.there) ∙ is in
           let parts = both (knows_life era u v a.node) (has_heard x era.version v a.node) was in
           let boot = eqb-true _ _ (both (in_life era u a.node) ((link_in a.node v).peer_boot == era.life v) parts.0).1 in
-          let now : ((link_in a.after v).peer_boot == era.life v) ≡ true = eq-eqb _ _ (let z : (link_in a.after v).peer_boot ≡ era.life v = omega (arith, up, top, boot) in z) in
+          let now : ((link_in a.after v).peer_boot == era.life v) ≡ true =
+          eq-eqb _ _ (let z : (link_in a.after v).peer_boot ≡ era.life v = omega (arith, up, top, boot) in z) in
           let kept = heard_rises arts a.node a.input a.output a.after v a.step (λ bytes came. quiet a first second hop_back bytes came boot) in
           let heard : has_heard x era.version v a.after ≡ true = still_heard x era.version v a.node a.after kept parts.1 in
           lit false (knows_now x era u v) (node_in y.at.world.nodes u) a.after a.left ∙ rw (second, now, heard) refl

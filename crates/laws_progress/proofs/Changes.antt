@@ -75,7 +75,8 @@ pub lit : {X : Type 0} (none : X) (read : NodeState → X) (o : Option NodeState
 lit none read o n at = ap (seen_at none read) at
 
 -- what asks not for the bound of its indexes is read the same where it reserved more
-pub same_read : {X : Type 0} (x : Setting) (w : World) (b n : NodeState) (read : NodeState → X) → ((upto : ℕ) → read (extended b upto) ≡ read b) → Readied x w b n → read n ≡ read b
+pub same_read : {X : Type 0} (x : Setting) (w : World) (b n : NodeState) (read : NodeState → X) → ((upto : ℕ) → read (extended b upto) ≡ read b)
+    → Readied x w b n → read n ≡ read b
 same_read x w b n read same is = readied_keeps x w b n (λ m. read m ≡ read b) (λ upto h. same upto) is refl
 
 -- the flow goes on at each watched node in its life
@@ -121,7 +122,8 @@ pub record Unmoved (arts : Arts) (x : Setting) (all : List Event) (era : Era) (w
 -- what becomes of the life of u that is watched
 pub data Course (arts : Arts) (x : Setting) (all : List Event) (era : Era) (w y : Watched arts x all era) (e : Event) (u : NodeId) : Type 0 where
   -- it isn't in it before nor after
-  Away : ((n : NodeState) → node_in w.at.world.nodes u ≡ Some n → in_life era u n ≡ false) → ((n : NodeState) → node_in y.at.world.nodes u ≡ Some n → in_life era u n ≡ false)
+  Away : ((n : NodeState) → node_in w.at.world.nodes u ≡ Some n → in_life era u n ≡ false)
+      → ((n : NodeState) → node_in y.at.world.nodes u ≡ Some n → in_life era u n ≡ false)
       → Course arts x all era w y e u
   Born : x.epochs ≡ true → ((n : NodeState) → node_in w.at.world.nodes u ≡ Some n → in_life era u n ≡ false)
       → node_in y.at.world.nodes u ≡ Some (node_at_start arts x u (next_start x w.at.world u)) → Course arts x all era w y e u
@@ -225,7 +227,8 @@ module _ (arts : Arts) (x : Setting) (all : List Event) (era : Era) (fits : Sett
     ]
 
     -- the boots that count stay where they are held, and the flow goes on
-    pub era_goes : (u : NodeId) (n m : NodeState) → node_in y.at.world.nodes u ≡ Some m → holds n flow.src era.sboot flow.dst era.dboot ≡ true → PartsGo flow n.parts m.parts
+    pub era_goes : (u : NodeId) (n m : NodeState) → node_in y.at.world.nodes u ≡ Some m → holds n flow.src era.sboot flow.dst era.dboot ≡ true
+        → PartsGo flow n.parts m.parts
         → (holds m flow.src era.sboot flow.dst era.dboot ≡ true) × FlowLater (flow_in n.parts.rel.flows flow) (flow_in m.parts.rel.flows flow)
     era_goes u n m at held (Goes_on src dst later) =
         let h = holds_both n flow.src flow.dst era.sboot era.dboot held in
@@ -239,7 +242,8 @@ module _ (arts : Arts) (x : Setting) (all : List Event) (era : Era) (fits : Sett
     none_later : (f : FlowState) → FlowLater (no_flow flow) f
     none_later f = record { base = omega arith; have = omega arith; active = λ on. absurd (let z : false ≡ true = on in cc); taken = omega arith }
 
-    pub step_flow : (u : NodeId) (n m : NodeState) → node_in y.at.world.nodes u ≡ Some m → in_life era u n ≡ true → in_life era u m ≡ true → PartsGo flow n.parts m.parts
+    pub step_flow : (u : NodeId) (n m : NodeState) → node_in y.at.world.nodes u ≡ Some m → in_life era u n ≡ true → in_life era u m ≡ true
+        → PartsGo flow n.parts m.parts
         → FlowLater (flow_of era flow u n) (flow_of era flow u m)
     step_flow u n m at first second go = elim (cases_Bool (holds n flow.src era.sboot flow.dst era.dboot)) [
       | inl held ↦ let it = era_goes u n m at held go in let now = it.0 in rw (first, held, second, now) it.1
@@ -249,7 +253,8 @@ module _ (arts : Arts) (x : Setting) (all : List Event) (era : Era) (fits : Sett
     pub flow_later : Leads arts x all era w e y → (u : NodeId) → FlowLater (flow_seen arts x all era flow w u) (flow_seen arts x all era flow y u)
     flow_later leads u = go (course leads u)
       where
-        off : (z : Watched arts x all era) → ((n : NodeState) → node_in z.at.world.nodes u ≡ Some n → in_life era u n ≡ false) → flow_seen arts x all era flow z u ≡ no_flow flow
+        off : (z : Watched arts x all era) → ((n : NodeState) → node_in z.at.world.nodes u ≡ Some n → in_life era u n ≡ false)
+            → flow_seen arts x all era flow z u ≡ no_flow flow
         off z away = dark (no_flow flow) (flow_of era flow u) (node_in z.at.world.nodes u) (λ n at. let t = era_off era flow u n (away n at) in rw t refl)
 
         go : Course arts x all era w y e u → FlowLater (flow_seen arts x all era flow w u) (flow_seen arts x all era flow y u)

@@ -1,5 +1,6 @@
 -- The active flows at a node are at most as many as the run may have.
-use Rattle.std.proofs.Common.{◌≡◌, ◌≤◌, ℕ, zero, suc, ◌+◌, ◌&&◌, Bool, true, false, not, List, [], ◌∷◌, ◌++◌, eqb, length, map, filter, Option, Some, None, refl, sym, ap, subst, ◌∙◌, inl, inr, arith, append-nil}
+use Rattle.std.proofs.Common.{◌≡◌, ◌≤◌, ℕ, zero, suc, ◌+◌, ◌&&◌, Bool, true, false, not, List, [], ◌∷◌, ◌++◌, eqb, length, map, filter, Option, Some, None}
+use Rattle.std.proofs.Common.{refl, sym, ap, subst, ◌∙◌, inl, inr, arith, append-nil}
 use Rattle.std.specs.Prelude.{slice_get}
 use Rattle.std.specs.List.{flat_map, list_any}
 use Rattle.std.proofs.lemmas.Bool.{cases_Bool, eqb-false}
@@ -84,7 +85,8 @@ silent flow (events.Stop a) r off = refl
 
 none_told : (s d : NodeId) (a b : ℕ) (mover : Option NodeState) (ms : List Message) → ms ≡ [] → told_under s a d b ms mover ≡ []
 none_told s d a b None ms none = refl
-none_told s d a b (Some n) ms none = ap (λ (zs : List Message). told_under s a d b zs (Some n)) none ∙ elim (cases_Bool (holds n s a d b)) [ inl t ↦ rw t refl | inr t ↦ rw t refl ]
+none_told s d a b (Some n) ms none =
+    ap (λ (zs : List Message). told_under s a d b zs (Some n)) none ∙ elim (cases_Bool (holds n s a d b)) [ inl t ↦ rw t refl | inr t ↦ rw t refl ]
 
 -- under whatever boots
 asked_under : (arts : Arts) (x : Setting) (es : List Event) (js : List Entry) (w : World) (run : Clean arts x es js w) (flow : Flow) (a b : ℕ)
@@ -154,12 +156,14 @@ abbrev pub may_wait : Setting → List Event → Flow → Bool
 may_wait x all flow = (has_correct_ends x flow && list_any (is_send flow) all) || not (has_correct_ends x flow)
 
 -- each that is active may
-pub waits_at : (arts : Arts) (x : Setting) (all : List Event) → SettingFits arts x → Carries x.topology.format arts → (w : State arts x all) (u : NodeId) (n : NodeState)
+pub waits_at : (arts : Arts) (x : Setting) (all : List Event) → SettingFits arts x → Carries x.topology.format arts
+    → (w : State arts x all) (u : NodeId) (n : NodeState)
     → node_in w.world.nodes u ≡ Some n → (i : ℕ) (f : FlowState) → slice_get n.parts.rel.flows i ≡ Some f → f.active ≡ true → may_wait x all (ends f) ≡ true
 waits_at arts x all fits reads w u n at i f there on = elim (cases_Bool (has_correct_ends x (ends f))) [
   | inl t ↦
       let asked = asked_at arts x w.events w.journal w.world fits reads w.run u n at i f there on t in
-      let asked_all : list_any (is_send (ends f)) all ≡ true = ap (λ es. list_any (is_send (ends f)) es) w.whole ∙ list_any-append (is_send (ends f)) w.events w.rest ∙ rw asked refl in
+      let asked_all : list_any (is_send (ends f)) all ≡ true =
+      ap (λ es. list_any (is_send (ends f)) es) w.whole ∙ list_any-append (is_send (ends f)) w.events w.rest ∙ rw asked refl in
       rw (t, asked_all) refl
   | inr t ↦ rw t refl
 ]
@@ -168,12 +172,14 @@ waits_at arts x all fits reads w u n at i f there on = elim (cases_Bool (has_cor
 abbrev pub waiting : Setting → List Event → List Bool
 waiting x all = map (may_wait x all) (pairs_of (nodes_of x.topology))
 
-pub rows_within : (arts : Arts) (x : Setting) (all : List Event) → SettingFits arts x → Carries x.topology.format arts → (w : State arts x all) (u : NodeId) (n : NodeState)
+pub rows_within : (arts : Arts) (x : Setting) (all : List Event) → SettingFits arts x → Carries x.topology.format arts
+    → (w : State arts x all) (u : NodeId) (n : NodeState)
     → node_in w.world.nodes u ≡ Some n → IsWithin (map (λ f. f.active) n.parts.rel.flows) (waiting x all)
 rows_within arts x all fits reads w u n at place on =
     let rel = rel_of arts x w.events w.journal w.world fits reads w.run u n at in
     let f = there_on n.parts.rel.flows place on in
-    let key : slice_get (pairs_of (nodes_of x.topology)) place ≡ Some (ends f.0) = ap (λ ks. slice_get ks place) (sym rel.keys) ∙ get_map n.parts.rel.flows place f.0 f.1 in
+    let key : slice_get (pairs_of (nodes_of x.topology)) place ≡ Some (ends f.0) =
+    ap (λ ks. slice_get ks place) (sym rel.keys) ∙ get_map n.parts.rel.flows place f.0 f.1 in
     on_at (may_wait x all) (pairs_of (nodes_of x.topology)) place (ends f.0) key ∙ waits_at arts x all fits reads w u n at place f.0 f.1 f.2
 
 count_two : (p q : Flow → Bool) (fs : List Flow) → number_on (map (λ f. p f || q f) fs) ≤ length (filter p fs) + length (filter q fs)

@@ -38,7 +38,8 @@ and_more false b c less is = is
 
 pub flow_counts_never_fall : FlowCountNeverFalls
 flow_counts_never_fall x es later =
-    let more = counts_more (λ flow. has_correct_ends x flow && list_any (is_send flow) es) (λ flow. has_correct_ends x flow && list_any (is_send flow) (es ++ later))
+    let more = counts_more (λ flow. has_correct_ends x flow && list_any (is_send flow) es)
+    (λ flow. has_correct_ends x flow && list_any (is_send flow) (es ++ later))
     (λ flow is. and_more (has_correct_ends x flow) (list_any (is_send flow) es) (list_any (is_send flow) (es ++ later)) (any_more (is_send flow) es later) is)
     (pairs_of (nodes_of x.topology)) in
     omega (arith, more)

@@ -21,7 +21,8 @@ use Rattle.sp_rules.specs.Lives.{are_held, is_dated, held_boot}
 use Rattle.sp_rules.specs.Node.{NodeState, call_refusal, kept_or, signed_now, called, with_link, link_in}
 use Rattle.sp_rules.specs.Parts.{Parts, is_signed}
 use Rattle.sp_rules.specs.Pieces.{Piece, AckPiece, PrioAckPiece, PrioPiece, RelPiece, ReportPiece, WeightPiece, EpochPiece}
-use Rattle.sp_rules.specs.Rel.{RelState, admit_ack, admit_rel, due_place, flow_in, judge_ack_of, judge_rel_of, next_place, peer_in, reported, served, served_at, settled, settled_at, told, with_peer, no_views}
+use Rattle.sp_rules.specs.Rel.{RelState, admit_ack, admit_rel, due_place, flow_in, judge_ack_of, judge_rel_of, next_place, peer_in, reported, served, served_at}
+use Rattle.sp_rules.specs.Rel.{settled, settled_at, told, with_peer, no_views}
 use Rattle.sp_rules.specs.Sends.{rel_refusal, send_prio_refusal, signer_refusal, weight_refusal}
 use Rattle.sp_rules.specs.Steps.{Input, NodeStep, Output, Poll, Datagram, Tick, SendRel, SendPrio, SetWeight, TakeRel, TakePrio, Publish}
 use Rattle.sp_rules.specs.Ticks.{at_time, due_now, settled_by}
@@ -53,12 +54,14 @@ other_peer u v q ps is away =
     (λ p t. ne_eqb _ _ (λ z. away (sym (same_node _ _ (eqb-true _ _ t)) ∙ same_node _ _ z)))
     (ne_eqb _ _ (λ z. away (sym is ∙ same_node _ _ z)))
 
-reported_view : (u : NodeId) (flow : Flow) (w0 : View) (r : RelState) (v : NodeId) (fl : Flow) (base have : ℕ) → (v ≡ u → ⊥) → ViewIs u flow w0 r → ViewIs u flow w0 (reported r v fl base have)
+reported_view : (u : NodeId) (flow : Flow) (w0 : View) (r : RelState) (v : NodeId) (fl : Flow) (base have : ℕ) → (v ≡ u → ⊥) → ViewIs u flow w0 r
+    → ViewIs u flow w0 (reported r v fl base have)
 reported_view u flow w0 r v fl base have away h =
     cond_either (ViewIs u flow w0) (flow_in r.flows fl).active (with_peer r v (told (peer_in r.peers v) fl base have)) r
     (ap (λ (p : RelPeer). view_in p.views flow) (other_peer u v (told (peer_in r.peers v) fl base have) r.peers (peer_is r v) away) ∙ h) h
 
-served_view : (u : NodeId) (flow : Flow) (w0 : View) (r : RelState) (v : NodeId) → list_any (is_peer u) r.peers ≡ true → ViewIs u flow w0 r → ViewIs u flow w0 (served r v)
+served_view : (u : NodeId) (flow : Flow) (w0 : View) (r : RelState) (v : NodeId) → list_any (is_peer u) r.peers ≡ true → ViewIs u flow w0 r
+    → ViewIs u flow w0 (served r v)
 served_view u flow w0 r v there h = go (next_place r v)
   where
     put : (place : ℕ) → ViewIs u flow w0 (served_at r v (Some place))
@@ -67,8 +70,10 @@ served_view u flow w0 r v there h = go (next_place r v)
           let same : v ≡ u = same_node v u z in
           let q : RelPeer = record (peer_in r.peers u) { last = Some place } in
           ap (λ y. view_of (with_peer r y (record (peer_in r.peers y) { last = Some place })) u flow) same
-          ∙ ap (λ (p : RelPeer). view_in p.views flow) (first_replaced (is_peer u) (new_peer [] u) q r.peers (eq-eqb _ _ (ap (λ (n : NodeId). n.0) (peer_is r u))) there) ∙ h
-      | inr z ↦ ap (λ (p : RelPeer). view_in p.views flow) (other_peer u v (record (peer_in r.peers v) { last = Some place }) r.peers (peer_is r v) (λ e. z (ap (λ (n : NodeId). n.0) e))) ∙ h
+          ∙ ap (λ (p : RelPeer). view_in p.views flow)
+          (first_replaced (is_peer u) (new_peer [] u) q r.peers (eq-eqb _ _ (ap (λ (n : NodeId). n.0) (peer_is r u))) there) ∙ h
+      | inr z ↦ ap (λ (p : RelPeer). view_in p.views flow)
+          (other_peer u v (record (peer_in r.peers v) { last = Some place }) r.peers (peer_is r v) (λ e. z (ap (λ (n : NodeId). n.0) e))) ∙ h
     ]
 
     go : (place : Option ℕ) → ViewIs u flow w0 (served_at r v place)
@@ -84,10 +89,14 @@ settled_view u flow w0 r o h = go (due_place r)
 
 -- ---- pieces and steps
 
-piece_view : (u : NodeId) (flow : Flow) (w0 : View) (arts : Arts) (at : Arrival) (p : Parts) (piece : Piece) → NoStart piece → (at.from ≡ u → ⊥) → ViewIs u flow w0 p.rel → ViewIs u flow w0 (handle arts at p piece).parts.rel
-piece_view u flow w0 arts at p (WeightPiece o) none away h = cond_either (λ (q : Parts). ViewIs u flow w0 q.rel) (is_new (items.Weight (weight_answer (is_signed arts at.fixed o) (offer_to at.fixed.me p.weights o.body)))) (record p { weights = held p.weights o }) p h h
+piece_view : (u : NodeId) (flow : Flow) (w0 : View) (arts : Arts) (at : Arrival) (p : Parts) (piece : Piece) → NoStart piece → (at.from ≡ u → ⊥)
+    → ViewIs u flow w0 p.rel → ViewIs u flow w0 (handle arts at p piece).parts.rel
+piece_view u flow w0 arts at p (WeightPiece o) none away h =
+    cond_either (λ (q : Parts). ViewIs u flow w0 q.rel)
+    (is_new (items.Weight (weight_answer (is_signed arts at.fixed o) (offer_to at.fixed.me p.weights o.body)))) (record p { weights = held p.weights o }) p h h
 piece_view u flow w0 arts at p (PrioAckPiece number) none away h = h
-piece_view u flow w0 arts at p (PrioPiece number o) none away h = go (prio_answer (is_signed arts at.fixed o) (is_dated p.lives o.body) (judge_prio p.prio o.body at.now))
+piece_view u flow w0 arts at p (PrioPiece number o) none away h =
+    go (prio_answer (is_signed arts at.fixed o) (is_dated p.lives o.body) (judge_prio p.prio o.body at.now))
   where
     go : (answer : PrioAnswer) → ViewIs u flow w0 (prio_handled at.from answer number o p).parts.rel
     go prios.New = h
@@ -99,8 +108,14 @@ piece_view u flow w0 arts at p (PrioPiece number o) none away h = go (prio_answe
 piece_view u flow w0 arts at p (ReportPiece fl sboot dboot base have) none away h =
     cond_either (λ (q : Parts). ViewIs u flow w0 q.rel) (are_held p.lives fl sboot dboot) (record p { rel = reported p.rel at.from fl base have }) p
     (reported_view u flow w0 p.rel at.from fl base have away h) h
-piece_view u flow w0 arts at p (AckPiece fl o) none away h = cond_either (λ (q : Parts). ViewIs u flow w0 q.rel) (is_new (items.Ack (ack_answer (is_signed arts at.fixed o) (is_dated p.lives o.body) (judge_ack_of p.rel fl o.body)))) (record p { rel = admit_ack p.rel o }) p h h
-piece_view u flow w0 arts at p (RelPiece fl o) none away h = cond_either (λ (q : Parts). ViewIs u flow w0 q.rel) (is_new (items.Rel (rel_answer (is_signed arts at.fixed o) (is_dated p.lives o.body) (judge_rel_of p.rel fl o.body)))) (record p { rel = admit_rel p.rel o }) p h h
+piece_view u flow w0 arts at p (AckPiece fl o) none away h =
+    cond_either (λ (q : Parts). ViewIs u flow w0 q.rel)
+    (is_new (items.Ack (ack_answer (is_signed arts at.fixed o) (is_dated p.lives o.body) (judge_ack_of p.rel fl o.body))))
+    (record p { rel = admit_ack p.rel o }) p h h
+piece_view u flow w0 arts at p (RelPiece fl o) none away h =
+    cond_either (λ (q : Parts). ViewIs u flow w0 q.rel)
+    (is_new (items.Rel (rel_answer (is_signed arts at.fixed o) (is_dated p.lives o.body) (judge_rel_of p.rel fl o.body))))
+    (record p { rel = admit_rel p.rel o }) p h h
 piece_view u flow w0 arts at p (EpochPiece o) none away h = absurd none
 
 -- where the boots of the flow's ends stay
@@ -112,7 +127,8 @@ pieces_view u flow w0 arts at p [] last away src dst h = h
 pieces_view u flow w0 arts at p (piece ∷ pieces) (inl plain) away src dst h =
     let first = (handle arts at p piece).parts in
     let same = same_lives arts at p piece plain.0 in
-    pieces_view u flow w0 arts at first pieces plain.1 away (src ∙ ap (λ ls. held_boot ls flow.src) (sym same)) (dst ∙ ap (λ ls. held_boot ls flow.dst) (sym same))
+    pieces_view u flow w0 arts at first pieces plain.1 away (src ∙ ap (λ ls. held_boot ls flow.src) (sym same))
+    (dst ∙ ap (λ ls. held_boot ls flow.dst) (sym same))
     (piece_view u flow w0 arts at p piece plain.0 away h)
 pieces_view u flow w0 arts at p (piece ∷ pieces) (inr none) away src dst h =
     let lone : held_boot (handle arts at p piece).parts.lives flow.src ≡ held_boot p.lives flow.src =
@@ -132,18 +148,22 @@ pieces_view u flow w0 arts at p (piece ∷ pieces) (inr none) away src dst h =
     one_view (RelPiece fl o) src dst = piece_view u flow w0 arts at p (RelPiece fl o) tt away h
 
 -- another neighbour's new life leaves it
-greeted_view : (u : NodeId) (flow : Flow) (w0 : View) (epochs risen : Bool) (v : NodeId) (p : Parts) → (v ≡ u → ⊥) → ViewIs u flow w0 p.rel → ViewIs u flow w0 (greeted epochs risen v p).rel
-greeted_view u flow w0 true true v p away h = ap (λ (q : RelPeer). view_in q.views flow) (other_peer u v (no_views (peer_in p.rel.peers v)) p.rel.peers (peer_is p.rel v) away) ∙ h
+greeted_view : (u : NodeId) (flow : Flow) (w0 : View) (epochs risen : Bool) (v : NodeId) (p : Parts) → (v ≡ u → ⊥) → ViewIs u flow w0 p.rel
+    → ViewIs u flow w0 (greeted epochs risen v p).rel
+greeted_view u flow w0 true true v p away h =
+    ap (λ (q : RelPeer). view_in q.views flow) (other_peer u v (no_views (peer_in p.rel.peers v)) p.rel.peers (peer_is p.rel v) away) ∙ h
 greeted_view u flow w0 true false v p away h = h
 greeted_view u flow w0 false risen v p away h = h
 
 -- ---- steps
 
-kept_view : {X : Type 0} (u : NodeId) (flow : Flow) (w0 : View) (r : Option X) (n m : NodeState) → ViewIs u flow w0 n.parts.rel → ViewIs u flow w0 m.parts.rel → ViewIs u flow w0 (kept_or r n m).parts.rel
+kept_view : {X : Type 0} (u : NodeId) (flow : Flow) (w0 : View) (r : Option X) (n m : NodeState) → ViewIs u flow w0 n.parts.rel → ViewIs u flow w0 m.parts.rel
+    → ViewIs u flow w0 (kept_or r n m).parts.rel
 kept_view u flow w0 None n m old new = new
 kept_view u flow w0 (Some x) n m old new = old
 
-pub step_view : (u : NodeId) (flow : Flow) (w0 : View) (arts : Arts) (n : NodeState) (input : Input) (output : Output) (new : NodeState) → NodeStep arts n input output new
+pub step_view : (u : NodeId) (flow : Flow) (w0 : View) (arts : Arts) (n : NodeState) (input : Input) (output : Output) (new : NodeState)
+    → NodeStep arts n input output new
     → held_boot new.parts.lives flow.src ≡ held_boot n.parts.lives flow.src → held_boot new.parts.lives flow.dst ≡ held_boot n.parts.lives flow.dst
     → list_any (is_peer u) n.parts.rel.peers ≡ true → NoHear u input → ViewIs u flow w0 n.parts.rel → ViewIs u flow w0 new.parts.rel
 step_view u flow w0 arts n (Poll v) output new s at_src at_dst there quiet h =
@@ -152,7 +172,8 @@ step_view u flow w0 arts n (Poll v) output new s at_src at_dst there quiet h =
     (cond_either (λ (p : Parts). ViewIs u flow w0 p.rel) (is_served n v) (polled n.fixed n.parts v) n.parts (served_view u flow w0 n.parts.rel v there h) h))
 step_view u flow w0 arts n (Datagram v bytes) output new s at_src at_dst there quiet h =
     subst (λ (m : NodeState). ViewIs u flow w0 m.parts.rel) (sym s.1)
-    (go (call_refusal n v) (ap (λ (m : NodeState). held_boot m.parts.lives flow.src) (sym s.1) ∙ at_src) (ap (λ (m : NodeState). held_boot m.parts.lives flow.dst) (sym s.1) ∙ at_dst))
+    (go (call_refusal n v) (ap (λ (m : NodeState). held_boot m.parts.lives flow.src) (sym s.1) ∙ at_src)
+    (ap (λ (m : NodeState). held_boot m.parts.lives flow.dst) (sym s.1) ∙ at_dst))
   where
     left : NodeState
     left = before_document arts n v bytes
@@ -175,15 +196,19 @@ step_view u flow w0 arts n (Datagram v bytes) output new s at_src at_dst there q
     go : (r : Option NodeRefused) → Stays (kept_or r n (read_by arts left (document_at arts n v bytes)))
     go (Some refused) src dst = h
     go None src dst = reading arts left (document_at arts n v bytes) (λ m told. Stays m) first (λ document d is reads by. first) src dst
-step_view u flow w0 arts n (Tick now) output new s at_src at_dst there quiet h = subst (λ (m : NodeState). ViewIs u flow w0 m.parts.rel) (sym s.1) (go (due_now n) refl (signer_refusal n.signer))
+step_view u flow w0 arts n (Tick now) output new s at_src at_dst there quiet h =
+    subst (λ (m : NodeState). ViewIs u flow w0 m.parts.rel) (sym s.1) (go (due_now n) refl (signer_refusal n.signer))
   where
     go : (o : Option Ack) → due_now n ≡ o → (r : Option SendRefused) → ViewIs u flow w0 (settled_by arts (at_time n now) o r).parts.rel
     go None e r = h
     go (Some ack) e (Some refusal) = h
     go (Some ack) e None = settled_view u flow w0 n.parts.rel (signed_now arts (at_time n now) (bodies.Ack ack)) h
-step_view u flow w0 arts n (SendRel dst payload) output new s at_src at_dst there quiet h = subst (λ (m : NodeState). ViewIs u flow w0 m.parts.rel) (sym s.1) (kept_view u flow w0 (rel_refusal n dst) n _ h h)
-step_view u flow w0 arts n (SendPrio m) output new s at_src at_dst there quiet h = subst (λ (m : NodeState). ViewIs u flow w0 m.parts.rel) (sym s.new_is) (kept_view u flow w0 (send_prio_refusal n m s.choice) n _ h h)
-step_view u flow w0 arts n (SetWeight v weight) output new s at_src at_dst there quiet h = subst (λ (m : NodeState). ViewIs u flow w0 m.parts.rel) (sym s.1) (kept_view u flow w0 (weight_refusal n v weight) n _ h h)
+step_view u flow w0 arts n (SendRel dst payload) output new s at_src at_dst there quiet h =
+    subst (λ (m : NodeState). ViewIs u flow w0 m.parts.rel) (sym s.1) (kept_view u flow w0 (rel_refusal n dst) n _ h h)
+step_view u flow w0 arts n (SendPrio m) output new s at_src at_dst there quiet h =
+    subst (λ (m : NodeState). ViewIs u flow w0 m.parts.rel) (sym s.new_is) (kept_view u flow w0 (send_prio_refusal n m s.choice) n _ h h)
+step_view u flow w0 arts n (SetWeight v weight) output new s at_src at_dst there quiet h =
+    subst (λ (m : NodeState). ViewIs u flow w0 m.parts.rel) (sym s.1) (kept_view u flow w0 (weight_refusal n v weight) n _ h h)
 step_view u flow w0 arts n (TakeRel src) output new s at_src at_dst there quiet h = subst (λ (m : NodeState). ViewIs u flow w0 m.parts.rel) (sym s.1) h
 step_view u flow w0 arts n TakePrio output new s at_src at_dst there quiet h = subst (λ (m : NodeState). ViewIs u flow w0 m.parts.rel) (sym s.1) h
 step_view u flow w0 arts n (Publish document) output new s at_src at_dst there quiet h =

@@ -48,10 +48,12 @@ use Rattle.sp_schedule_events.specs.declared.event.Event.TheVariants as events
 
 -- ---- no event starts or stops a node
 
-no_life : (arts : Arts) (x : Setting) (es : List Event) (js : List Entry) (w : World) → x.epochs ≡ false → Clean arts x es js w → (u : NodeId) → list_any (is_life_of u) es ≡ false
+no_life : (arts : Arts) (x : Setting) (es : List Event) (js : List Entry) (w : World) → x.epochs ≡ false → Clean arts x es js w → (u : NodeId)
+    → list_any (is_life_of u) es ≡ false
 no_life arts x es js w off Starts u = refl
 no_life arts x es js w off (Turned {es = es'} {js = js'} {old = old} {e = e} {j = j} run range turn unforged) u =
-    list_any-append (is_life_of u) es' (e ∷ []) ∙ ap (λ t. t || list_any (is_life_of u) (e ∷ [])) (no_life arts x es' js' old off run u) ∙ ap (λ t. t || false) (other es' e range.may)
+    list_any-append (is_life_of u) es' (e ∷ []) ∙ ap (λ t. t || list_any (is_life_of u) (e ∷ [])) (no_life arts x es' js' old off run u)
+    ∙ ap (λ t. t || false) (other es' e range.may)
   where
     other : (es : List Event) (e : Event) → may_act x.epochs es e ≡ true → is_life_of u e ≡ false
     other es (events.Start v) may = absurd (let f : false ≡ true = rw off at may in cc)
@@ -94,7 +96,8 @@ module _ (arts : Arts) (x : Setting) (fits : StaysUp arts x) (through : ComesThr
   right : IsRight x (record { src = s; dst = d })
   right = is_right x s d path is
 
-  held_zero : (es : List Event) (js : List Entry) (w : World) (run : Clean arts x es js w) (u : NodeId) (n : NodeState) → node_in w.nodes u ≡ Some n → (v : NodeId) → held_boot n.parts.lives v ≡ 0
+  held_zero : (es : List Event) (js : List Entry) (w : World) (run : Clean arts x es js w) (u : NodeId) (n : NodeState) → node_in w.nodes u ≡ Some n
+      → (v : NodeId) → held_boot n.parts.lives v ≡ 0
   held_zero es js w run u n at v = held_none arts x es js w fits.fits through.carries run fits.plain u n at v
 
   pub plain_calm : (es : List Event) (js : List Entry) (w : World) (run : Clean arts x es js w) (after : List Event) (more : List Entry) (end : World)
@@ -121,7 +124,8 @@ module _ (arts : Arts) (x : Setting) (fits : StaysUp arts x) (through : ComesThr
   life_claims : (es : List Event) (js : List Entry) (w : World) (run : Clean arts x es js w) → LifeFlowClaims arts x s d es js (past arts x es js w run) w
   life_claims es js w run = flows_are_kept_over_lives arts x es js w fits.fits through.carries run s d (both _ _ right.from).0 right.to right.different
 
-  under_zero : {X : Type 0} (es : List Event) (js : List Entry) (w : World) (run : Clean arts x es js w) (u : NodeId) (n : NodeState) → node_in w.nodes u ≡ Some n
+  under_zero : {X : Type 0} (es : List Event) (js : List Entry) (w : World) (run : Clean arts x es js w) (u : NodeId) (n : NodeState)
+      → node_in w.nodes u ≡ Some n
       → (says : ℕ → ℕ → X) → under n s d says ≡ says 0 0
   under_zero es js w run u n at says =
       let none = held_zero es js w run u n at in
@@ -166,7 +170,8 @@ delivery_is_counted arts x fits through one es js w after more v early run versi
     let ends = plain_claims arts x fits through version weights s d path is (es ++ after) (js ++ more) v run in
     let prefix = ends.prefix right.from in
     let parts : sent (es ++ after) (js ++ more) s d ≡ sent es js s d ++ sent after more s d = told_append _ es after js more (even arts x es js w early) in
-    is_delivered (sent es js s d) (sent after more s d) (delivered (es ++ after) (js ++ more) s d) prefix.0 q (sym parts ∙ prefix.1) (ends.numbered right.from) some has
+    is_delivered (sent es js s d) (sent after more s d) (delivered (es ++ after) (js ++ more) s d) prefix.0 q (sym parts ∙ prefix.1) (ends.numbered right.from)
+    some has
     (omega (arith, it, came_is))
 
 pub acknowledgements_return : CountedReturn

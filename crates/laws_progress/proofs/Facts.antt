@@ -44,36 +44,39 @@ pub record IsHeard (W : Type 0) (at : Sight W) (place bound : ℕ) (d : NodeId) 
   pub base : at.knows w u v ≡ true → IsTurn W at place w u v → at.base w u ≤ at.base z v
   pub view_base : at.knows w u v ≡ true → IsTurn W at place w u v → is_on (at.actives w v) place ≡ true → at.base w u ≤ at.view_base z v u
   pub view_have : at.knows w u v ≡ true → IsTurn W at place w u v → is_on (at.actives w v) place ≡ true → at.have w u ≤ at.view_have z v u
-  pub have : at.knows w u v ≡ true → IsTurn W at place w u v → (u ≡ d → ⊥) → (v ≡ d → ⊥) → min (at.have w u) (max (at.view_have w u v) (at.base w u) + 1) ≤ at.have z v
-  pub have_at_end : at.knows w u v ≡ true → IsTurn W at place w u v → (u ≡ d → ⊥) → v ≡ d → min (min (at.have w u) (max (at.view_have w u v) (at.base w u) + 1)) (at.taken w + bound) ≤ at.have z v
+  pub have : at.knows w u v ≡ true → IsTurn W at place w u v → (u ≡ d → ⊥) → (v ≡ d → ⊥)
+      → min (at.have w u) (max (at.view_have w u v) (at.base w u) + 1) ≤ at.have z v
+  pub have_at_end : at.knows w u v ≡ true → IsTurn W at place w u v → (u ≡ d → ⊥) → v ≡ d
+      → min (min (at.have w u) (max (at.view_have w u v) (at.base w u) + 1)) (at.taken w + bound) ≤ at.have z v
 
 -- The facts on which progress rests, for hops between correct nodes.
-pub record Facts (W : Type 0) (Next : W → Event → W → Type 0) (Hop : NodeId → NodeId → Type 0) (at : Sight W) (place bound least : ℕ) (s d : NodeId) : Type 0 where
-  -- ---- of one step
-  pub base_rises : (w x : W) (e : Event) (u : NodeId) → Next w e x → at.base w u ≤ at.base x u
-  pub have_rises : (w x : W) (e : Event) (u : NodeId) → Next w e x → at.have w u ≤ at.have x u
-  pub taken_rises : (w x : W) (e : Event) → Next w e x → at.taken w ≤ at.taken x
-  pub view_base_rises : (w x : W) (e : Event) (u v : NodeId) → Hop u v → Next w e x → at.view_base w u v ≤ at.view_base x u v
-  pub view_have_rises : (w x : W) (e : Event) (u v : NodeId) → Hop u v → Next w e x → at.view_have w u v ≤ at.view_have x u v
-  pub known : (w x : W) (e : Event) (u v : NodeId) → Hop u v → Next w e x → at.knows w u v ≡ true → at.knows x u v ≡ true
-  pub stays_active : (w x : W) (e : Event) (u : NodeId) → Next w e x → is_on (at.actives w u) place ≡ true → is_on (at.actives x u) place ≡ true
-  pub one_polled : (w x : W) (e : Event) (u v : NodeId) → Hop u v → Next w e x → is_poll u v e ≡ true → at.polled x u v ≡ at.polled w u v + 1
-  pub none_polled : (w x : W) (e : Event) (u v : NodeId) → Hop u v → Next w e x → is_poll u v e ≡ false → at.polled x u v ≡ at.polled w u v
-  pub serves : (w x : W) (e : Event) (u v : NodeId) (p : ℕ) → Hop u v → Next w e x → is_poll u v e ≡ true → at.knows w u v ≡ true
-      → next_after (at.last w u v) (at.actives w u) ≡ Some p → at.last x u v ≡ Some p
-  pub serves_none : (w x : W) (e : Event) (u v : NodeId) → Hop u v → Next w e x → is_poll u v e ≡ false → at.last x u v ≡ at.last w u v
-  -- a client's take makes room at d
-  pub makes_room : (w x : W) (e : Event) → Next w e x → is_take d s e ≡ true → at.have w d < at.taken x + bound
-  -- ---- of one state
-  pub sound : (w : W) (u : NodeId) → at.base w u ≤ at.have w u
-  pub is_active : (w : W) (u : NodeId) → 0 < at.have w u → is_on (at.actives w u) place ≡ true
-  -- all flows that are ever active at a node are among so few
-  pub among : List Bool
-  pub within : (w : W) (u : NodeId) → IsWithin (at.actives w u) among
-  pub few : number_on among ≤ least
-  -- ---- of a frame that is passed before the next is made
-  pub heard : (w x y z : W) (e p : Event) (es : List Event) (u v : NodeId) → Hop u v → Next w e x → is_poll u v e ≡ true
-      → Goes W Next x es y → AreNoPolls u v es → Next y p z → is_pass u v (at.polled x u v) p ≡ true → IsHeard W at place bound d w z u v
+pub record Facts (W : Type 0) (Next : W → Event → W → Type 0) (Hop : NodeId → NodeId → Type 0) (at : Sight W) (place bound least : ℕ) (s d : NodeId) : Type 0
+  where
+    -- ---- of one step
+    pub base_rises : (w x : W) (e : Event) (u : NodeId) → Next w e x → at.base w u ≤ at.base x u
+    pub have_rises : (w x : W) (e : Event) (u : NodeId) → Next w e x → at.have w u ≤ at.have x u
+    pub taken_rises : (w x : W) (e : Event) → Next w e x → at.taken w ≤ at.taken x
+    pub view_base_rises : (w x : W) (e : Event) (u v : NodeId) → Hop u v → Next w e x → at.view_base w u v ≤ at.view_base x u v
+    pub view_have_rises : (w x : W) (e : Event) (u v : NodeId) → Hop u v → Next w e x → at.view_have w u v ≤ at.view_have x u v
+    pub known : (w x : W) (e : Event) (u v : NodeId) → Hop u v → Next w e x → at.knows w u v ≡ true → at.knows x u v ≡ true
+    pub stays_active : (w x : W) (e : Event) (u : NodeId) → Next w e x → is_on (at.actives w u) place ≡ true → is_on (at.actives x u) place ≡ true
+    pub one_polled : (w x : W) (e : Event) (u v : NodeId) → Hop u v → Next w e x → is_poll u v e ≡ true → at.polled x u v ≡ at.polled w u v + 1
+    pub none_polled : (w x : W) (e : Event) (u v : NodeId) → Hop u v → Next w e x → is_poll u v e ≡ false → at.polled x u v ≡ at.polled w u v
+    pub serves : (w x : W) (e : Event) (u v : NodeId) (p : ℕ) → Hop u v → Next w e x → is_poll u v e ≡ true → at.knows w u v ≡ true
+        → next_after (at.last w u v) (at.actives w u) ≡ Some p → at.last x u v ≡ Some p
+    pub serves_none : (w x : W) (e : Event) (u v : NodeId) → Hop u v → Next w e x → is_poll u v e ≡ false → at.last x u v ≡ at.last w u v
+    -- a client's take makes room at d
+    pub makes_room : (w x : W) (e : Event) → Next w e x → is_take d s e ≡ true → at.have w d < at.taken x + bound
+    -- ---- of one state
+    pub sound : (w : W) (u : NodeId) → at.base w u ≤ at.have w u
+    pub is_active : (w : W) (u : NodeId) → 0 < at.have w u → is_on (at.actives w u) place ≡ true
+    -- all flows that are ever active at a node are among so few
+    pub among : List Bool
+    pub within : (w : W) (u : NodeId) → IsWithin (at.actives w u) among
+    pub few : number_on among ≤ least
+    -- ---- of a frame that is passed before the next is made
+    pub heard : (w x y z : W) (e p : Event) (es : List Event) (u v : NodeId) → Hop u v → Next w e x → is_poll u v e ≡ true
+        → Goes W Next x es y → AreNoPolls u v es → Next y p z → is_pass u v (at.polled x u v) p ≡ true → IsHeard W at place bound d w z u v
 
 -- each two neighbours in the path are a hop both ways
 abbrev pub AreHops : (NodeId → NodeId → Type 0) → List NodeId → Type 0

@@ -2,7 +2,8 @@
 use Rattle.sp_frame.specs.Sections.{Contents, with_document}
 use Rattle.laws_progress.proofs.Versions.{served_contents}
 use Rattle.laws_node.specs.Nodes.{FitsAFrame}
-use Rattle.std.proofs.Common.{◌≡◌, ℕ, ◌+◌, ◌==◌, Bool, true, false, List, max, Some, Ok, refl, sym, ap, subst, ◌∙◌, inl, inr, Option, cond, None, Result, [], ◌⊎◌, not, ◌&&◌}
+use Rattle.std.proofs.Common.{◌≡◌, ℕ, ◌+◌, ◌==◌, Bool, true, false, List, max, Some, Ok, refl, sym, ap, subst, ◌∙◌, inl, inr, Option, cond, None, Result, []}
+use Rattle.std.proofs.Common.{◌⊎◌, not, ◌&&◌}
 use Rattle.std.specs.Prelude.{IsTrue, is_none}
 use Rattle.sp_base.specs.Cursor.{or_else}
 use Rattle.sp_frame.specs.declared.refused.SectionRefused.{SectionRefused}
@@ -60,7 +61,8 @@ opens_at arts x reads n v range format room = go (is_behind n v) (is_shut_to n v
     key : List ℕ
     key = (link_in n v).key
 
-    go : (a b : Bool) → IsContentsIn x.topology.format x.signature_len (cond a (with_document n.live.document) (cond b no_contents (contents_to n.fixed n.parts v)))
+    go : (a b : Bool)
+        → IsContentsIn x.topology.format x.signature_len (cond a (with_document n.live.document) (cond b no_contents (contents_to n.fixed n.parts v)))
         → HasGoodMessages arts (cond a (with_document n.live.document) (cond b no_contents (contents_to n.fixed n.parts v)))
         → arts.opened (written arts (head_to n v) (cond a (with_document n.live.document) (cond b no_contents (contents_to n.fixed n.parts v))) key)
         ≡ Ok (written arts (head_to n v) (cond a (with_document n.live.document) (cond b no_contents (contents_to n.fixed n.parts v))) key)
@@ -85,7 +87,8 @@ frame_at arts x es js w fits reads run u v hop n at =
     subst (λ (f : Fixed). IsContentsIn f.topology.format f.signature_len s) fixed (frame_fits (sizes_at x (Good arts x es js) u) n v is.holds) in
     let kept = contents_keep (Good arts x es js) n v (contents_kept (sizes_at x (Good arts x es js) u) n v is.holds) in
     let goods : HasGoodMessages arts s =
-    all_of (λ o. IsTrue (arts.is_good o.body)) (pieces_of s) (all_less (Good arts x es js) (λ o. IsTrue (arts.is_good o.body)) (λ o is_it. is_it.good) (pieces_of s) kept) in
+    all_of (λ o. IsTrue (arts.is_good o.body)) (pieces_of s)
+    (all_less (Good arts x es js) (λ o. IsTrue (arts.is_good o.body)) (λ o is_it. is_it.good) (pieces_of s) kept) in
     let read = reads.heads h s l.key range in
     record {
       head = frame_head arts x es js w fits reads.carries reads.heads run u v hop n at;
@@ -114,7 +117,8 @@ pub data Answers (l : Link) (h : Head) (right : Bool) (mine : ℕ) : Type 0 wher
   Late : (h.echo == mine) ≡ true → is_above (pair_of h) l.seen ≡ false → link_answer l h right ≡ answers.Stale l.seen.0 l.seen.1 → Answers l h right mine
   Take : (h.echo == mine) ≡ true → is_above (pair_of h) l.seen ≡ true → link_answer l h right ≡ answers.Fresh → Answers l h right mine
 
-pub answers_for : (l : Link) (h : Head) (right : Bool) (u v : NodeId) (mine : ℕ) → h.from ≡ u → h.to ≡ v → l.peer ≡ u → l.me ≡ v → l.boot ≡ mine → right ≡ true → Answers l h right mine
+pub answers_for : (l : Link) (h : Head) (right : Bool) (u v : NodeId) (mine : ℕ) → h.from ≡ u → h.to ≡ v → l.peer ≡ u → l.me ≡ v → l.boot ≡ mine → right ≡ true
+    → Answers l h right mine
 answers_for l h right u v mine sender end peer me boot r =
     let from : (h.from.0 == l.peer.0) ≡ true = eq-eqb _ _ (ap (λ (n : NodeId). n.0) (sender ∙ sym peer)) in
     let to : (h.to.0 == l.me.0) ≡ true = eq-eqb _ _ (ap (λ (n : NodeId). n.0) (end ∙ sym me)) in
@@ -133,7 +137,8 @@ pub data Came (arts : Arts) (n : NodeState) (u : NodeId) (bytes : List ℕ) : Ty
   Learns : ((arts.head bytes).echo == n.fixed.boot) ≡ false
       → link_after arts n u bytes ≡ after_answer (link_in n u) (arts.head bytes) (answers.Learned (max (link_in n u).peer_boot (arts.head bytes).boot))
       → reply_at arts n u bytes ≡ replies.Learned (max (link_in n u).peer_boot (arts.head bytes).boot) → Came arts n u bytes
-  Too_late : ((arts.head bytes).echo == n.fixed.boot) ≡ true → is_above (pair_of (arts.head bytes)) (link_in n u).seen ≡ false → link_after arts n u bytes ≡ link_in n u
+  Too_late : ((arts.head bytes).echo == n.fixed.boot) ≡ true → is_above (pair_of (arts.head bytes)) (link_in n u).seen ≡ false
+      → link_after arts n u bytes ≡ link_in n u
       → reply_at arts n u bytes ≡ replies.Stale (link_in n u).seen.0 (link_in n u).seen.1 → Came arts n u bytes
   Taken : ((arts.head bytes).echo == n.fixed.boot) ≡ true → is_above (pair_of (arts.head bytes)) (link_in n u).seen ≡ true
       → link_after arts n u bytes ≡ after_answer (link_in n u) (arts.head bytes) answers.Fresh
@@ -229,7 +234,8 @@ read_or mine theirs documents s shut contents is none =
         → ((or_fresh (or_else (cond (not same && not d) (Some (replies.OtherTopology theirs)) None) (cond (z && is_none o) (Some replies.Withdrawn) None)))
         ≡ replies.Fresh)
         ⊎ (((ps : List Piece)
-        → pieces_where (or_fresh (or_else (cond (not same && not d) (Some (replies.OtherTopology theirs)) None) (cond (z && is_none o) (Some replies.Withdrawn) None)))
+        → pieces_where
+        (or_fresh (or_else (cond (not same && not d) (Some (replies.OtherTopology theirs)) None) (cond (z && is_none o) (Some replies.Withdrawn) None)))
         ps ≡ []) × (theirs ≡ mine → z ≡ false → ⊥))
     of_contents same e d (Some document) some z = absurd (let f : Some document ≡ None = some in cc)
     of_contents true e d None absent false = inl refl

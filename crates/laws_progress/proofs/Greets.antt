@@ -1,7 +1,8 @@
 -- What a datagram of a neighbour meets at a node: where it tells of another life of that neighbour, nothing of what this one reported.
 use Rattle.laws_progress.proofs.Heeded.{Ready}
 use Rattle.sp_base.specs.Rows.{replace_where}
-use Rattle.std.proofs.Common.{◌≡◌, ◌≤◌, ◌<◌, ℕ, ◌==◌, ◌&&◌, ◌||◌, Bool, true, false, cond, not, List, [], ◌∷◌, map, refl, sym, ap, ◌∙◌, inl, inr, arith, ltb-false, ltb-true}
+use Rattle.std.proofs.Common.{◌≡◌, ◌≤◌, ◌<◌, ℕ, ◌==◌, ◌&&◌, ◌||◌, Bool, true, false, cond, not, List, [], ◌∷◌, map, refl, sym, ap, ◌∙◌, inl, inr, arith}
+use Rattle.std.proofs.Common.{ltb-false, ltb-true}
 use Rattle.std.specs.Prelude.{nat_lt}
 use Rattle.std.specs.List.{list_any}
 use Rattle.std.proofs.lemmas.Bool.{cases_Bool, cases_lt, eq-eqb, eqb-true, ne_eqb}
@@ -36,7 +37,8 @@ none_viewed flow (w ∷ ws) = elim (cases_Bool (is_view flow w)) [
   | inr t ↦ rw t (none_viewed flow ws)
 ]
 
-unheard_view : (r : RelState) (u : NodeId) (flow : Flow) → list_any (is_peer u) r.peers ≡ true → view_in (peer_in (unheard r u).peers u).views flow ≡ no_view flow
+unheard_view : (r : RelState) (u : NodeId) (flow : Flow) → list_any (is_peer u) r.peers ≡ true
+    → view_in (peer_in (unheard r u).peers u).views flow ≡ no_view flow
 unheard_view r u flow there =
     ap (λ (p : RelPeer). view_in p.views flow)
     (first_replaced (is_peer u) (new_peer [] u) (no_views (peer_in r.peers u)) r.peers (eq-eqb _ _ (ap (λ (n : NodeId). n.0) (peer_is r u))) there)
@@ -107,10 +109,12 @@ greeted_rows nodes true true u p there rows = record {
 greeted_rows nodes true false u p there rows = rows
 greeted_rows nodes false risen u p there rows = rows
 
-pub greeted_peer : (epochs risen : Bool) (u : NodeId) (p : Parts) → list_any (is_peer u) p.rel.peers ≡ true → list_any (is_peer u) (greeted epochs risen u p).rel.peers ≡ true
+pub greeted_peer : (epochs risen : Bool) (u : NodeId) (p : Parts) → list_any (is_peer u) p.rel.peers ≡ true
+    → list_any (is_peer u) (greeted epochs risen u p).rel.peers ≡ true
 greeted_peer true true u p there = replaced_there p.rel.peers there
   where
-    replaced_there : (ps : List RelPeer) → list_any (is_peer u) ps ≡ true → list_any (is_peer u) (replace_where (is_peer u) (no_views (peer_in p.rel.peers u)) ps) ≡ true
+    replaced_there : (ps : List RelPeer) → list_any (is_peer u) ps ≡ true
+        → list_any (is_peer u) (replace_where (is_peer u) (no_views (peer_in p.rel.peers u)) ps) ≡ true
     replaced_there [] there = absurd (let f : false ≡ true = there in cc)
     replaced_there (q ∷ ps) there = elim (cases_Bool (is_peer u q)) [
       | inl t ↦ let its : is_peer u (no_views (peer_in p.rel.peers u)) ≡ true = eq-eqb _ _ (ap (λ (n : NodeId). n.0) (peer_is p.rel u)) in rw (t, its) refl

@@ -93,7 +93,8 @@ pub frame_head : (arts : Arts) (x : Setting) (es : List Event) (js : List Entry)
 frame_head arts x es js w fits reads heads run u v hop n at =
     let is = (signs arts x es js w fits reads run).nodes u n at in
     let rows = rows_are arts x es js w fits reads run u n at in
-    made_head arts n u v heads (head_range x (Good arts x es js) u n v is.holds (link_there x u v n rows hop)) (links_at arts x es js w fits reads run u v hop n at)
+    made_head arts n u v heads (head_range x (Good arts x es js) u n v is.holds (link_there x u v n rows hop))
+    (links_at arts x es js w fits reads run u v hop n at)
 
 -- the frame in this place, after these events: no later life than the last that u took made it, and in the present life of u places and counters go together
 pub record Placed (x : Setting) (es : List Event) (w : World) (u v : NodeId) (k : ℕ) (h : Head) : Type 0 where
@@ -105,7 +106,8 @@ pub record Placed (x : Setting) (es : List Event) (w : World) (u v : NodeId) (k 
   pub number : (n : NodeState) → node_in w.nodes u ≡ Some n → n.fixed.boot ≡ boot → k + 1 + (link_in n v).sent ≡ polls es u v + counter
 
 -- what a node sent in its life goes with the places of the direction, over one event
-pub same_life : (arts : Arts) (x : Setting) (es : List Event) (js : List Entry) (old new : World) (e : Event) (j : Entry) → SettingFits arts x → Carries x.topology.format arts
+pub same_life : (arts : Arts) (x : Setting) (es : List Event) (js : List Entry) (old new : World) (e : Event) (j : Entry) → SettingFits arts x
+    → Carries x.topology.format arts
     → Clean arts x es js old → (u v : NodeId) → is_hop x u v ≡ true → (n : NodeState) → Becomes arts x old e j new u n
     → ((b : NodeState) × (node_in old.nodes u ≡ Some b) × (n.fixed.boot ≡ b.fixed.boot)
     × ((link_in n v).sent + polls es u v ≡ (link_in b v).sent + polls (es ++ e ∷ []) u v)) ⊎ (n.fixed.boot ≡ last_boot x old u + 1)
@@ -128,7 +130,8 @@ same_life arts x es js old new e j fits reads run u v hop n (Acts acts b at m re
 same_life arts x es js old new e j fits reads run u v hop n (Begins on is start after none) =
     inr (ap (λ (q : NodeState). q.fixed.boot) after ∙ ap (λ (f : Fixed). f.boot) (start_fixed arts x u old on) ∙ start_boot x old u on)
 
-pub placed_on : (arts : Arts) (x : Setting) (es : List Event) (js : List Entry) (old new : World) (e : Event) (j : Entry) → SettingFits arts x → Carries x.topology.format arts
+pub placed_on : (arts : Arts) (x : Setting) (es : List Event) (js : List Entry) (old new : World) (e : Event) (j : Entry) → SettingFits arts x
+    → Carries x.topology.format arts
     → Clean arts x es js old → (range : InRange x es e) → (turn : Turn arts x old e j new) → forged_in arts x es js old e j new turn ≡ None
     → (u v : NodeId) → is_hop x u v ≡ true → (k : ℕ) (h : Head) → Placed x es old u v k h → Placed x (es ++ e ∷ []) new u v k h
 placed_on arts x es js old new e j fits reads run range turn unforged u v hop k h p = record {
@@ -137,14 +140,16 @@ placed_on arts x es js old new e j fits reads run range turn unforged u v hop k 
   head = p.head;
   born = let up = last_rises arts x old e j new turn u in let low = p.born in omega (arith, up, low);
   some = p.some;
-  number = λ n at is. elim (same_life arts x es js old new e j fits reads run u v hop n (becomes arts x es js old e j new fits reads run range turn unforged u n at)) [
-    | inl it ↦ let was = p.number it.0 it.1 (sym it.2 ∙ is) in let same = it.3 in omega (arith, was, same)
-    | inr later ↦ absurd (let low = p.born in omega (arith, later, low, is))
-  ];
+  number = λ n at is. elim
+      (same_life arts x es js old new e j fits reads run u v hop n (becomes arts x es js old e j new fits reads run range turn unforged u n at)) [
+        | inl it ↦ let was = p.number it.0 it.1 (sym it.2 ∙ is) in let same = it.3 in omega (arith, was, same)
+        | inr later ↦ absurd (let low = p.born in omega (arith, later, low, is))
+      ];
 }
 
 -- a frame that is made goes in the last place
-placed_now : (arts : Arts) (x : Setting) (es : List Event) (js : List Entry) (old new : World) (e : Event) (j : Entry) → SettingFits arts x → Carries x.topology.format arts
+placed_now : (arts : Arts) (x : Setting) (es : List Event) (js : List Entry) (old new : World) (e : Event) (j : Entry) → SettingFits arts x
+    → Carries x.topology.format arts
     → HeadsReadBack arts → Clean arts x es js old → (range : InRange x es e) → (turn : Turn arts x old e j new) → forged_in arts x es js old e j new turn ≡ None
     → (u v : NodeId) → is_hop x u v ≡ true → (b : NodeState) → node_in old.nodes u ≡ Some b → (k : ℕ) → k ≡ polls es u v
     → Placed x (es ++ e ∷ []) new u v k (arts.head (frame_to arts b v))
@@ -154,17 +159,19 @@ placed_now arts x es js old new e j fits reads heads run range turn unforged u v
   head = frame_head arts x es js old fits reads heads run u v hop b there;
   born = let up = last_rises arts x old e j new turn u in let is = running_boot arts x es js old fits reads run u b there in omega (arith, up, is);
   some = omega arith;
-  number = λ n at is. elim (same_life arts x es js old new e j fits reads run u v hop n (becomes arts x es js old e j new fits reads run range turn unforged u n at)) [
-    | inl it ↦
-        let same : it.0 ≡ b = same_Some it.0 b (sym it.1 ∙ there) in
-        let sent = ap (λ (q : NodeState). (link_in q v).sent) same in
-        let count = it.3 in
-        omega (arith, count, sent, place)
-    | inr later ↦ absurd (let mine = running_boot arts x es js old fits reads run u b there in omega (arith, later, mine, is))
-  ];
+  number = λ n at is. elim
+      (same_life arts x es js old new e j fits reads run u v hop n (becomes arts x es js old e j new fits reads run range turn unforged u n at)) [
+        | inl it ↦
+            let same : it.0 ≡ b = same_Some it.0 b (sym it.1 ∙ there) in
+            let sent = ap (λ (q : NodeState). (link_in q v).sent) same in
+            let count = it.3 in
+            omega (arith, count, sent, place)
+        | inr later ↦ absurd (let mine = running_boot arts x es js old fits reads run u b there in omega (arith, later, mine, is))
+      ];
 }
 
-heads_more : (arts : Arts) (x : Setting) (es : List Event) (js : List Entry) (old new : World) (e : Event) (j : Entry) → SettingFits arts x → Carries x.topology.format arts
+heads_more : (arts : Arts) (x : Setting) (es : List Event) (js : List Entry) (old new : World) (e : Event) (j : Entry) → SettingFits arts x
+    → Carries x.topology.format arts
     → HeadsReadBack arts → Clean arts x es js old → (range : InRange x es e) → (turn : Turn arts x old e j new) → forged_in arts x es js old e j new turn ≡ None
     → (u v : NodeId) → is_hop x u v ≡ true
     → ((k : ℕ) (bytes : List ℕ) → slice_get (frames_in old.directions u v) k ≡ Some (Some bytes) → Placed x es old u v k (arts.head bytes))
@@ -188,8 +195,10 @@ heads_more arts x es js old new e j fits reads heads run range turn unforged u v
 
 pub heads_are : (arts : Arts) (x : Setting) (es : List Event) (js : List Entry) (w : World) → SettingFits arts x → Carries x.topology.format arts
     → HeadsReadBack arts → Clean arts x es js w
-    → (u v : NodeId) → is_hop x u v ≡ true → (k : ℕ) (bytes : List ℕ) → slice_get (frames_in w.directions u v) k ≡ Some (Some bytes) → Placed x es w u v k (arts.head bytes)
+    → (u v : NodeId) → is_hop x u v ≡ true → (k : ℕ) (bytes : List ℕ) → slice_get (frames_in w.directions u v) k ≡ Some (Some bytes)
+    → Placed x es w u v k (arts.head bytes)
 heads_are arts x es js w fits reads heads Starts u v hop k bytes at = absurd cc
 heads_are arts x es js w fits reads heads (Turned {es = es'} {js = js'} {old = old} {e = e} {j = j} run range turn unforged) u v hop k bytes at =
-    heads_more arts x es' js' old w e j fits reads heads run range turn unforged u v hop (λ i frame was. heads_are arts x es' js' old fits reads heads run u v hop i frame was)
+    heads_more arts x es' js' old w e j fits reads heads run range turn unforged u v hop
+    (λ i frame was. heads_are arts x es' js' old fits reads heads run u v hop i frame was)
     k bytes at (frames_turn arts x old e j w turn u v)

@@ -11,7 +11,8 @@ use Rattle.laws_progress.proofs.Facts.{Goes, Stays, Steps, AreNoPolls, Sight, Is
 use Rattle.laws_progress.proofs.Hops.{IsBehind, IsFit, IsHeeded, IsMade, IsServed, Steady, Told, Wires}
 
 -- what is known of a neighbour never falls
-views_rise : (W : Type 0) (Next : W → Event → W → Type 0) (Hop : NodeId → NodeId → Type 0) (at : Sight W) (on : Wires W) (place bound least : ℕ) (s d : NodeId) → Steady W Next Hop at on place bound least s d
+views_rise : (W : Type 0) (Next : W → Event → W → Type 0) (Hop : NodeId → NodeId → Type 0) (at : Sight W) (on : Wires W) (place bound least : ℕ) (s d : NodeId)
+    → Steady W Next Hop at on place bound least s d
     → (w x : W) (e : Event) (u v : NodeId) → Hop u v → Next w e x → (at.view_base w u v ≤ at.view_base x u v) × (at.view_have w u v ≤ at.view_have x u v)
 views_rise W Next Hop at on place bound least s d steady w x e u v hop step =
     let pho = steady.both_ways u v hop in
@@ -42,7 +43,8 @@ record Since (W : Type 0) (at : Sight W) (on : Wires W) (place bound : ℕ) (d :
   heard : (on.seen y v u < n) ⊎ ((on.seen y v u ≡ n) × (f.here ≡ true → f.mine ≡ true → IsLeft W at place bound d w y u v f))
 
 -- each frame that is there is fit
-fit : (W : Type 0) (Next : W → Event → W → Type 0) (Hop : NodeId → NodeId → Type 0) (at : Sight W) (on : Wires W) (place bound least : ℕ) (s d : NodeId) → Steady W Next Hop at on place bound least s d
+fit : (W : Type 0) (Next : W → Event → W → Type 0) (Hop : NodeId → NodeId → Type 0) (at : Sight W) (on : Wires W) (place bound least : ℕ) (s d : NodeId)
+    → Steady W Next Hop at on place bound least s d
     → (w x : W) (e : Event) (u v : NodeId) → Next w e x → (f : Told) → IsBehind W at bound w u v f → IsFit W at bound s d w v f
 fit W Next Hop at on place bound least s d steady w x e u v step f h = record {
   base = let a = h.base in let b = steady.acknowledged w x e u step in omega (arith, a, b);
@@ -53,8 +55,10 @@ fit W Next Hop at on place bound least s d steady w x e u v step f h = record {
   next_near = h.next_near;
 }
 
-since_step : (W : Type 0) (Next : W → Event → W → Type 0) (Hop : NodeId → NodeId → Type 0) (at : Sight W) (on : Wires W) (place bound least : ℕ) (s d : NodeId) → Steady W Next Hop at on place bound least s d
-    → (w x y : W) (e : Event) (u v : NodeId) (n : ℕ) (f : Told) → Hop u v → 0 < n → Next x e y → is_poll u v e ≡ false → Since W at on place bound d w x u v n f → Since W at on place bound d w y u v n f
+since_step : (W : Type 0) (Next : W → Event → W → Type 0) (Hop : NodeId → NodeId → Type 0) (at : Sight W) (on : Wires W) (place bound least : ℕ) (s d : NodeId)
+    → Steady W Next Hop at on place bound least s d
+    → (w x y : W) (e : Event) (u v : NodeId) (n : ℕ) (f : Told) → Hop u v → 0 < n → Next x e y → is_poll u v e ≡ false → Since W at on place bound d w x u v n f
+    → Since W at on place bound d w y u v n f
 since_step W Next Hop at on place bound least s d steady w x y e u v n f hop pos step quiet h =
     let h_number = h.number in
     let count = steady.none_polled x y e u v hop step quiet in
@@ -113,11 +117,14 @@ since_step W Next Hop at on place bound least s d steady w x y e u v n f hop pos
       ];
     }
 
-since_on : (W : Type 0) (Next : W → Event → W → Type 0) (Hop : NodeId → NodeId → Type 0) (at : Sight W) (on : Wires W) (place bound least : ℕ) (s d : NodeId) → Steady W Next Hop at on place bound least s d
-    → (w : W) (u v : NodeId) (n : ℕ) (f : Told) → Hop u v → 0 < n → (es : List Event) (x y : W) → Goes W Next x es y → AreNoPolls u v es → Since W at on place bound d w x u v n f → Since W at on place bound d w y u v n f
+since_on : (W : Type 0) (Next : W → Event → W → Type 0) (Hop : NodeId → NodeId → Type 0) (at : Sight W) (on : Wires W) (place bound least : ℕ) (s d : NodeId)
+    → Steady W Next Hop at on place bound least s d
+    → (w : W) (u v : NodeId) (n : ℕ) (f : Told) → Hop u v → 0 < n → (es : List Event) (x y : W) → Goes W Next x es y → AreNoPolls u v es
+    → Since W at on place bound d w x u v n f → Since W at on place bound d w y u v n f
 since_on W Next Hop at on place bound least s d steady w u v n f hop pos [] x y Stays quiet h = h
 since_on W Next Hop at on place bound least s d steady w u v n f hop pos (e ∷ es) x y (Steps {x = m} step g) quiet h =
-    since_on W Next Hop at on place bound least s d steady w u v n f hop pos es m y g quiet.1 (since_step W Next Hop at on place bound least s d steady w x m e u v n f hop pos step quiet.0 h)
+    since_on W Next Hop at on place bound least s d steady w u v n f hop pos es m y g quiet.1
+    (since_step W Next Hop at on place bound least s d steady w x m e u v n f hop pos step quiet.0 h)
 
 -- a pass is no poll
 pass_no_poll : (u v a b : NodeId) (k : ℕ) (p : Event) → is_pass u v k p ≡ true → is_poll a b p ≡ false
@@ -125,8 +132,10 @@ pass_no_poll u v a b k (events.Poll x y) is = absurd (let f : false ≡ true = i
 pass_no_poll u v a b k p is = refl
 
 -- what is left at v gives the message that v wants
-wanted : (W : Type 0) (at : Sight W) (place : ℕ) (d : NodeId) (w z : W) (u v : NodeId) (f : Told) → IsMade W at w u v f → IsServed W at place d w u v f → f.mine ≡ true → (u ≡ d → ⊥) → at.view_have w u v ≤ at.have w v → at.have w v ≤ at.have z v → at.base z v ≤ at.have z v
-    → (more : ℕ) → min f.next more ≤ at.have z v → f.base ≤ at.base z v → min (min (at.have w u) (max (at.view_have w u v) (at.base w u) + 1)) more ≤ at.have z v
+wanted : (W : Type 0) (at : Sight W) (place : ℕ) (d : NodeId) (w z : W) (u v : NodeId) (f : Told) → IsMade W at w u v f → IsServed W at place d w u v f
+    → f.mine ≡ true → (u ≡ d → ⊥) → at.view_have w u v ≤ at.have w v → at.have w v ≤ at.have z v → at.base z v ≤ at.have z v
+    → (more : ℕ) → min f.next more ≤ at.have z v → f.base ≤ at.base z v
+    → min (min (at.have w u) (max (at.view_have w u v) (at.base w u) + 1)) more ≤ at.have z v
 wanted W at place d w z u v f made now mine inner view up sound more got base =
     let b = made.base mine in
     elim (now.next_is mine inner) [
@@ -134,12 +143,15 @@ wanted W at place d w z u v f made now mine inner view up sound more got base =
       | inr is ↦ omega (arith, is, got)
     ]
 
-have_on : (W : Type 0) (Next : W → Event → W → Type 0) (Hop : NodeId → NodeId → Type 0) (at : Sight W) (on : Wires W) (place bound least : ℕ) (s d : NodeId) → Steady W Next Hop at on place bound least s d
+have_on : (W : Type 0) (Next : W → Event → W → Type 0) (Hop : NodeId → NodeId → Type 0) (at : Sight W) (on : Wires W) (place bound least : ℕ) (s d : NodeId)
+    → Steady W Next Hop at on place bound least s d
     → (v : NodeId) (es : List Event) (x y : W) → Goes W Next x es y → at.have x v ≤ at.have y v
 have_on W Next Hop at on place bound least s d steady v [] x y Stays = omega arith
-have_on W Next Hop at on place bound least s d steady v (e ∷ es) x y (Steps {x = m} step g) = let a = steady.have_rises x m e v step in let b = have_on W Next Hop at on place bound least s d steady v es m y g in omega (arith, a, b)
+have_on W Next Hop at on place bound least s d steady v (e ∷ es) x y (Steps {x = m} step g) = let a = steady.have_rises x m e v step in let b =
+    have_on W Next Hop at on place bound least s d steady v es m y g in omega (arith, a, b)
 
-heard : (W : Type 0) (Next : W → Event → W → Type 0) (Hop : NodeId → NodeId → Type 0) (at : Sight W) (on : Wires W) (place bound least : ℕ) (s d : NodeId) → Steady W Next Hop at on place bound least s d
+heard : (W : Type 0) (Next : W → Event → W → Type 0) (Hop : NodeId → NodeId → Type 0) (at : Sight W) (on : Wires W) (place bound least : ℕ) (s d : NodeId)
+    → Steady W Next Hop at on place bound least s d
     → (w x y z : W) (e p : Event) (es : List Event) (u v : NodeId) → Hop u v → Next w e x → is_poll u v e ≡ true
     → Goes W Next x es y → AreNoPolls u v es → Next y p z → is_pass u v (at.polled x u v) p ≡ true → IsHeard W at place bound d w z u v
 heard W Next Hop at on place bound least s d steady w x y z e p es u v hop step poll g quiet pass is =
@@ -189,7 +201,8 @@ heard W Next Hop at on place bound least s d steady w x y z e p es u v hop step 
       have = λ k turn inner other.
           let l = left k turn in
           let got = l.have other in
-          let all = wanted W at place d w z u v f made now (now.mine k turn) inner view have_up sound (at.have w u) (omega (arith, got)) l.base in omega (arith, all);
+          let all = wanted W at place d w z u v f made now (now.mine k turn) inner view have_up sound (at.have w u) (omega (arith, got)) l.base in
+          omega (arith, all);
       have_at_end = λ k turn inner at_d.
           let l = left k turn in
           let got = l.have_at_end at_d in
@@ -197,7 +210,8 @@ heard W Next Hop at on place bound least s d steady w x y z e p es u v hop step 
     }
 
 -- one-step facts give the facts on which progress rests
-pub facts_of : (W : Type 0) (Next : W → Event → W → Type 0) (Hop : NodeId → NodeId → Type 0) (at : Sight W) (on : Wires W) (place bound least : ℕ) (s d : NodeId) → Steady W Next Hop at on place bound least s d → Facts W Next Hop at place bound least s d
+pub facts_of : (W : Type 0) (Next : W → Event → W → Type 0) (Hop : NodeId → NodeId → Type 0) (at : Sight W) (on : Wires W) (place bound least : ℕ)
+    (s d : NodeId) → Steady W Next Hop at on place bound least s d → Facts W Next Hop at place bound least s d
 facts_of W Next Hop at on place bound least s d steady = record {
   base_rises = steady.base_rises;
   have_rises = steady.have_rises;

@@ -94,7 +94,8 @@ slot_keeps P s h =
     let rest = keep_right P (map WeightPiece s.weights) (PrioAckPiece s.prio_ack ∷ (map prio_piece s.prios ++ (slot_pieces s.slot ++ last))) h in
     keep_left P (slot_pieces s.slot) last (keep_right P (map prio_piece s.prios) (slot_pieces s.slot ++ last) rest.1)
 
-pub ack_keeps : (P : Kept → Type 0) (flow : Flow) (a : Option Kept) (ys : List Piece) → AllKeep P (map (AckPiece flow) (as_list a) ++ ys) → (o : Kept) → a ≡ Some o → P o
+pub ack_keeps : (P : Kept → Type 0) (flow : Flow) (a : Option Kept) (ys : List Piece) → AllKeep P (map (AckPiece flow) (as_list a) ++ ys) → (o : Kept)
+    → a ≡ Some o → P o
 ack_keeps P flow None ys h o e = absurd (let f : None ≡ Some o = e in cc)
 ack_keeps P flow (Some b) ys h o e = let same : b ≡ o = cc in subst P same h.0
 
@@ -133,17 +134,18 @@ lt_off : (a b : ℕ) → b ≤ a → nat_lt a b ≡ false
 lt_off a b le = elim (cases_Bool (nat_lt a b)) [ inl t ↦ absurd (let lt = ltb-true a b t in omega (arith, le, lt)) | inr t ↦ t ]
 
 -- v took a frame that u made in its life
-pub record TakenAt (arts : Arts) (x : Setting) (all : List Event) (era : Era) (w : Watched arts x all era) (u v : NodeId) (n m : NodeState) (k : ℕ) : Type 0 where
-  pub bytes : List ℕ
-  pub arrived : Arrived arts x w.at.events w.at.world u v n bytes k
-  pub life : (arts.head bytes).boot ≡ era.life u
-  pub echo : ((arts.head bytes).echo == n.fixed.boot) ≡ true
-  pub above : is_above (pair_of (arts.head bytes)) (link_in n u).seen ≡ true
-  pub boot : (link_in m u).peer_boot ≡ (arts.head bytes).boot
-  pub seen : (link_in m u).seen ≡ pair_of (arts.head bytes)
-  pub rise : (link_in n u).peer_boot ≤ (link_after arts n u bytes).peer_boot
-  pub top : (link_after arts n u bytes).peer_boot ≤ era.life u
-  pub link : link_in m u ≡ link_after arts n u bytes
+pub record TakenAt (arts : Arts) (x : Setting) (all : List Event) (era : Era) (w : Watched arts x all era) (u v : NodeId) (n m : NodeState) (k : ℕ) : Type 0
+  where
+    pub bytes : List ℕ
+    pub arrived : Arrived arts x w.at.events w.at.world u v n bytes k
+    pub life : (arts.head bytes).boot ≡ era.life u
+    pub echo : ((arts.head bytes).echo == n.fixed.boot) ≡ true
+    pub above : is_above (pair_of (arts.head bytes)) (link_in n u).seen ≡ true
+    pub boot : (link_in m u).peer_boot ≡ (arts.head bytes).boot
+    pub seen : (link_in m u).seen ≡ pair_of (arts.head bytes)
+    pub rise : (link_in n u).peer_boot ≤ (link_after arts n u bytes).peer_boot
+    pub top : (link_after arts n u bytes).peer_boot ≤ era.life u
+    pub link : link_in m u ≡ link_after arts n u bytes
 
 -- and handled what u had in turn
 pub record HandledAt (arts : Arts) (u v : NodeId) (n m maker : NodeState) (bytes : List ℕ) : Type 0 where
@@ -162,7 +164,8 @@ pub record Met (arts : Arts) (x : Setting) (all : List Event) (era : Era) (flow 
   pub it : TakenAt arts x all era w u v n m k
   pub left : HandledAt arts u v n m it.arrived.from.node it.bytes ⊎ PassedOver arts x era flow u v n m it.arrived.from.node it.bytes
 
-module _ (arts : Arts) (x : Setting) (all : List Event) (era : Era) (flow : Flow) (fits : SettingFits arts x) (reads : ComesThrough x.topology.format arts x.signature_len)
+module _ (arts : Arts) (x : Setting) (all : List Event) (era : Era) (flow : Flow) (fits : SettingFits arts x)
+    (reads : ComesThrough x.topology.format arts x.signature_len)
     (is_era : IsEra x flow era) (w y : Watched arts x all era) (e : Event) (u v : NodeId) (hop : IsBetween x era u v) (a : Acted arts x all era w y e v)
     (first : in_life era v a.node ≡ true) (second : in_life era v a.after ≡ true) where
   abbrev n : NodeState
@@ -224,7 +227,8 @@ module _ (arts : Arts) (x : Setting) (all : List Event) (era : Era) (flow : Flow
           absurd (let f : true ≡ false = sym (both_held n flow.src flow.dst era.sboot era.dboot (sym src ∙ h.0) (sym dst ∙ h.1)) ∙ off in cc)
       go (Begins_anew rises none views) true e = either (has_met x era u m) (views u)
         where
-          either : (t : Bool) → view_in (peer_in m.parts.rel.peers u).views flow ≡ no_view flow → cond t (view_in (peer_in m.parts.rel.peers u).views flow) (no_view flow) ≡ no_view flow
+          either : (t : Bool) → view_in (peer_in m.parts.rel.peers u).views flow ≡ no_view flow
+              → cond t (view_in (peer_in m.parts.rel.peers u).views flow) (no_view flow) ≡ no_view flow
           either true is = is
           either false is = refl
 
@@ -256,8 +260,10 @@ module _ (arts : Arts) (x : Setting) (all : List Event) (era : Era) (flow : Flow
           | inl held ↦
               let stay = boots_stay held in
               let now = stay.0 in
-              let view = step_view u flow (view_in (peer_in n.parts.rel.peers u).views flow) arts n a.input a.output m a.step stay.1 stay.2 peer_row quiet refl in
-              rw (first, second, held, now) (ap (λ b. cond (not x.epochs || (b == era.life u)) (view_in (peer_in m.parts.rel.peers u).views flow) (no_view flow)) boot
+              let view = step_view u flow (view_in (peer_in n.parts.rel.peers u).views flow) arts n a.input a.output m a.step stay.1 stay.2 peer_row quiet
+              refl in
+              rw (first, second, held, now)
+              (ap (λ b. cond (not x.epochs || (b == era.life u)) (view_in (peer_in m.parts.rel.peers u).views flow) (no_view flow)) boot
               ∙ ap (λ z. cond (has_met x era u n) z (no_view flow)) view)
         ];
       }
@@ -304,7 +310,8 @@ module _ (arts : Arts) (x : Setting) (all : List Event) (era : Era) (flow : Flow
         ap (λ t. t && holds m flow.src era.sboot flow.dst era.dboot) (second ∙ sym first)
         ∙ ap (λ ls. in_life era v n && ((held_boot ls flow.src == era.sboot) && (held_boot ls flow.dst == era.dboot))) lives in
         ap (λ t. cond (t && has_met x era u m) (view_in (peer_in m.parts.rel.peers u).views flow) (no_view flow)) here
-        ∙ ap (λ (l : Link). cond (in_era era flow v n && (not x.epochs || (l.peer_boot == era.life u))) (view_in (peer_in m.parts.rel.peers u).views flow) (no_view flow)) link_is_now
+        ∙ ap (λ (l : Link). cond (in_era era flow v n && (not x.epochs || (l.peer_boot == era.life u))) (view_in (peer_in m.parts.rel.peers u).views flow)
+        (no_view flow)) link_is_now
         ∙ ap (λ ps. cond (in_era era flow v n && (not x.epochs || ((link_after arts n u bytes).peer_boot == era.life u)))
         (view_in (peer_in ps u).views flow) (no_view flow)) quiet.1
         ∙ met_seen
@@ -392,7 +399,8 @@ module _ (arts : Arts) (x : Setting) (all : List Event) (era : Era) (flow : Flow
                 (seen_now ∙ ap (λ t. cond t (max (link_in n u).peer_boot (arts.head bytes).boot, 0) (link_in n u).seen) f)
             | inl up ↦
                 let t : nat_lt (link_in n u).peer_boot (max (link_in n u).peer_boot (arts.head bytes).boot) ≡ true = lt_on _ _ up in
-                let zero : (link_in m u).seen.1 ≡ 0 = ap (λ (p : ℕ × ℕ). p.1) (seen_now ∙ ap (λ t. cond t (max (link_in n u).peer_boot (arts.head bytes).boot, 0) (link_in n u).seen) t) in
+                let zero : (link_in m u).seen.1 ≡ 0 =
+                ap (λ (p : ℕ × ℕ). p.1) (seen_now ∙ ap (λ t. cond t (max (link_in n u).peer_boot (arts.head bytes).boot, 0) (link_in n u).seen) t) in
                 let before : heard_of era v u n ≡ 0 = off_seen n (λ same. let top = top_now in omega (arith, same, up, boot, top)) in
                 ap (λ c. cond (knows_life era v u m) (numbered (era.early u v) c) 0) zero ∙ either_zero (knows_life era v u m) ∙ sym before
           ];
@@ -424,7 +432,8 @@ module _ (arts : Arts) (x : Setting) (all : List Event) (era : Era) (flow : Flow
               let low = above_boot (arts.head bytes) (link_in n u) knows.seen above in
               let top = top_now in
               let after_off : heard_of era v u m ≡ 0 = off_seen m (λ same. other (sym boot ∙ same)) in
-              let apart : (link_in n u).peer_boot ≡ era.life u → ⊥ = λ same. other (let z : (arts.head bytes).boot ≡ era.life u = omega (arith, same, low, boot, top) in z) in
+              let apart : (link_in n u).peer_boot ≡ era.life u → ⊥ =
+              λ same. other (let z : (arts.head bytes).boot ≡ era.life u = omega (arith, same, low, boot, top) in z) in
               let on_epochs : x.epochs ≡ true = elim (cases_Bool x.epochs) [
                 | inl t ↦ t
                 | inr t ↦ absurd (other (it.framed.head.boot_is

@@ -45,7 +45,8 @@ pub record AreNodes (nodes : List NodeId) (flow : Flow) : Type 0 where
   pub dst : list_any (λ x. x.0 == flow.dst.0) nodes ≡ true
   pub different : (flow.src.0 == flow.dst.0) ≡ false
 
-are_its_ends : (nodes : List NodeId) (bound : ℕ) (v : NodeId) (flow : Flow) (r : RelState) → Ready nodes bound v flow r → AreNodes nodes flow → are_ends r flow flow.src flow.dst ≡ true
+are_its_ends : (nodes : List NodeId) (bound : ℕ) (v : NodeId) (flow : Flow) (r : RelState) → Ready nodes bound v flow r → AreNodes nodes flow
+    → are_ends r flow flow.src flow.dst ≡ true
 are_its_ends nodes bound v flow r ready are =
     let a : (flow.src.0 == flow.src.0) ≡ true = eq-eqb _ _ refl in
     let b : (flow.dst.0 == flow.dst.0) ≡ true = eq-eqb _ _ refl in
@@ -73,7 +74,8 @@ are_its_ends nodes bound v flow r ready are =
 
 -- ---- an acknowledgement
 
-judged_ack : (e t u v : Bool) → e ≡ true → t ≡ false → u ≡ false → v ≡ false → cond (not e) acks.BadEnd (cond t acks.Old (cond u acks.Ahead (cond v acks.Ahead acks.New))) ≡ acks.New
+judged_ack : (e t u v : Bool) → e ≡ true → t ≡ false → u ≡ false → v ≡ false
+    → cond (not e) acks.BadEnd (cond t acks.Old (cond u acks.Ahead (cond v acks.Ahead acks.New))) ≡ acks.New
 judged_ack e t u v a b c d = rw (a, b, c, d) refl
 
 both_false : (a b : Bool) → (a ≡ true → b ≡ false) → (a && b) ≡ false
@@ -88,10 +90,14 @@ put_base : (r : RelState) (flow : Flow) (g : FlowState) → list_any (is_flow fl
 put_base r flow g row is = first_replaced (is_flow flow) (no_flow flow) g r.flows (is_its g flow is) row
 
 pub ack_later : (arts : Arts) (f : Fixed) (ls : List Life) (r : RelState) (flow : Flow) (o : Kept) → RelLater r (after_ack arts f ls r flow o)
-ack_later arts f ls r flow o = cond_either (RelLater r) (is_new (items.Ack (ack_answer (is_signed arts f o) (is_dated ls o.body) (judge_ack_of r flow o.body)))) (admit_ack r o) r (admit_ack_later r o) (rel_same r)
+ack_later arts f ls r flow o =
+    cond_either (RelLater r) (is_new (items.Ack (ack_answer (is_signed arts f o) (is_dated ls o.body) (judge_ack_of r flow o.body)))) (admit_ack r o) r
+    (admit_ack_later r o) (rel_same r)
 
 pub rel_later : (arts : Arts) (f : Fixed) (ls : List Life) (r : RelState) (flow : Flow) (o : Kept) → RelLater r (after_rel arts f ls r flow o)
-rel_later arts f ls r flow o = cond_either (RelLater r) (is_new (items.Rel (rel_answer (is_signed arts f o) (is_dated ls o.body) (judge_rel_of r flow o.body)))) (admit_rel r o) r (admit_rel_later r o) (rel_same r)
+rel_later arts f ls r flow o =
+    cond_either (RelLater r) (is_new (items.Rel (rel_answer (is_signed arts f o) (is_dated ls o.body) (judge_rel_of r flow o.body)))) (admit_rel r o) r
+    (admit_rel_later r o) (rel_same r)
 
 pub ack_heard : (arts : Arts) (fx : Fixed) (ls : List Life) (nodes : List NodeId) (bound : ℕ) (v : NodeId) (flow : Flow) (r : RelState) (o : Kept) (q : ℕ)
     → Ready nodes bound v flow r → AreNodes nodes flow → IsAckOf flow o.body → number_said o.body ≡ q
@@ -108,18 +114,23 @@ ack_heard arts fx ls nodes bound v flow r o q ready are kind number signed dated
       ∙ ap (λ t. cond (is_new (items.Ack (ack_answer t (is_dated ls o.body) acks.New))) (admit_ack r o) r) signed
       ∙ ap (λ t. cond (is_new (items.Ack (ack_answer true t acks.New))) (admit_ack r o) r) dated in
       let put : admit_ack r o ≡ with_flow r flow (acknowledged_by f o) = ap (λ fl. with_flow r fl (acknowledged_by (flow_in r.flows fl) o)) new.1 in
-      let at : flow_in (after_ack arts fx ls r flow o).flows flow ≡ acknowledged_by f o = ap (λ (z : RelState). flow_in z.flows flow) (is ∙ put) ∙ put_base r flow (acknowledged_by f o) ready.row (found_ends r.flows flow) in
+      let at : flow_in (after_ack arts fx ls r flow o).flows flow ≡ acknowledged_by f o =
+      ap (λ (z : RelState). flow_in z.flows flow) (is ∙ put) ∙ put_base r flow (acknowledged_by f o) ready.row (found_ends r.flows flow) in
       let base = ap (λ (g : FlowState). g.at.base) at in
       omega (arith, base, number)
 ]
   where
-    go : (body : Body) → o.body ≡ body → IsAckOf flow body → number_said body ≡ q → (flow_in r.flows flow).at.base < q → (judge_ack_of r flow body ≡ acks.New) × (flow_said body ≡ flow)
+    go : (body : Body) → o.body ≡ body → IsAckOf flow body → number_said body ≡ q → (flow_in r.flows flow).at.base < q
+        → (judge_ack_of r flow body ≡ acks.New) × (flow_said body ≡ flow)
     go (bodies.Ack a) e kind number above =
-        let end : are_ends r flow a.src a.dst ≡ true = ap (λ s. are_ends r flow s a.dst) kind.0 ∙ ap (are_ends r flow flow.src) kind.1 ∙ are_its_ends nodes bound v flow r ready are in
+        let end : are_ends r flow a.src a.dst ≡ true =
+        ap (λ s. are_ends r flow s a.dst) kind.0 ∙ ap (are_ends r flow flow.src) kind.1 ∙ are_its_ends nodes bound v flow r ready are in
         let high : nat_le a.seq (flow_in r.flows flow).at.base ≡ false = grind (arith, nat_tests) in
-        let sent : (is_from r flow && nat_lt (flow_in r.flows flow).at.have a.seq) ≡ false = both_false _ _ (λ t. let low = at_source t in grind (arith, nat_tests)) in
+        let sent : (is_from r flow && nat_lt (flow_in r.flows flow).at.have a.seq) ≡ false =
+        both_false _ _ (λ t. let low = at_source t in grind (arith, nat_tests)) in
         let away : is_to r flow ≡ false = none_true (is_to r flow) (λ t. let low = at_end t in omega (arith, low, above)) in (
-          judged_ack (are_ends r flow a.src a.dst) (nat_le a.seq (flow_in r.flows flow).at.base) (is_from r flow && nat_lt (flow_in r.flows flow).at.have a.seq) (is_to r flow) end high sent away,
+          judged_ack (are_ends r flow a.src a.dst) (nat_le a.seq (flow_in r.flows flow).at.base) (is_from r flow && nat_lt (flow_in r.flows flow).at.have a.seq)
+              (is_to r flow) end high sent away,
           ap (λ s. let g : Flow = record { src = s; dst = a.dst } in g) kind.0 ∙ ap (λ d. let g : Flow = record { src = flow.src; dst = d } in g) kind.1,
         )
     go (bodies.Rel a) e kind number above = absurd kind
@@ -140,7 +151,8 @@ pub rel_heard : (arts : Arts) (fx : Fixed) (ls : List Life) (nodes : List NodeId
     → is_signed arts fx o ≡ true → is_dated ls o.body ≡ true → q ≤ (flow_in r.flows flow).at.have + 1 → q ≤ (flow_in r.flows flow).at.base + bound
     → (is_from r flow ≡ true → q ≤ (flow_in r.flows flow).at.have)
     → (is_to r flow ≡ false → q ≤ (flow_in (after_rel arts fx ls r flow o).flows flow).at.have)
-    × (is_to r flow ≡ true → min q ((flow_in r.flows flow).at.have - length (flow_in r.flows flow).inbox + bound) ≤ (flow_in (after_rel arts fx ls r flow o).flows flow).at.have)
+    × (is_to r flow ≡ true
+    → min q ((flow_in r.flows flow).at.have - length (flow_in r.flows flow).inbox + bound) ≤ (flow_in (after_rel arts fx ls r flow o).flows flow).at.have)
 rel_heard arts fx ls nodes bound v flow r o q ready are message signed dated near window at_source = elim (cases_lt (flow_in r.flows flow).at.have q) [
   | inr old ↦ let up = (rel_later arts fx ls r flow o flow).have in (λ z. omega (arith, old, up), λ z. omega (arith, old, up))
   | inl above ↦
@@ -150,10 +162,13 @@ rel_heard arts fx ls nodes bound v flow r o q ready are message signed dated nea
       let few = a.inbox (ap (is_over r.removed) (found_ends r.flows flow) ∙ ready.goes_on) in
       let bound_is = ready.bound_is in
       let up = (rel_later arts fx ls r flow o flow).have in (
-        λ inner. let new = go o.body refl message above (both_false (is_to r flow) (length f.inbox == r.bound) (λ t. absurd (let g : true ≡ false = sym t ∙ inner in cc))) in taken new above,
+        λ inner. let new =
+            go o.body refl message above (both_false (is_to r flow) (length f.inbox == r.bound) (λ t. absurd (let g : true ≡ false = sym t ∙ inner in cc))) in
+            taken new above,
         λ end. elim (cases_Bool (length f.inbox == r.bound)) [
           | inl full ↦ let same = eqb-true _ _ full in omega (arith, same, bound_is, few, up)
-          | inr space ↦ let new = go o.body refl message above (both_false (is_to r flow) (length f.inbox == r.bound) (λ t. space)) in let it = taken new above in omega (arith, it)
+          | inr space ↦ let new = go o.body refl message above (both_false (is_to r flow) (length f.inbox == r.bound) (λ t. space)) in let it =
+              taken new above in omega (arith, it)
         ],
       )
 ]
@@ -177,7 +192,8 @@ rel_heard arts fx ls nodes bound v flow r o q ready are message signed dated nea
           ap (λ s. let g : Flow = record { src = s; dst = dst } in g) message.0 ∙ ap (λ d. let g : Flow = record { src = flow.src; dst = d } in g) message.1,
         )
 
-    go : (body : Body) → o.body ≡ body → IsMessage flow q body → (flow_in r.flows flow).at.have < q → (is_to r flow && (length (flow_in r.flows flow).inbox == r.bound)) ≡ false
+    go : (body : Body) → o.body ≡ body → IsMessage flow q body → (flow_in r.flows flow).at.have < q
+        → (is_to r flow && (length (flow_in r.flows flow).inbox == r.bound)) ≡ false
         → (judge_rel_of r flow body ≡ rels.New) × (flow_said body ≡ flow)
     go (bodies.Rel m) e message above space = of_ends m.src m.dst m.seq message above space
     go (bodies.Krel m) e message above space = of_ends m.src m.dst m.seq message above space
@@ -204,8 +220,11 @@ rel_heard arts fx ls nodes bound v flow r o q ready are message signed dated nea
         ap (λ j. cond (is_new (items.Rel (rel_answer (is_signed arts fx o) (is_dated ls o.body) j))) (admit_rel r o) r) new.0
         ∙ ap (λ t. cond (is_new (items.Rel (rel_answer t (is_dated ls o.body) rels.New))) (admit_rel r o) r) signed
         ∙ ap (λ t. cond (is_new (items.Rel (rel_answer true t rels.New))) (admit_rel r o) r) dated in
-        let put : admit_rel r o ≡ with_flow r flow g = ap (λ fl. with_flow r fl (cond (is_to r fl) (received (flow_in r.flows fl) (payload_of o.body)) (pushed (flow_in r.flows fl) o))) new.1 in
-        let at : flow_in (after_rel arts fx ls r flow o).flows flow ≡ g = ap (λ (z : RelState). flow_in z.flows flow) (is ∙ put) ∙ put_base r flow g ready.row (either_ends (is_to r flow) f (payload_of o.body) ∙ found_ends r.flows flow) in
+        let put : admit_rel r o ≡ with_flow r flow g =
+        ap (λ fl. with_flow r fl (cond (is_to r fl) (received (flow_in r.flows fl) (payload_of o.body)) (pushed (flow_in r.flows fl) o))) new.1 in
+        let at : flow_in (after_rel arts fx ls r flow o).flows flow ≡ g =
+        ap (λ (z : RelState). flow_in z.flows flow) (is ∙ put)
+        ∙ put_base r flow g ready.row (either_ends (is_to r flow) f (payload_of o.body) ∙ found_ends r.flows flow) in
         let have = ap (λ (h : FlowState). h.at.have) at in
         let one = either_have (is_to r flow) f (payload_of o.body) in
         omega (arith, have, one, near)

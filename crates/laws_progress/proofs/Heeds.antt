@@ -7,7 +7,8 @@ use Rattle.sp_base.specs.declared.limits.TheConstants.{MAX_MESSAGES}
 use Rattle.sp_rules.specs.Rel.{messages_after, next_flow, RelState, flow_in, is_from, is_to, slot_of, view_in, peer_in, slot_for}
 use Rattle.sp_runs.specs.Lives.{ready}
 use Rattle.sp_runs.specs.Told.{signed}
-use Rattle.std.proofs.Common.{drop, ◌≡◌, ◌≤◌, ℕ, ◌+◌, ◌-◌, ◌==◌, Bool, true, false, min, max, List, [], ◌∷◌, length, map, Option, Some, None, Ok, refl, sym, ap, subst, ◌∙◌, inl, inr, IfSome, All, option_map, cond, nat_lt}
+use Rattle.std.proofs.Common.{drop, ◌≡◌, ◌≤◌, ℕ, ◌+◌, ◌-◌, ◌==◌, Bool, true, false, min, max, List, [], ◌∷◌, length, map, Option, Some, None, Ok, refl, sym, ap}
+use Rattle.std.proofs.Common.{subst, ◌∙◌, inl, inr, IfSome, All, option_map, cond, nat_lt}
 use Rattle.std.proofs.lemmas.List.Elements.{All-take, All-nil, All-head, All-tail}
 use Rattle.sp_rules.proofs.FlowJudged.{found_ends}
 use Rattle.sp_msg.specs.declared.body.Body.{Body}
@@ -60,11 +61,14 @@ pub record Fit (flow : Flow) (bound : ℕ) (r : RelState) (f : Told) : Type 0 wh
 pub record HeededOf (flow : Flow) (bound : ℕ) (r z : RelState) (f : Told) : Type 0 where
   pub base : f.base ≤ (flow_in z.flows flow).at.base
   pub have : is_to r flow ≡ false → f.next ≤ (flow_in z.flows flow).at.have
-  pub have_at_end : is_to r flow ≡ true → min f.next ((flow_in r.flows flow).at.have - length (flow_in r.flows flow).inbox + bound) ≤ (flow_in z.flows flow).at.have
+  pub have_at_end : is_to r flow ≡ true
+      → min f.next ((flow_in r.flows flow).at.have - length (flow_in r.flows flow).inbox + bound) ≤ (flow_in z.flows flow).at.have
 
-pub heeded_of : (arts : Arts) (fx : Fixed) (ls : List Life) (nodes : List NodeId) (bound : ℕ) (v u : NodeId) (era : Era) (flow : Flow) (r : RelState) (slot : Option Report) → Ready nodes bound v flow r → AreNodes nodes flow
+pub heeded_of : (arts : Arts) (fx : Fixed) (ls : List Life) (nodes : List NodeId) (bound : ℕ) (v u : NodeId) (era : Era) (flow : Flow) (r : RelState)
+    (slot : Option Report) → Ready nodes bound v flow r → AreNodes nodes flow
     → ((t : Report) → slot ≡ Some t → is_mine flow t.flow ≡ true → (t.flow ≡ flow) × SlotAck flow t.base t.ack × SlotRel flow t.rels)
-    → ((t : Report) → slot ≡ Some t → ((o : Kept) → t.ack ≡ Some o → is_signed arts fx o ≡ true) × ((o : Kept) (os : List Kept) → t.rels ≡ o ∷ os → is_signed arts fx o ≡ true))
+    → ((t : Report) → slot ≡ Some t
+    → ((o : Kept) → t.ack ≡ Some o → is_signed arts fx o ≡ true) × ((o : Kept) (os : List Kept) → t.rels ≡ o ∷ os → is_signed arts fx o ≡ true))
     → ((t : Report) → slot ≡ Some t → is_slot era flow t ≡ true
     → ((o : Kept) → t.ack ≡ Some o → is_dated ls o.body ≡ true) × ((o : Kept) (os : List Kept) → t.rels ≡ o ∷ os → is_dated ls o.body ≡ true))
     → (told_slot era flow true slot).mine ≡ true → Fit flow bound r (told_slot era flow true slot)
@@ -104,7 +108,8 @@ are_nodes x flow right = record {
 pub signed_in : (arts : Arts) (x : Setting) (es : List Event) (js : List Entry) (w : World) → Signs arts x es js w
     → (u v : NodeId) (k : ℕ) (bytes : List ℕ) (s : Contents) (fx : Fixed) (boot : ℕ) → fx ≡ fixed_at x v boot
     → slice_get (frames_in w.directions u v) k ≡ Some (Some bytes) → arts.sections x.signature_len bytes ≡ Ok s
-    → (t : Report) → s.slot ≡ Some t → ((o : Kept) → t.ack ≡ Some o → is_signed arts fx o ≡ true) × ((o : Kept) (os : List Kept) → t.rels ≡ o ∷ os → is_signed arts fx o ≡ true)
+    → (t : Report) → s.slot ≡ Some t
+    → ((o : Kept) → t.ack ≡ Some o → is_signed arts fx o ≡ true) × ((o : Kept) (os : List Kept) → t.rels ≡ o ∷ os → is_signed arts fx o ≡ true)
 signed_in arts x es js w signs u v k bytes s fx boot is there read t slot =
     let P = Good arts x es js in
     let all_keep = of_all P (pieces_of s) (signs.frames u v k bytes s there read) in
@@ -130,7 +135,8 @@ boots_held ls src dst sboot dboot flow a b one two names =
     rw s d
 
 -- what a node keeps of a flow names the boots that it holds
-kept_names : (ls : List Life) (flow : Flow) (a b : ℕ) (body : Body) → held_boot ls flow.src ≡ a → held_boot ls flow.dst ≡ b → NamesHeld ls flow body → NamesBoots flow a b body
+kept_names : (ls : List Life) (flow : Flow) (a b : ℕ) (body : Body) → held_boot ls flow.src ≡ a → held_boot ls flow.dst ≡ b → NamesHeld ls flow body
+    → NamesBoots flow a b body
 kept_names ls flow a b (bodies.Rel r) one two h = ((h.from, h.to), (h.source ∙ one, h.end ∙ two))
 kept_names ls flow a b (bodies.Ack r) one two h = ((h.from, h.to), (h.source ∙ one, h.end ∙ two))
 kept_names ls flow a b (bodies.Krel r) one two h = ((h.from, h.to), (h.source ∙ one, h.end ∙ two))
@@ -162,7 +168,8 @@ of_slot_list p v fl h =
     (All-take P MAX_MESSAGES (drop (after - f.at.base) f.at.list) (all_drop_first P (after - f.at.base) f.at.list h.messages))
 
 -- so do the objects of its slot
-pub slot_names : (p : Parts) (v : NodeId) (format : ℕ) (flow : Flow) (a b : ℕ) (t : Report) → AreDated p → held_boot p.lives flow.src ≡ a → held_boot p.lives flow.dst ≡ b
+pub slot_names : (p : Parts) (v : NodeId) (format : ℕ) (flow : Flow) (a b : ℕ) (t : Report) → AreDated p → held_boot p.lives flow.src ≡ a
+    → held_boot p.lives flow.dst ≡ b
     → option_map (dated format p.lives) (slot_for p.rel v) ≡ Some t → t.flow ≡ flow
     → ((o : Kept) → t.ack ≡ Some o → NamesBoots flow a b o.body) × ((o : Kept) (os : List Kept) → t.rels ≡ o ∷ os → NamesBoots flow a b o.body)
 slot_names p v format flow a b t h one two is its = go (next_flow p.rel v) is
@@ -179,7 +186,8 @@ slot_names p v format flow a b t h one two is its = go (next_flow p.rel v) is
         let named : (o : Kept) → NamesHeld p.lives (ends row) o.body → NamesBoots flow a b o.body =
         λ o names. kept_names p.lives flow a b o.body one two (subst (λ g. NamesHeld p.lives g o.body) (kept.1 ∙ fl_is) names) in
         let of_list = of_slot_list p v fl kept.0 in (
-          λ o ack. named o (of_slot_ack (nat_lt (view_in (peer_in p.rel.peers v).views fl).base row.at.base) row.ack (λ o. NamesHeld p.lives (ends row) o.body) kept.0.ack o
+          λ o ack. named o
+              (of_slot_ack (nat_lt (view_in (peer_in p.rel.peers v).views fl).base row.at.base) row.ack (λ o. NamesHeld p.lives (ends row) o.body) kept.0.ack o
               (ap (λ (z : Report). z.ack) same ∙ ack)),
           λ o os rels. named o (All-head (λ (m : Kept). NamesHeld p.lives (ends row) m.body) o os
               (subst (All (λ (m : Kept). NamesHeld p.lives (ends row) m.body)) (ap (λ (z : Report). z.rels) same ∙ rels)

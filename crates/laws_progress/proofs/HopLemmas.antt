@@ -9,7 +9,8 @@ use Rattle.laws_progress.proofs.Hops.{HopHolds, IsBehind, IsFresh, IsMade, Lasti
 
 -- ---- frames after a step
 
-behind_later : (W : Type 0) (Next : W → Event → W → Type 0) (Hop : NodeId → NodeId → Type 0) (at : Sight W) (on : Wires W) (bound : ℕ) → Lasting W Next Hop at on bound
+behind_later : (W : Type 0) (Next : W → Event → W → Type 0) (Hop : NodeId → NodeId → Type 0) (at : Sight W) (on : Wires W) (bound : ℕ)
+    → Lasting W Next Hop at on bound
     → (w x : W) (e : Event) (u v : NodeId) (f : Told) → Next w e x → IsBehind W at bound w u v f → IsBehind W at bound x u v f
 behind_later W Next Hop at on bound lasting w x e u v f step h =
     let bu = lasting.base_rises w x e u step in
@@ -26,8 +27,10 @@ behind_later W Next Hop at on bound lasting w x e u v f step h =
     }
 
 -- a frame when it is made
-behind_made : (W : Type 0) (Next : W → Event → W → Type 0) (Hop : NodeId → NodeId → Type 0) (at : Sight W) (on : Wires W) (bound : ℕ) → Lasting W Next Hop at on bound
-    → (w : W) (u v : NodeId) (f : Told) → at.view_base w u v ≤ at.base w v → at.view_have w u v ≤ at.have w v → IsMade W at w u v f → f.mine ≡ true → IsBehind W at bound w u v f
+behind_made : (W : Type 0) (Next : W → Event → W → Type 0) (Hop : NodeId → NodeId → Type 0) (at : Sight W) (on : Wires W) (bound : ℕ)
+    → Lasting W Next Hop at on bound
+    → (w : W) (u v : NodeId) (f : Told) → at.view_base w u v ≤ at.base w v → at.view_have w u v ≤ at.have w v → IsMade W at w u v f → f.mine ≡ true
+    → IsBehind W at bound w u v f
 behind_made W Next Hop at on bound lasting w u v f vb vh made mine =
     let b = made.base mine in
     let h = made.have mine in
@@ -57,7 +60,8 @@ which W Next Hop at on bound lasting w x e u v k hop step le = elim (cases_lt (a
   ]
 ]
 
-polled_more : (W : Type 0) (Next : W → Event → W → Type 0) (Hop : NodeId → NodeId → Type 0) (at : Sight W) (on : Wires W) (bound : ℕ) → Lasting W Next Hop at on bound
+polled_more : (W : Type 0) (Next : W → Event → W → Type 0) (Hop : NodeId → NodeId → Type 0) (at : Sight W) (on : Wires W) (bound : ℕ)
+    → Lasting W Next Hop at on bound
     → (w x : W) (e : Event) (u v : NodeId) → Hop u v → Next w e x → at.polled w u v ≤ at.polled x u v
 polled_more W Next Hop at on bound lasting w x e u v hop step = elim (cases_Bool (is_poll u v e)) [
   | inl t ↦ let n = lasting.one_polled w x e u v hop step t in omega (arith, n)
@@ -106,7 +110,8 @@ grown W Next Hop at on bound lasting w x e u v hop step h back =
       new = new;
     }
 
-pub hop_step : (W : Type 0) (Next : W → Event → W → Type 0) (Hop : NodeId → NodeId → Type 0) (at : Sight W) (on : Wires W) (bound : ℕ) → Lasting W Next Hop at on bound
+pub hop_step : (W : Type 0) (Next : W → Event → W → Type 0) (Hop : NodeId → NodeId → Type 0) (at : Sight W) (on : Wires W) (bound : ℕ)
+    → Lasting W Next Hop at on bound
     → (w x : W) (e : Event) (u v : NodeId) → Hop u v → Next w e x → HopHolds W at on bound w u v → HopHolds W at on bound w v u → HopHolds W at on bound x u v
 hop_step W Next Hop at on bound lasting w x e u v hop step h back =
     let g = grown W Next Hop at on bound lasting w x e u v hop step h back in
@@ -172,11 +177,13 @@ hop_step W Next Hop at on bound lasting w x e u v hop step h back =
 abbrev pub HopsHold : (W : Type 0) → Sight W → Wires W → (NodeId → NodeId → Type 0) → ℕ → W → Type 0
 HopsHold W at on Hop bound w = (u v : NodeId) → Hop u v → HopHolds W at on bound w u v
 
-hops_on : (W : Type 0) (Next : W → Event → W → Type 0) (Hop : NodeId → NodeId → Type 0) (at : Sight W) (on : Wires W) (bound : ℕ) → Lasting W Next Hop at on bound
+hops_on : (W : Type 0) (Next : W → Event → W → Type 0) (Hop : NodeId → NodeId → Type 0) (at : Sight W) (on : Wires W) (bound : ℕ)
+    → Lasting W Next Hop at on bound
     → (es : List Event) (w y : W) → Goes W Next w es y → HopsHold W at on Hop bound w → HopsHold W at on Hop bound y
 hops_on W Next Hop at on bound lasting [] w y Stays h = h
 hops_on W Next Hop at on bound lasting (e ∷ es) w y (Steps {x = x} step g) h =
-    hops_on W Next Hop at on bound lasting es x y g (λ u v hop. hop_step W Next Hop at on bound lasting w x e u v hop step (h u v hop) (h v u (lasting.both_ways u v hop)))
+    hops_on W Next Hop at on bound lasting es x y g
+    (λ u v hop. hop_step W Next Hop at on bound lasting w x e u v hop step (h u v hop) (h v u (lasting.both_ways u v hop)))
 
 fresh_holds : (W : Type 0) (at : Sight W) (on : Wires W) (bound : ℕ) (w : W) (u v : NodeId) → IsFresh W at on w u v → HopHolds W at on bound w u v
 fresh_holds W at on bound w u v f =
@@ -192,7 +199,8 @@ fresh_holds W at on bound w u v f =
       ahead = λ k above le mine. absurd (omega (arith, p, above, le));
     }
 
-pub hops_hold : (W : Type 0) (Next : W → Event → W → Type 0) (Hop : NodeId → NodeId → Type 0) (at : Sight W) (on : Wires W) (bound : ℕ) → Lasting W Next Hop at on bound
+pub hops_hold : (W : Type 0) (Next : W → Event → W → Type 0) (Hop : NodeId → NodeId → Type 0) (at : Sight W) (on : Wires W) (bound : ℕ)
+    → Lasting W Next Hop at on bound
     → (w : W) → HopsHold W at on Hop bound w
 hops_hold W Next Hop at on bound lasting w =
     let b = lasting.begins w in

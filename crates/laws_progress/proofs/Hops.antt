@@ -8,7 +8,8 @@ use Rattle.laws_progress.proofs.Service.{is_on, number_on, IsWithin}
 use Rattle.sp_runs.specs.Rounds.{is_pass, is_take}
 use Rattle.laws_progress.proofs.Facts.{Goes, Sight, IsTurn}
 
--- what a frame says of the flow: whether it is there, whether it may bring the flow's slot, whether it echoes the right boot, the numbers of its report, whether
+-- what a frame says of the flow: whether it is there, whether it may bring the flow's slot, whether it echoes the right boot, the numbers of its report,
+-- whether
 -- it has an acknowledgement, and the number of its first message or 0
 pub record Told : Type 0 where
   pub here : Bool
@@ -66,7 +67,8 @@ pub record IsHearing (W : Type 0) (at : Sight W) (on : Wires W) (w x : W) (u v :
   pub after : on.seen w v u < k
   pub made : k ≤ at.polled w u v
   pub seen : on.seen x v u ≡ k
-  pub views : SameView W at w x u v ⊎ (((on.told w u v k).mine ≡ true) × (at.view_base x v u ≡ (on.told w u v k).base) × (at.view_have x v u ≡ (on.told w u v k).have))
+  pub views : SameView W at w x u v
+      ⊎ (((on.told w u v k).mine ≡ true) × (at.view_base x v u ≡ (on.told w u v k).base) × (at.view_have x v u ≡ (on.told w u v k).have))
 
 -- v hears nothing of u
 pub record IsDeaf (W : Type 0) (at : Sight W) (on : Wires W) (w x : W) (u v : NodeId) : Type 0 where
@@ -122,7 +124,8 @@ pub record Lasting (W : Type 0) (Next : W → Event → W → Type 0) (Hop : Nod
   pub begins : (w : W) → (first : W) × (es : List Event) × Goes W Next first es w × ((u v : NodeId) → Hop u v → IsFresh W at on first u v)
 
 -- ---- the facts from which progress follows: one step, and one state, of an interval in which the nodes of the hops neither start nor stop
-pub record Steady (W : Type 0) (Next : W → Event → W → Type 0) (Hop : NodeId → NodeId → Type 0) (at : Sight W) (on : Wires W) (place bound least : ℕ) (s d : NodeId) : Type 0 where
+pub record Steady (W : Type 0) (Next : W → Event → W → Type 0) (Hop : NodeId → NodeId → Type 0) (at : Sight W) (on : Wires W) (place bound least : ℕ)
+    (s d : NodeId) : Type 0 where
   pub both_ways : (u v : NodeId) → Hop u v → Hop v u
   -- what holds in every state
   pub holds : (w : W) (u v : NodeId) → Hop u v → HopHolds W at on bound w u v
@@ -141,14 +144,16 @@ pub record Steady (W : Type 0) (Next : W → Event → W → Type 0) (Hop : Node
   -- frames stay, and a poll makes one
   pub frames_stay : (w x : W) (e : Event) (u v : NodeId) (k : ℕ) → Hop u v → Next w e x → k ≤ at.polled w u v → on.told x u v k ≡ on.told w u v k
   pub makes : (w x : W) (e : Event) (u v : NodeId) → Hop u v → Next w e x → is_poll u v e ≡ true → IsMade W at w u v (on.told x u v (at.polled x u v))
-  pub made_now : (w x : W) (e : Event) (u v : NodeId) → Hop u v → Next w e x → is_poll u v e ≡ true → IsServed W at place d w u v (on.told x u v (at.polled x u v))
+  pub made_now : (w x : W) (e : Event) (u v : NodeId) → Hop u v → Next w e x → is_poll u v e ≡ true
+      → IsServed W at place d w u v (on.told x u v (at.polled x u v))
   -- a node hears a neighbour by fresh frames alone and heeds them, and a frame that is passed is fresh, or one as late was
   pub hears : (w x : W) (e : Event) (u v : NodeId) → Hop u v → Next w e x → IsDeaf W at on w x u v ⊎ ((k : ℕ) × IsHearing W at on w x u v k
       × ((on.told w u v k).here ≡ true → (on.told w u v k).mine ≡ true → IsFit W at bound s d w v (on.told w u v k)
       → IsHeeded W at place bound d w x u v (on.told w u v k)))
   pub learns : (w x : W) (e : Event) (u v : NodeId) (k : ℕ) → Hop u v → Next w e x → is_pass u v k e ≡ true → (on.told w u v k).here ≡ true
       → at.knows x v u ≡ true
-  pub comes : (w x : W) (e : Event) (u v : NodeId) (k : ℕ) → Hop u v → Next w e x → is_pass u v k e ≡ true → 0 < k → (on.told w u v k).echo ≡ true → k ≤ on.seen x v u
+  pub comes : (w x : W) (e : Event) (u v : NodeId) (k : ℕ) → Hop u v → Next w e x → is_pass u v k e ≡ true → 0 < k → (on.told w u v k).echo ≡ true
+      → k ≤ on.seen x v u
   -- no base is above the destination's, and no have above the source's
   pub acknowledged : (w x : W) (e : Event) (u : NodeId) → Next w e x → at.base w u ≤ at.base w d
   pub sent : (w x : W) (e : Event) (u : NodeId) → Next w e x → at.have w u ≤ at.have w s

@@ -1,6 +1,7 @@
 -- What a datagram leaves of what a node knows of a neighbour: its boot, and the boot and the counter of its last frame.
 use Rattle.sp_base.specs.Cursor.{or_else}
-use Rattle.std.proofs.Common.{◌≡◌, ◌≤◌, ℕ, suc, ◌==◌, ◌&&◌, Bool, true, false, List, [], ◌∷◌, Some, Result, Ok, Err, refl, ap, ◌∙◌, inl, inr, arith, Option, None, cond, sym, nat_lt, ltb-false, ltb-true, eqb-true}
+use Rattle.std.proofs.Common.{◌≡◌, ◌≤◌, ℕ, suc, ◌==◌, ◌&&◌, Bool, true, false, List, [], ◌∷◌, Some, Result, Ok, Err, refl, ap, ◌∙◌, inl, inr, arith, Option}
+use Rattle.std.proofs.Common.{None, cond, sym, nat_lt, ltb-false, ltb-true, eqb-true}
 use Rattle.std.specs.Prelude.{max, nat_eq, not, option_map, slice_get, unwrap_or, is_none}
 use Rattle.std.specs.Result.{result_err}
 use Rattle.std.specs.Cmp.Lexicographic.{pointwise}
@@ -34,7 +35,8 @@ made_at bytes (Some y ∷ frames) is = elim (cases_Bool (pointwise nat_eq y byte
   | inr t ↦ let rest = made_at bytes frames (rw t at is) in (suc rest.0, rest.1)
 ]
 
--- what a datagram leaves of what is known of a neighbour: all as it was, the greater boot of both, or the boot and the counter of a frame that is above the last
+-- what a datagram leaves of what is known of a neighbour: all as it was, the greater boot of both, or the boot and the counter of a frame that is above the
+-- last
 pub data LinkHeard (l k : Link) (h : Head) (reply : LinkReply) : Type 0 where
   Nothing : k.peer_boot ≡ l.peer_boot → k.seen ≡ l.seen → LinkHeard l k h reply
   Learns_boot : is_tagged reply ≡ true → k.peer_boot ≡ max l.peer_boot h.boot
@@ -86,7 +88,8 @@ fresh_is l h right e = elim (cases_Bool (not ((h.from.0 == l.peer.0) && (h.to.0 
   ]
 ]
 
-heard_link : (l : Link) (h : Head) (right : Bool) (a : LinkAnswer) (after : Option LinkReply) → link_answer l h right ≡ a → is_tagged (unwrap_or after replies.Fresh) ≡ true → LinkHeard l (after_answer l h a) h (of_link a after)
+heard_link : (l : Link) (h : Head) (right : Bool) (a : LinkAnswer) (after : Option LinkReply) → link_answer l h right ≡ a
+    → is_tagged (unwrap_or after replies.Fresh) ≡ true → LinkHeard l (after_answer l h a) h (of_link a after)
 heard_link l h right answers.NotForMe after e fresh = Nothing refl refl
 heard_link l h right answers.BadTag after e fresh = Nothing refl refl
 heard_link l h right (answers.Learned boot) after e fresh =
@@ -95,12 +98,15 @@ heard_link l h right (answers.Learned boot) after e fresh =
 heard_link l h right (answers.Stale boot counter) after e fresh = Nothing refl refl
 heard_link l h right answers.Fresh after e fresh = Takes fresh (fresh_is l h right e) refl refl
 
-pub after_is : (arts : Arts) (n : NodeState) (v : NodeId) (bytes : List ℕ) → LinkHeard (link_in n v) (link_after arts n v bytes) (arts.head bytes) (reply_at arts n v bytes)
+pub after_is : (arts : Arts) (n : NodeState) (v : NodeId) (bytes : List ℕ)
+    → LinkHeard (link_in n v) (link_after arts n v bytes) (arts.head bytes) (reply_at arts n v bytes)
 after_is arts n v bytes = go (arts.opened bytes)
   where
     go : (o : Result (List ℕ) FrameRefused) → LinkHeard (link_in n v) (link_with arts (link_in n v) bytes o) (arts.head bytes)
         (of_frame arts n.fixed n.live.version (is_shut_to n v) (link_in n v) bytes o)
-    go (Err refused) = Nothing (ap (λ (l : Link). l.peer_boot) (link_stays arts (link_in n v) bytes refused)) (ap (λ (l : Link). l.seen) (link_stays arts (link_in n v) bytes refused))
+    go (Err refused) =
+        Nothing (ap (λ (l : Link). l.peer_boot) (link_stays arts (link_in n v) bytes refused))
+        (ap (λ (l : Link). l.seen) (link_stays arts (link_in n v) bytes refused))
     go (Ok frame) =
         let l = link_in n v in
         let right = is_right arts l.key bytes in
@@ -118,7 +124,8 @@ above_boot h l s above = elim (cases_Bool (nat_lt l.seen.0 h.boot)) [
     first_true true b e = refl
     first_true false b e = absurd (let f : false ≡ true = e in cc)
 
-pub known_rises : (l k : Link) (h : Head) (reply : LinkReply) → l.seen.0 ≡ l.peer_boot → LinkHeard l k h reply → (k.seen.0 ≡ k.peer_boot) × (l.peer_boot ≤ k.peer_boot)
+pub known_rises : (l k : Link) (h : Head) (reply : LinkReply) → l.seen.0 ≡ l.peer_boot → LinkHeard l k h reply
+    → (k.seen.0 ≡ k.peer_boot) × (l.peer_boot ≤ k.peer_boot)
 known_rises l k h reply s (Nothing boot seen) = (ap (λ (p : ℕ × ℕ). p.0) seen ∙ s ∙ sym boot, omega (arith, boot))
 known_rises l k h reply s (Learns_boot tagged boot seen) = (
   ap (λ (p : ℕ × ℕ). p.0) seen ∙ go (nat_lt l.peer_boot (max l.peer_boot h.boot)) refl ∙ sym boot,
@@ -134,7 +141,8 @@ known_rises l k h reply s (Takes tagged above boot seen) = (
 )
 
 -- a tagged datagram of a correct neighbour, not forged, is one of its frames
-pub is_made : (arts : Arts) (x : Setting) (w : World) (n : NodeState) (u : NodeId) (bytes : List ℕ) → is_correct x u ≡ true → has_forged_tag arts x w n (Datagram u bytes) ≡ false
+pub is_made : (arts : Arts) (x : Setting) (w : World) (n : NodeState) (u : NodeId) (bytes : List ℕ) → is_correct x u ≡ true
+    → has_forged_tag arts x w n (Datagram u bytes) ≡ false
     → is_tagged (reply_at arts n u bytes) ≡ true → (k : ℕ) × (slice_get (frames_in w.directions u n.fixed.me) k ≡ Some (Some bytes))
 is_made arts x w n u bytes correct none tagged =
     made_at bytes (frames_in w.directions u n.fixed.me) (lemma (forgery.is_made bytes (frames_in w.directions u n.fixed.me)) (rw (correct, tagged) at none))

@@ -21,7 +21,8 @@ use Rattle.sp_rules.specs.Parts.{Parts, is_signed}
 use Rattle.sp_rules.specs.Pieces.{Piece, AckPiece, PrioAckPiece, PrioPiece, RelPiece, ReportPiece, WeightPiece, EpochPiece}
 use Rattle.sp_rules.specs.Prio as prio
 use Rattle.sp_rules.specs.Prio.{judge_prio}
-use Rattle.sp_rules.specs.Rel.{unheard, RelPeer, RelState, admit_ack, admit_rel, due_place, flow_in, is_peer, judge_ack_of, judge_rel_of, next_place, peer_in, put_peer, reported, served, served_at, settled, settled_at, told, with_peer, restarted, views_less, no_views}
+use Rattle.sp_rules.specs.Rel.{unheard, RelPeer, RelState, admit_ack, admit_rel, due_place, flow_in, is_peer, judge_ack_of, judge_rel_of, next_place, peer_in}
+use Rattle.sp_rules.specs.Rel.{put_peer, reported, served, served_at, settled, settled_at, told, with_peer, restarted, views_less, no_views}
 use Rattle.sp_rules.specs.Sends.{rel_refusal, send_prio_refusal, signer_refusal, weight_refusal}
 use Rattle.sp_rules.specs.Steps.{Input, NodeStep, Output, Poll, Datagram, Tick, SendRel, SendPrio, SetWeight, TakeRel, TakePrio, Publish}
 use Rattle.sp_rules.specs.Ticks.{at_time, due_now, settled_by}
@@ -47,7 +48,8 @@ use Rattle.laws_progress.proofs.Keys.{peer_is}
 abbrev SameLast : NodeId → RelState → RelState → Type 0
 SameLast v r t = (peer_in t.peers v).last ≡ (peer_in r.peers v).last
 
-put_last : (v u : NodeId) (p : RelPeer) (ps : List RelPeer) → p.peer ≡ u → ((peer_in ps u).last ≡ p.last) → (peer_in (put_peer ps u p) v).last ≡ (peer_in ps v).last
+put_last : (v u : NodeId) (p : RelPeer) (ps : List RelPeer) → p.peer ≡ u → ((peer_in ps u).last ≡ p.last)
+    → (peer_in (put_peer ps u p) v).last ≡ (peer_in ps v).last
 put_last v u p [] is same = refl
 put_last v u p (q ∷ ps) is same = elim (cases_Bool (is_peer u q)) [
   | inl t ↦
@@ -98,7 +100,9 @@ greeted_last v0 epochs risen v p =
     (with_peer_last v0 p.rel v (no_views (peer_in p.rel.peers v)) (peer_is p.rel v) refl) refl
 
 piece_last : (v0 : NodeId) (arts : Arts) (at : Arrival) (p : Parts) (piece : Piece) → PartsSame v0 p (handle arts at p piece).parts
-piece_last v0 arts at p (WeightPiece o) = cond_either (PartsSame v0 p) (is_new (items.Weight (weight_answer (is_signed arts at.fixed o) (offer_to at.fixed.me p.weights o.body)))) (record p { weights = held p.weights o }) p refl refl
+piece_last v0 arts at p (WeightPiece o) =
+    cond_either (PartsSame v0 p) (is_new (items.Weight (weight_answer (is_signed arts at.fixed o) (offer_to at.fixed.me p.weights o.body))))
+    (record p { weights = held p.weights o }) p refl refl
 piece_last v0 arts at p (PrioAckPiece number) = refl
 piece_last v0 arts at p (PrioPiece number o) = go (prio_answer (is_signed arts at.fixed o) (is_dated p.lives o.body) (judge_prio p.prio o.body at.now))
   where
@@ -112,8 +116,12 @@ piece_last v0 arts at p (PrioPiece number o) = go (prio_answer (is_signed arts a
 piece_last v0 arts at p (ReportPiece flow sboot dboot base have) =
     cond_either (PartsSame v0 p) (are_held p.lives flow sboot dboot) (record p { rel = reported p.rel at.from flow base have }) p
     (reported_last v0 p.rel at.from flow base have) refl
-piece_last v0 arts at p (AckPiece flow o) = cond_either (PartsSame v0 p) (is_new (items.Ack (ack_answer (is_signed arts at.fixed o) (is_dated p.lives o.body) (judge_ack_of p.rel flow o.body)))) (record p { rel = admit_ack p.rel o }) p refl refl
-piece_last v0 arts at p (RelPiece flow o) = cond_either (PartsSame v0 p) (is_new (items.Rel (rel_answer (is_signed arts at.fixed o) (is_dated p.lives o.body) (judge_rel_of p.rel flow o.body)))) (record p { rel = admit_rel p.rel o }) p refl refl
+piece_last v0 arts at p (AckPiece flow o) =
+    cond_either (PartsSame v0 p) (is_new (items.Ack (ack_answer (is_signed arts at.fixed o) (is_dated p.lives o.body) (judge_ack_of p.rel flow o.body))))
+    (record p { rel = admit_ack p.rel o }) p refl refl
+piece_last v0 arts at p (RelPiece flow o) =
+    cond_either (PartsSame v0 p) (is_new (items.Rel (rel_answer (is_signed arts at.fixed o) (is_dated p.lives o.body) (judge_rel_of p.rel flow o.body))))
+    (record p { rel = admit_rel p.rel o }) p refl refl
 piece_last v0 arts at p (EpochPiece o) =
     cond_either (PartsSame v0 p) (is_new (items.Epoch (epoch_answer (is_signed arts at.fixed o) (judge_epoch at.fixed.me p.lives o.body)))) (met p o) p
     (restarted_last v0 p.rel (origin_said o.body)) refl
@@ -155,7 +163,8 @@ served_away v0 v r away = go (next_place r v)
     go None = refl
     go (Some place) = other_last v0 v (record (peer_in r.peers v) { last = Some place }) r.peers away (peer_is r v)
 
-pub step_last : (v0 : NodeId) (arts : Arts) (n : NodeState) (input : Input) (output : Output) (new : NodeState) → NoPoll v0 input → NodeStep arts n input output new
+pub step_last : (v0 : NodeId) (arts : Arts) (n : NodeState) (input : Input) (output : Output) (new : NodeState) → NoPoll v0 input
+    → NodeStep arts n input output new
     → NodeSame v0 n new
 step_last v0 arts n (Poll v) output new quiet s =
     subst (NodeSame v0 n) (sym s.1) (kept_last v0 (call_refusal n v) n (called n (with_link n v (advanced (link_in n v))) (parts_after n v))
@@ -183,7 +192,8 @@ step_last v0 arts n (Publish document) output new quiet s =
 
 -- ---- in runs
 
-came_by : (v : NodeId) (from : NodeId) (o : Option (List ℕ)) (f : List ℕ → List ℕ) (i : Input) → option_map (λ bytes. Datagram from (f bytes)) o ≡ Some i → NoPoll v i
+came_by : (v : NodeId) (from : NodeId) (o : Option (List ℕ)) (f : List ℕ → List ℕ) (i : Input) → option_map (λ bytes. Datagram from (f bytes)) o ≡ Some i
+    → NoPoll v i
 came_by v from None f i e = absurd cc
 came_by v from (Some bytes) f i e = let is : Datagram from (f bytes) ≡ i = cc in subst (NoPoll v) is tt
 
@@ -194,9 +204,14 @@ either_by v false i j quiet e = absurd cc
 just : (v : NodeId) (i j : Input) → NoPoll v j → Some j ≡ Some i → NoPoll v i
 just v i j quiet e = let is : j ≡ i = cc in subst (NoPoll v) is quiet
 
-pub no_poll : (arts : Arts) (x : Setting) (w : World) (n : NodeState) (e : Event) (i : Input) (u v : NodeId) → acting e ≡ u → is_poll u v e ≡ false → input_of arts x w n e ≡ Some i → NoPoll v i
+pub no_poll : (arts : Arts) (x : Setting) (w : World) (n : NodeState) (e : Event) (i : Input) (u v : NodeId) → acting e ≡ u → is_poll u v e ≡ false
+    → input_of arts x w n e ≡ Some i → NoPoll v i
 no_poll arts x w n (events.Poll a b) i u v acts off is =
-    just v i (Poll b) (λ same. absurd (let yes : (a.0 == u.0 && b.0 == v.0) ≡ true = rw (eq-eqb a.0 u.0 (ap (λ (z : NodeId). z.0) acts), eq-eqb b.0 v.0 (ap (λ (z : NodeId). z.0) same)) refl in let never : true ≡ false = sym yes ∙ off in cc)) is
+    just v i (Poll b)
+    (λ same. absurd
+    (let yes : (a.0 == u.0 && b.0 == v.0) ≡ true =
+    rw (eq-eqb a.0 u.0 (ap (λ (z : NodeId). z.0) acts), eq-eqb b.0 v.0 (ap (λ (z : NodeId). z.0) same)) refl in let never : true ≡ false =
+    sym yes ∙ off in cc)) is
 no_poll arts x w n (events.Rel a b c) i u v acts off is = just v i _ tt is
 no_poll arts x w n (events.Prio a b c f g h) i u v acts off is = just v i _ tt is
 no_poll arts x w n (events.Take a b) i u v acts off is = just v i _ tt is

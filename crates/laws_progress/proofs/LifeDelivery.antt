@@ -75,7 +75,8 @@ era_of w path version weights a b all end = record {
 
 -- ---- the pasts of runs
 
-past_same : (arts : Arts) (x : Setting) → SettingFits arts x → Carries x.topology.format arts → (fs : List Event) (ks : List Entry) (v : World) (other : Clean arts x fs ks v)
+past_same : (arts : Arts) (x : Setting) → SettingFits arts x → Carries x.topology.format arts
+    → (fs : List Event) (ks : List Entry) (v : World) (other : Clean arts x fs ks v)
     → (es : List Event) (js : List Entry) (w : World) (run : Clean arts x es js w) → fs ≡ es → ks ≡ js → past arts x fs ks v other ≡ past arts x es js w run
 past_same arts x fits reads fs ks v other es js w run events journal =
     let one : (r : Clean arts x es js v) → past arts x es js v r ≡ past arts x es js w run = λ r. past_is_determined arts x es js v w fits reads r run in
@@ -91,10 +92,12 @@ past_grows arts x all fits reads (e ∷ es) w y (facts.Steps {x = m} (Follow j e
     let rest = past_grows arts x all fits reads es m y g in
     let h : Happened = record { event = e; entry = j; mover = mover_in arts x w.world e j m.world turn } in
     let first : past arts x m.events m.journal m.world m.run ≡ past arts x w.events w.journal w.world w.run ++ h ∷ [] =
-    past_same arts x fits reads m.events m.journal m.world m.run (w.events ++ e ∷ []) (w.journal ++ j ∷ []) m.world (Turned w.run range turn unforged) events journal in
+    past_same arts x fits reads m.events m.journal m.world m.run (w.events ++ e ∷ []) (w.journal ++ j ∷ []) m.world (Turned w.run range turn unforged) events
+    journal in
     (h ∷ rest.0, rest.1 ∙ ap (λ zs. zs ++ rest.0) first ∙ append_assoc (past arts x w.events w.journal w.world w.run) (h ∷ []) rest.0)
 
-module _ (arts : Arts) (x : Setting) (es : List Event) (js : List Entry) (w : World) (after : List Event) (more : List Entry) (end : World) (fits : SettingFits arts x)
+module _ (arts : Arts) (x : Setting) (es : List Event) (js : List Entry) (w : World) (after : List Event) (more : List Entry) (end : World)
+    (fits : SettingFits arts x)
     (reads : ComesThrough x.topology.format arts x.signature_len) (run : Clean arts x es js w) (longer : Clean arts x (es ++ after) (js ++ more) end)
     (version : ℕ) (weights : List ℕ) (s d : NodeId) (path : List NodeId) (way : IsPathUnder x weights s d path) (under : StaysUnder version weights path w end)
     (a b : ℕ)
@@ -123,7 +126,8 @@ module _ (arts : Arts) (x : Setting) (es : List Event) (js : List Entry) (w : Wo
   d_on : is_in path d ≡ true
   d_on = in_path path (hops path) d ends_at.ends
 
-  own_life : (v : NodeId) (c : IsCalmAt w after s a d b v) → x.epochs ≡ true → held_boot c.up.node.parts.lives v ≡ seen_at 0 (λ (n : NodeState). n.fixed.boot) (node_in w.nodes v)
+  own_life : (v : NodeId) (c : IsCalmAt w after s a d b v) → x.epochs ≡ true
+      → held_boot c.up.node.parts.lives v ≡ seen_at 0 (λ (n : NodeState). n.fixed.boot) (node_in w.nodes v)
   own_life v c on = (held_boots_are_born arts x es js w fits reads.carries run).own on v c.up.node c.up.runs ∙ life_at v c
 
   pub is_era : IsEra x flow era
@@ -132,7 +136,8 @@ module _ (arts : Arts) (x : Setting) (es : List Event) (js : List Entry) (w : Wo
     correct = λ v on. (correct_at v on);
     source = s_on;
     end = d_on;
-    some = λ v on. let c = calm_at v on in let some = boot_some arts x es js w fits reads.carries run v c.up.node c.up.runs in let boot = life_at v c in omega (arith, some, boot);
+    some = λ v on. let c = calm_at v on in let some = boot_some arts x es js w fits reads.carries run v c.up.node c.up.runs in let boot = life_at v c in
+        omega (arith, some, boot);
     taken = λ on.
         let cs = calm_at s s_on in
         let cd = calm_at d d_on in
@@ -186,7 +191,8 @@ module _ (arts : Arts) (x : Setting) (es : List Event) (js : List Entry) (w : Wo
   sent_is : (u v : NodeId) (n : NodeState) → node_in end.nodes u ≡ Some n → sent_in end u v ≡ (link_in n v).sent
   sent_is u v n at = ap (seen_at 0 (λ (q : NodeState). (link_in q v).sent)) at
 
-  early_is : (u v : NodeId) → is_in path u ≡ true → (n : NodeState) → node_in end.nodes u ≡ Some n → polls (es ++ after) u v - sent_in end u v ≡ polls (es ++ after) u v - (link_in n v).sent
+  early_is : (u v : NodeId) → is_in path u ≡ true → (n : NodeState) → node_in end.nodes u ≡ Some n
+      → polls (es ++ after) u v - sent_in end u v ≡ polls (es ++ after) u v - (link_in n v).sent
   early_is u v on n at = ap (λ k. polls (es ++ after) u v - k) (sent_is u v n at)
 
   runs_last : (u : NodeId) → is_in path u ≡ true → RunsUnder version weights end u
@@ -233,22 +239,28 @@ module _ (arts : Arts) (x : Setting) (es : List Event) (js : List Entry) (w : Wo
   first_world = ap (λ (z : State arts x (es ++ after)). z.world) lift.is ∙ start.world
 
   first_past : past arts x lift.first.at.events lift.first.at.journal lift.first.at.world lift.first.at.run ≡ past arts x es js w run
-  first_past = past_same arts x fits reads.carries lift.first.at.events lift.first.at.journal lift.first.at.world lift.first.at.run es js w run first_events first_journal
+  first_past =
+      past_same arts x fits reads.carries lift.first.at.events lift.first.at.journal lift.first.at.world lift.first.at.run es js w run first_events
+      first_journal
 
-  last_past : past arts x watched_last.at.events watched_last.at.journal watched_last.at.world watched_last.at.run ≡ past arts x (es ++ after) (js ++ more) end longer
-  last_past = past_same arts x fits reads.carries watched_last.at.events watched_last.at.journal watched_last.at.world watched_last.at.run (es ++ after) (js ++ more) end longer
+  last_past : past arts x watched_last.at.events watched_last.at.journal watched_last.at.world watched_last.at.run
+      ≡ past arts x (es ++ after) (js ++ more) end longer
+  last_past = past_same arts x fits reads.carries watched_last.at.events watched_last.at.journal watched_last.at.world watched_last.at.run (es ++ after)
+      (js ++ more) end longer
       (ap (λ (z : State arts x (es ++ after)). z.events) last_at) (ap (λ (z : State arts x (es ++ after)). z.journal) last_at)
 
   abbrev seen : Sight (Watched arts x (es ++ after) era)
   seen = sight arts x (es ++ after) era flow
 
   -- what s has and counts at the beginning
-  source_seen : (n : NodeState) → node_in w.nodes s ≡ Some n → (seen.have lift.first s ≡ length (sent_under (past arts x es js w run) s a d b)) × (seen.base lift.first s ≡ (flow_at n s d).at.base)
+  source_seen : (n : NodeState) → node_in w.nodes s ≡ Some n
+      → (seen.have lift.first s ≡ length (sent_under (past arts x es js w run) s a d b)) × (seen.base lift.first s ≡ (flow_at n s d).at.base)
   source_seen n at =
       let p = first_up s s_on in
       let same : p.node ≡ n = same_Some p.node n (sym p.there ∙ ap (λ (z : World). node_in z.nodes s) first_world ∙ at) in (
         sent_up arts x (es ++ after) era flow fits reads is_era lift.first p ∙ ap (λ h. length (sent_under h s a d b)) first_past,
-        ap (λ (f : FlowState). f.at.base) (seen_flow arts x (es ++ after) era flow lift.first s p.node p.there p.counts) ∙ ap (λ (q : NodeState). (flow_at q s d).at.base) same,
+        ap (λ (f : FlowState). f.at.base) (seen_flow arts x (es ++ after) era flow lift.first s p.node p.there p.counts)
+            ∙ ap (λ (q : NodeState). (flow_at q s d).at.base) same,
       )
 
   -- what came to d by the end
@@ -265,7 +277,8 @@ module _ (arts : Arts) (x : Setting) (es : List Event) (js : List Entry) (w : Wo
   base_seen n at =
       let p = last_up s s_on in
       let same : p.node ≡ n = same_Some p.node n (sym p.there ∙ ap (λ (z : State arts x (es ++ after)). node_in z.world.nodes s) last_at ∙ at) in
-      ap (λ (f : FlowState). f.at.base) (seen_flow arts x (es ++ after) era flow watched_last s p.node p.there p.counts) ∙ ap (λ (q : NodeState). (flow_at q s d).at.base) same
+      ap (λ (f : FlowState). f.at.base) (seen_flow arts x (es ++ after) era flow watched_last s p.node p.there p.counts)
+      ∙ ap (λ (q : NodeState). (flow_at q s d).at.base) same
 
   hops_are : AreHops (IsBetween x era) path
   hops_are i u v at next =
@@ -279,25 +292,30 @@ module _ (arts : Arts) (x : Setting) (es : List Event) (js : List Entry) (w : Wo
   counted_first u v hop = ap (λ zs. polls zs u v) first_events
 
   module _ (one : 1 ≤ x.buffer) (least : ℕ) (enough : flow_count x (es ++ after) ≤ least) where
-    facts_are : facts.Facts (Watched arts x (es ++ after) era) (Calmly arts x (es ++ after) era flow) (IsBetween x era) seen (place_at x flow) x.buffer least s d
-    facts_are = facts_of (Watched arts x (es ++ after) era) (Calmly arts x (es ++ after) era flow) (IsBetween x era) seen (wires arts x (es ++ after) era flow) (place_at x flow) x.buffer least s d
+    facts_are : facts.Facts (Watched arts x (es ++ after) era) (Calmly arts x (es ++ after) era flow) (IsBetween x era) seen (place_at x flow) x.buffer least s
+        d
+    facts_are = facts_of (Watched arts x (es ++ after) era) (Calmly arts x (es ++ after) era flow) (IsBetween x era) seen (wires arts x (es ++ after) era flow)
+        (place_at x flow) x.buffer least s d
         (steady arts x (es ++ after) era flow fits reads is_era one least enough)
 
-    pub delivers : (n : NodeState) → node_in w.nodes s ≡ Some n → (q k : ℕ) → q ≤ length (sent_under (past arts x es js w run) s a d b) → q ≤ (flow_at n s d).at.base + k
+    pub delivers : (n : NodeState) → node_in w.nodes s ≡ Some n → (q k : ℕ) → q ≤ length (sent_under (past arts x es js w run) s a d b)
+        → q ≤ (flow_at n s d).at.base + k
         → CompleteRounds least s d path (hops path + k + 1) es after → q ≤ length (delivered_under (past arts x (es ++ after) (js ++ more) end longer) s a d b)
     delivers n at q k has near rounds =
         let source = source_seen n at in
         let have_is = source.0 in
         let base_is = source.1 in
         let count : hops path + k + 1 ≡ suc (hops path + k) = omega arith in
-        let it : q ≤ seen.have watched_last d = paths.progress (Watched arts x (es ++ after) era) (Calmly arts x (es ++ after) era flow) (IsBetween x era) seen (place_at x flow) x.buffer least s d
+        let it : q ≤ seen.have watched_last d =
+        paths.progress (Watched arts x (es ++ after) era) (Calmly arts x (es ++ after) era flow) (IsBetween x era) seen (place_at x flow) x.buffer least s d
         facts_are (omega (arith, enough)) path (hops path) hops_are (are_inner x s d path is)
         ends_at.long ends_at.begins ends_at.ends k q es after lift.first watched_last chain counted_first
         (omega (arith, has, have_is)) (omega (arith, near, base_is)) (subst (λ c. CompleteRounds least s d path c es after) count rounds) in
         let end_is = end_seen in
         omega (arith, it, end_is)
 
-    pub returns : (n : NodeState) → node_in end.nodes s ≡ Some n → CompleteRounds least s d path (hops path + 1) es after → acknowledged_under arts es js s a d b ≤ (flow_at n s d).at.base
+    pub returns : (n : NodeState) → node_in end.nodes s ≡ Some n → CompleteRounds least s d path (hops path + 1) es after
+        → acknowledged_under arts es js s a d b ≤ (flow_at n s d).at.base
     returns n at rounds =
         let acked_is = acked_seen in
         let base_is = base_seen n at in
@@ -329,7 +347,8 @@ module _ (arts : Arts) (x : Setting) (es : List Event) (js : List Entry) (w : Wo
       let c = flows_are_kept_over_lives arts x (es ++ after) (js ++ more) end fits reads.carries longer s d (both _ _ right.from).0 right.to right.different in
       let prefix = c.prefix right.from a b in
       let parts = sent_more in
-      is_delivered (sent_under (past arts x es js w run) s a d b) parts.0 (delivered_under (past arts x (es ++ after) (js ++ more) end longer) s a d b) prefix.0 q
+      is_delivered (sent_under (past arts x es js w run) s a d b) parts.0 (delivered_under (past arts x (es ++ after) (js ++ more) end longer) s a d b) prefix.0
+      q
       (sym parts.1 ∙ prefix.1) (c.numbered right.from a b) pos has long
 
 -- ---- the laws

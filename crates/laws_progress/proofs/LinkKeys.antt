@@ -1,5 +1,6 @@
 -- Both ends of an edge have the same key of its tags, in every state: that of the first edge that joins them.
-use Rattle.std.proofs.Common.{◌≡◌, ℕ, ◌+◌, ◌==◌, ◌&&◌, ◌||◌, Bool, true, false, cond, eqb, List, [], ◌∷◌, ◌++◌, map, zip, Option, Some, None, refl, sym, ap, ◌∙◌, inl, inr}
+use Rattle.std.proofs.Common.{◌≡◌, ℕ, ◌+◌, ◌==◌, ◌&&◌, ◌||◌, Bool, true, false, cond, eqb, List, [], ◌∷◌, ◌++◌, map, zip, Option, Some, None, refl, sym, ap}
+use Rattle.std.proofs.Common.{◌∙◌, inl, inr}
 use Rattle.std.specs.List.{list_any}
 use Rattle.std.proofs.lemmas.Bool.{cases_Bool, eqb-true}
 use Rattle.sp_base.specs.Rows.{first_where}
@@ -78,8 +79,10 @@ boot_key x f none u v place [] some = absurd (let e : false ≡ true = some in c
 boot_key x f none u v place (e ∷ edges) some = go (other_end u.0 e) (end_joins u v e) (λ t. boot_key x f none u v (place + 1) edges t)
   where
     go : (o : Option NodeId) → joins u.0 v.0 e ≡ leads v o
-        → (list_any (joins u.0 v.0) edges ≡ true → (first_where (is_link v) none (keyed_links x f (neighbours_from u.0 (place + 1) edges))).key ≡ x.link_key (first_edge u v (place + 1) edges))
-        → (first_where (is_link v) none (keyed_links x f (neighbour place o ++ neighbours_from u.0 (place + 1) edges))).key ≡ x.link_key (cond (joins u.0 v.0 e) place (first_edge u v (place + 1) edges))
+        → (list_any (joins u.0 v.0) edges ≡ true
+        → (first_where (is_link v) none (keyed_links x f (neighbours_from u.0 (place + 1) edges))).key ≡ x.link_key (first_edge u v (place + 1) edges))
+        → (first_where (is_link v) none (keyed_links x f (neighbour place o ++ neighbours_from u.0 (place + 1) edges))).key
+        ≡ x.link_key (cond (joins u.0 v.0 e) place (first_edge u v (place + 1) edges))
     go None is rest = rest (rw is at some) ∙ ap (λ t. x.link_key (cond t place (first_edge u v (place + 1) edges))) (sym is)
     go (Some w) is rest = elim (cases_Bool (eqb w.0 v.0)) [
       | inl t ↦ let on : joins u.0 v.0 e ≡ true = is ∙ t in rw (t, on) refl

@@ -1,5 +1,6 @@
 -- What a link of a correct node is in each state of a clean run: it is that node's, at the boot of its life. And how many of its frames it counts.
-use Rattle.std.proofs.Common.{◌≡◌, ◌⊎◌, ℕ, ◌+◌, ◌==◌, ◌||◌, true, false, cond, List, [], ◌∷◌, ◌++◌, map, zip, Bool, Some, Result, Ok, Err, refl, sym, ap, subst, ◌∙◌, inl, inr, arith}
+use Rattle.std.proofs.Common.{◌≡◌, ◌⊎◌, ℕ, ◌+◌, ◌==◌, ◌||◌, true, false, cond, List, [], ◌∷◌, ◌++◌, map, zip, Bool, Some, Result, Ok, Err, refl, sym, ap, subst}
+use Rattle.std.proofs.Common.{◌∙◌, inl, inr, arith}
 use Rattle.std.specs.List.{list_any}
 use Rattle.std.proofs.lemmas.Bool.{cases_Bool}
 use Rattle.sp_base.specs.Rows.{first_where}
@@ -37,7 +38,8 @@ pub record LinkAt (u : NodeId) (boot : ℕ) (l : Link) : Type 0 where
   pub me : l.me ≡ u
   pub boot_is : l.boot ≡ boot
 
-boot_link : (u : NodeId) (f : Fixed) (none : Link) (v : NodeId) (zs : List ((NodeId × EdgeId) × List ℕ)) → f.me ≡ u → list_any (is_link v) (map (link_of f) zs) ≡ true
+boot_link : (u : NodeId) (f : Fixed) (none : Link) (v : NodeId) (zs : List ((NodeId × EdgeId) × List ℕ)) → f.me ≡ u
+    → list_any (is_link v) (map (link_of f) zs) ≡ true
     → LinkAt u f.boot (first_where (is_link v) none (map (link_of f) zs))
 boot_link u f none v [] me there = absurd (let e : false ≡ true = there in cc)
 boot_link u f none v (z ∷ zs) me there = elim (cases_Bool (is_link v (link_of f z))) [
@@ -89,13 +91,15 @@ pub one_more : (es : List Event) (e : Event) (u v : NodeId) → is_poll u v e �
 one_more es e u v on = counted u v es e ∙ ap (λ (t : Bool). polls es u v + cond t 1 0) on
 
 -- what a poll of v gives the node
-pub poll_input : (arts : Arts) (x : Setting) (w : World) (n : NodeState) (e : Event) (i : Input) (u v : NodeId) → is_poll u v e ≡ true → input_of arts x w n e ≡ Some i → i ≡ Poll v
+pub poll_input : (arts : Arts) (x : Setting) (w : World) (n : NodeState) (e : Event) (i : Input) (u v : NodeId) → is_poll u v e ≡ true
+    → input_of arts x w n e ≡ Some i → i ≡ Poll v
 poll_input arts x w n e i u v on reaches = let is : Some (Poll v) ≡ Some i = sym (ap (input_of arts x w n) (poll_is u v e on)) ∙ reaches in cc
 
 -- ---- what an event does to how many a node sent in its life, against the places of the direction
 
 -- a step counts a frame exactly where it is polled
-pub step_sent : (arts : Arts) (x : Setting) (es : List Event) (w : World) (n m : NodeState) (e : Event) (i : Input) (u v : NodeId) → acting e ≡ u → input_of arts x w n e ≡ Some i
+pub step_sent : (arts : Arts) (x : Setting) (es : List Event) (w : World) (n m : NodeState) (e : Event) (i : Input) (u v : NodeId) → acting e ≡ u
+    → input_of arts x w n e ≡ Some i
     → LinkAfter arts n i m v → (link_in m v).sent + polls es u v ≡ (link_in n v).sent + polls (es ++ e ∷ []) u v
 step_sent arts x es w n m e i u v acts reaches (Rests quiet same) = elim (cases_Bool (is_poll u v e)) [
   | inl on ↦ absurd ((subst (NoPoll v) (poll_input arts x w n e i u v on reaches) quiet) refl)

@@ -32,23 +32,28 @@ pub data LinkAfter (arts : Arts) (n : NodeState) (i : Input) (m : NodeState) (v 
   Hears : (bytes : List ℕ) → i ≡ Datagram v bytes → link_in m v ≡ link_after arts n v bytes → LinkAfter arts n i m v
 
 -- a link that was put is found, and the others stay
-pub put_link : (n : NodeState) (v : NodeId) (l : Link) → l.peer ≡ v → list_any (is_link v) n.links ≡ true → first_where (is_link v) (new_link n.fixed.me v 0 []) (with_link n v l) ≡ l
+pub put_link : (n : NodeState) (v : NodeId) (l : Link) → l.peer ≡ v → list_any (is_link v) n.links ≡ true
+    → first_where (is_link v) (new_link n.fixed.me v 0 []) (with_link n v l) ≡ l
 put_link n v l is there = first_replaced (is_link v) (new_link n.fixed.me v 0 []) l n.links (eq-eqb _ _ (ap (λ (u : NodeId). u.0) is)) there
 
-other_link : (n : NodeState) (u v : NodeId) (l : Link) → l.peer ≡ u → (u ≡ v → ⊥) → first_where (is_link v) (new_link n.fixed.me v 0 []) (with_link n u l) ≡ link_in n v
+other_link : (n : NodeState) (u v : NodeId) (l : Link) → l.peer ≡ u → (u ≡ v → ⊥)
+    → first_where (is_link v) (new_link n.fixed.me v 0 []) (with_link n u l) ≡ link_in n v
 other_link n u v l is away =
     other_replaced (is_link u) (is_link v) (new_link n.fixed.me v 0 []) l n.links
     (λ k t. ne_eqb _ _ (λ z. away (sym (same_node _ _ (eqb-true _ _ t)) ∙ same_node _ _ z)))
     (ne_eqb _ _ (λ z. away (sym is ∙ same_node _ _ z)))
 
 same_link : (arts : Arts) (n m : NodeState) (i : Input) (v : NodeId) → NoPoll v i → m.links ≡ n.links → m.fixed ≡ n.fixed → LinkAfter arts n i m v
-same_link arts n m i v quiet ls f = Rests quiet (ap (λ (g : Fixed). first_where (is_link v) (new_link g.me v 0 []) m.links) f ∙ ap (first_where (is_link v) (new_link n.fixed.me v 0 [])) ls)
+same_link arts n m i v quiet ls f =
+    Rests quiet (ap (λ (g : Fixed). first_where (is_link v) (new_link g.me v 0 []) m.links) f ∙ ap (first_where (is_link v) (new_link n.fixed.me v 0 [])) ls)
 
-kept_link : {X : Type 0} (arts : Arts) (r : Option X) (n q : NodeState) (i : Input) (v : NodeId) → NoPoll v i → q.links ≡ n.links → q.fixed ≡ n.fixed → LinkAfter arts n i (kept_or r n q) v
+kept_link : {X : Type 0} (arts : Arts) (r : Option X) (n q : NodeState) (i : Input) (v : NodeId) → NoPoll v i → q.links ≡ n.links → q.fixed ≡ n.fixed
+    → LinkAfter arts n i (kept_or r n q) v
 kept_link arts None n q i v quiet ls f = same_link arts n q i v quiet ls f
 kept_link arts (Some y) n q i v quiet ls f = same_link arts n n i v quiet refl refl
 
-pub link_step : (arts : Arts) (x : Setting) (n : NodeState) (i : Input) (o : Output) (m : NodeState) (v : NodeId) (k : ℕ) (reply : Reply) → list_any (is_link v) n.links ≡ true
+pub link_step : (arts : Arts) (x : Setting) (n : NodeState) (i : Input) (o : Output) (m : NodeState) (v : NodeId) (k : ℕ) (reply : Reply)
+    → list_any (is_link v) n.links ≡ true
     → NodeStep arts n i o m → reply_word x k o.reply ≡ Some reply → LinkAfter arts n i m v
 link_step arts x n (Poll u) o m v k reply there s says =
     let free = answered x k (call_refusal n u) _ reply (ap (λ (p : Output). reply_word x k p.reply) (sym s.0) ∙ says) in
@@ -57,7 +62,9 @@ link_step arts x n (Poll u) o m v k reply there s says =
     elim (cases_eq u.0 v.0) [
       | inl z ↦
           let is : u ≡ v = same_node u v z in
-          Sends (ap Poll is) (ap (λ (q : NodeState). link_in q v) after ∙ ap (λ w. first_where (is_link v) (new_link n.fixed.me v 0 []) (with_link n w (advanced (link_in n w)))) is
+          Sends (ap Poll is)
+          (ap (λ (q : NodeState). link_in q v) after
+          ∙ ap (λ w. first_where (is_link v) (new_link n.fixed.me v 0 []) (with_link n w (advanced (link_in n w)))) is
           ∙ put_link n v (advanced (link_in n v)) (link_is n v) there)
       | inr z ↦
           let away : u ≡ v → ⊥ = λ e. z (ap (λ (w : NodeId). w.0) e) in
@@ -87,9 +94,12 @@ link_step arts x n (Tick now) o m v k reply there s says = subst (λ q. LinkAfte
     go None r = same_link arts n _ (Tick now) v tt refl refl
     go (Some ack) (Some refusal) = same_link arts n _ (Tick now) v tt refl refl
     go (Some ack) None = same_link arts n _ (Tick now) v tt refl refl
-link_step arts x n (SendRel dst payload) o m v k reply there s says = subst (λ q. LinkAfter arts n (SendRel dst payload) q v) (sym s.1) (kept_link arts (rel_refusal n dst) n _ _ v tt refl refl)
-link_step arts x n (SendPrio q) o m v k reply there s says = subst (λ z. LinkAfter arts n (SendPrio q) z v) (sym s.new_is) (kept_link arts (send_prio_refusal n q s.choice) n _ _ v tt refl refl)
-link_step arts x n (SetWeight u weight) o m v k reply there s says = subst (λ q. LinkAfter arts n (SetWeight u weight) q v) (sym s.1) (kept_link arts (weight_refusal n u weight) n _ _ v tt refl refl)
+link_step arts x n (SendRel dst payload) o m v k reply there s says =
+    subst (λ q. LinkAfter arts n (SendRel dst payload) q v) (sym s.1) (kept_link arts (rel_refusal n dst) n _ _ v tt refl refl)
+link_step arts x n (SendPrio q) o m v k reply there s says =
+    subst (λ z. LinkAfter arts n (SendPrio q) z v) (sym s.new_is) (kept_link arts (send_prio_refusal n q s.choice) n _ _ v tt refl refl)
+link_step arts x n (SetWeight u weight) o m v k reply there s says =
+    subst (λ q. LinkAfter arts n (SetWeight u weight) q v) (sym s.1) (kept_link arts (weight_refusal n u weight) n _ _ v tt refl refl)
 link_step arts x n (TakeRel src) o m v k reply there s says = subst (λ q. LinkAfter arts n (TakeRel src) q v) (sym s.1) (same_link arts n _ _ v tt refl refl)
 link_step arts x n TakePrio o m v k reply there s says = subst (λ q. LinkAfter arts n TakePrio q v) (sym s.1) (same_link arts n _ _ v tt refl refl)
 link_step arts x n (Publish document) o m v k reply there s says =

@@ -1,6 +1,7 @@
 -- The frames of a direction: each poll adds the one that it made, or an empty place where its node doesn't run, and nothing else changes them. So there are
 -- as many places as polls.
-use Rattle.std.proofs.Common.{◌≡◌, ◌≤◌, ◌⊎◌, ℕ, zero, suc, ◌==◌, ◌&&◌, ◌||◌, Bool, true, false, eqb, List, [], ◌∷◌, ◌++◌, length, Option, None, Some, refl, sym, ap, subst, ◌∙◌, inl, inr, arith}
+use Rattle.std.proofs.Common.{◌≡◌, ◌≤◌, ◌⊎◌, ℕ, zero, suc, ◌==◌, ◌&&◌, ◌||◌, Bool, true, false, eqb, List, [], ◌∷◌, ◌++◌, length, Option, None, Some, refl, sym}
+use Rattle.std.proofs.Common.{ap, subst, ◌∙◌, inl, inr, arith}
 use Rattle.std.specs.Prelude.{not, option_and_then, slice_get}
 use Rattle.std.proofs.lemmas.Bool.{cases_Bool, eqb-true, eq-eqb}
 use Rattle.sp_base.proofs.RowLemmas.{first_where-put, first_where-put_other}
@@ -39,7 +40,8 @@ put_same a b ds frame =
     let is : is_from_to a b row ≡ true = rw (eq-eqb a.0 a.0 refl, eq-eqb b.0 b.0 refl) refl in
     ap (λ (d : Direction). d.frames) (first_where-put (is_from_to a b) (record { from = a; to = b; frames = [] }) row ds is)
 
-put_other : (u v a b : NodeId) (ds : List Direction) (frame : Option (List ℕ)) → ((a.0 == u.0) && (b.0 == v.0)) ≡ false → frames_in (with_frame ds a b frame) u v ≡ frames_in ds u v
+put_other : (u v a b : NodeId) (ds : List Direction) (frame : Option (List ℕ)) → ((a.0 == u.0) && (b.0 == v.0)) ≡ false
+    → frames_in (with_frame ds a b frame) u v ≡ frames_in ds u v
 put_other u v a b ds frame off =
     let row : Direction = record { from = a; to = b; frames = frames_in ds a b ++ frame ∷ [] } in
     ap (λ (d : Direction). d.frames) (first_where-put_other (is_from_to a b) (is_from_to u v) (record { from = u; to = v; frames = [] }) row ds
@@ -54,7 +56,8 @@ FramesAfter arts w n e reply u v =
     ((is_poll u v e ≡ true) × (frames_in (directions_after w.directions e reply) u v ≡ frames_in w.directions u v ++ Some (frame_to arts n v) ∷ []))
     ⊎ ((is_poll u v e ≡ false) × (frames_in (directions_after w.directions e reply) u v ≡ frames_in w.directions u v))
 
-polled_frames : (arts : Arts) (w : World) (n : NodeState) (a b : NodeId) (u v : NodeId) → FramesAfter arts w n (events.Poll a b) (steps.Frame (frame_to arts n b)) u v
+polled_frames : (arts : Arts) (w : World) (n : NodeState) (a b : NodeId) (u v : NodeId)
+    → FramesAfter arts w n (events.Poll a b) (steps.Frame (frame_to arts n b)) u v
 polled_frames arts w n a b u v = elim (cases_Bool ((a.0 == u.0) && (b.0 == v.0))) [
   | inl t ↦
       let ends = both _ _ t in
@@ -169,8 +172,12 @@ frames_turn arts x old e j new (Stays s) u v =
 frames_turn arts x old e j new (Lives on life) u v = go (life_case arts x old e j new life)
   where
     go : LifeCase arts x old e j new → FramesTurn arts old e new u v
-    go (Starts_now a is start) = Leaves (poll_off u v e (λ z. absurd (let f : events.Poll u v ≡ events.Start a = z ∙ is in cc))) (ap (λ (z : World). frames_in z.directions u v) start.world)
-    go (Exhausts a is none) = Leaves (poll_off u v e (λ z. absurd (let f : events.Poll u v ≡ events.Start a = z ∙ is in cc))) (ap (λ (z : World). frames_in z.directions u v) none.world)
+    go (Starts_now a is start) =
+        Leaves (poll_off u v e (λ z. absurd (let f : events.Poll u v ≡ events.Start a = z ∙ is in cc)))
+        (ap (λ (z : World). frames_in z.directions u v) start.world)
+    go (Exhausts a is none) =
+        Leaves (poll_off u v e (λ z. absurd (let f : events.Poll u v ≡ events.Start a = z ∙ is in cc)))
+        (ap (λ (z : World). frames_in z.directions u v) none.world)
     go (Stops a is stop) =
         Leaves (poll_off u v e (λ z. absurd (let f : events.Poll u v ≡ events.Stop a = z ∙ is in cc)))
         (ap (λ (z : World). frames_in z.directions u v) stop.world ∙ ap (λ ds. frames_in ds u v) (ready_frames x old (events.Stop a)))
@@ -184,9 +191,11 @@ frames_count arts x es js w run = (frames_are_counted arts x es js w run).frames
 
 -- ---- a frame that was made stays
 
-stays_in : (ds es : List Direction) (u v : NodeId) (more : List (Option (List ℕ))) (k : ℕ) → frames_in es u v ≡ frames_in ds u v ++ more → k ≤ length (frames_in ds u v) → frame_in es u v k ≡ frame_in ds u v k
+stays_in : (ds es : List Direction) (u v : NodeId) (more : List (Option (List ℕ))) (k : ℕ) → frames_in es u v ≡ frames_in ds u v ++ more
+    → k ≤ length (frames_in ds u v) → frame_in es u v k ≡ frame_in ds u v k
 stays_in ds es u v more zero same low = refl
-stays_in ds es u v more (suc k) same low = ap (option_and_then (λ frame. frame)) (ap (λ fs. slice_get fs k) same ∙ get_front (frames_in ds u v) more k (omega (arith, low)))
+stays_in ds es u v more (suc k) same low =
+    ap (option_and_then (λ frame. frame)) (ap (λ fs. slice_get fs k) same ∙ get_front (frames_in ds u v) more k (omega (arith, low)))
 
 at_same : (ds es : List Direction) (u v : NodeId) (k : ℕ) → frames_in es u v ≡ frames_in ds u v → frame_in es u v k ≡ frame_in ds u v k
 at_same ds es u v zero same = refl

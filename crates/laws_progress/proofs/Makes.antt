@@ -1,6 +1,7 @@
 -- What the frame of a poll tells of the flow: where it stands, the acknowledgement that the neighbour lacks, and the first messages after those
 -- that it has.
-use Rattle.std.proofs.Common.{◌≡◌, ◌≤◌, ◌<◌, ◌⊎◌, ℕ, zero, suc, ◌+◌, ◌-◌, ◌==◌, Bool, true, false, cond, max, List, [], ◌∷◌, length, map, take, drop, Option, Some, None, option_map, refl, sym, ap, subst, ◌∙◌, inl, inr, arith}
+use Rattle.std.proofs.Common.{◌≡◌, ◌≤◌, ◌<◌, ◌⊎◌, ℕ, zero, suc, ◌+◌, ◌-◌, ◌==◌, Bool, true, false, cond, max, List, [], ◌∷◌, length, map, take, drop, Option}
+use Rattle.std.proofs.Common.{Some, None, option_map, refl, sym, ap, subst, ◌∙◌, inl, inr, arith}
 use Rattle.std.specs.Prelude.{All, IfSome, if◌then◌else◌, nat_lt, option_and_then, slice_get}
 use Rattle.std.specs.Option.{option_and_then}
 use Rattle.std.proofs.lemmas.Bool.{cases_Bool, eqb-false, ne_eqb, ltb-false, ltb-true}
@@ -49,11 +50,13 @@ said flow q (bodies.Krel r) is = is.2
 said flow q (bodies.Kack a) is = absurd is
 said flow q (bodies.Epoch a) is = absurd is
 
-message_at : (flow : Flow) (after : ℕ) (os : List Kept) (i : ℕ) (o : Kept) → AreMessages flow after os → slice_get os i ≡ Some o → IsMessage flow (after + i + 1) o.body
+message_at : (flow : Flow) (after : ℕ) (os : List Kept) (i : ℕ) (o : Kept) → AreMessages flow after os → slice_get os i ≡ Some o
+    → IsMessage flow (after + i + 1) o.body
 message_at flow after [] i o are at = absurd cc
 message_at flow after (m ∷ os) zero o are at =
     let here : m ≡ o = cc in
-    subst (λ (k : Kept). IsMessage flow (after + 0 + 1) k.body) here (subst (λ q. IsMessage flow q m.body) (let e : after + 1 ≡ after + 0 + 1 = omega arith in e) are.0)
+    subst (λ (k : Kept). IsMessage flow (after + 0 + 1) k.body) here
+    (subst (λ q. IsMessage flow q m.body) (let e : after + 1 ≡ after + 0 + 1 = omega arith in e) are.0)
 message_at flow after (m ∷ os) (suc i) o are at =
     subst (λ q. IsMessage flow q o.body) (let e : after + 1 + i + 1 ≡ after + suc i + 1 = omega arith in e) (message_at flow (after + 1) os i o are.1 at)
 
@@ -80,7 +83,8 @@ ack_made gone flow f low acks kinds = go (nat_lt low f.at.base) refl
     go true e =
         let above = ltb-true low f.at.base e in
         let n = acks.ack (omega (arith, above)) in
-        subst (AckMade flow low f.at.base) (sym n.kept) (record { none = λ z. absurd (let g : true ≡ false = z in cc); is = Has_ack n.ack (kinds n.ack n.kept) n.number })
+        subst (AckMade flow low f.at.base) (sym n.kept)
+        (record { none = λ z. absurd (let g : true ≡ false = z in cc); is = Has_ack n.ack (kinds n.ack n.kept) n.number })
 
 record RelsMade (flow : Flow) (here : Bool) (f : FlowState) (top : ℕ) (os : List Kept) : Type 0 where
   there : number_in os ≤ f.at.have
@@ -189,7 +193,8 @@ slot_made k index r v flow h acks =
     λ t. elim (cases_Bool t) [
       | inl on ↦ λ e. rw on (record { there = omega arith; near = omega arith; next_is = λ z. absurd (let g : true ≡ false = z in cc); is = No_rel })
       | inr off ↦ λ e.
-          let away : (f.dst.0 == k.me.0) ≡ false = ne_eqb _ _ (λ z. eqb-false _ _ (e ∙ off) (ap (λ (n : NodeId). n.0) h.me ∙ sym z ∙ ap (λ (fl : Flow). fl.dst.0) found)) in
+          let away : (f.dst.0 == k.me.0) ≡ false =
+          ne_eqb _ _ (λ z. eqb-false _ _ (e ∙ off) (ap (λ (n : NodeId). n.0) h.me ∙ sym z ∙ ap (λ (fl : Flow). fl.dst.0) found)) in
           rw off (messages_made flow f (max w.have f.at.base) (s.position away) messages (omega arith))
     ] in
     let m = go (is_to r flow) refl in
@@ -198,7 +203,8 @@ slot_made k index r v flow h acks =
 -- ---- whose turn it is
 
 -- the flow whose turn it is at the place of this flow is this flow
-pub turn_flow : (r : RelState) (v : NodeId) (flow : Flow) (nodes : List NodeId) → map ends r.flows ≡ pairs_of nodes → next_place r v ≡ Some (place_in (pairs_of nodes) flow)
+pub turn_flow : (r : RelState) (v : NodeId) (flow : Flow) (nodes : List NodeId) → map ends r.flows ≡ pairs_of nodes
+    → next_place r v ≡ Some (place_in (pairs_of nodes) flow)
     → (fl : Flow) × (next_flow r v ≡ Some fl) × (is_mine flow fl ≡ true)
 turn_flow r v flow nodes keys turn =
     let place = place_in (pairs_of nodes) flow in

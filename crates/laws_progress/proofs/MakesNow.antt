@@ -94,7 +94,8 @@ made_by era k index format flow nodes n u v served echo me same h acks = go (nex
         let its : (echo && is_slot era flow t) ≡ true → fl ≡ flow = λ z. same_flow flow fl (two_true _ _ (two_true _ _ z).1).0 in
         let of_mine : (echo && is_slot era flow t) ≡ true → SlotMade flow n.parts.rel v (slot_of n.parts.rel v fl) =
         λ z. subst (λ g. SlotMade flow n.parts.rel v (slot_of n.parts.rel v g)) (sym (its z)) (slot_made k index n.parts.rel v flow h acks) in
-        let number : number_in t.rels ≡ number_in (slot_of n.parts.rel v fl).rels = number_taken (max_rels format) (slot_of n.parts.rel v fl).rels (one_fits format) in
+        let number : number_in t.rels ≡ number_in (slot_of n.parts.rel v fl).rels =
+        number_taken (max_rels format) (slot_of n.parts.rel v fl).rels (one_fits format) in
         record {
           held = λ z.
               let boots = (two_true _ _ (two_true _ _ z).1).1 in
@@ -105,7 +106,8 @@ made_by era k index format flow nodes n u v served echo me same h acks = go (nex
               let g : t2.0 ≡ fl = cc in
               let own : is_mine flow fl ≡ true = subst (λ z. is_mine flow z ≡ true) g t2.2 in
               let is : fl ≡ flow = same_flow flow fl own in
-              let boots : holds n fl.src era.sboot fl.dst era.dboot ≡ true = subst (λ (z : Flow). holds n z.src era.sboot z.dst era.dboot ≡ true) (sym is) held in
+              let boots : holds n fl.src era.sboot fl.dst era.dboot ≡ true =
+              subst (λ (z : Flow). holds n z.src era.sboot z.dst era.dboot ≡ true) (sym is) held in
               rw (knows, own) boots;
           base = λ z. (of_mine z).base;
           have = λ z. (of_mine z).have;
@@ -190,164 +192,171 @@ mine_echo : (era : Era) (flow : Flow) (echo : Bool) (slot : Option Report) → (
 mine_echo era flow echo None is = absurd (let f : false ≡ true = is in cc)
 mine_echo era flow echo (Some r) is = (two_true echo (is_slot era flow r) is).0
 
-pub record Polled (arts : Arts) (x : Setting) (all : List Event) (era : Era) (flow : Flow) (w y : Watched arts x all era) (u v : NodeId) (b : NodeState) : Type 0 where
+pub record Polled (arts : Arts) (x : Setting) (all : List Event) (era : Era) (flow : Flow) (w y : Watched arts x all era) (u v : NodeId) (b : NodeState) : Type
+    0 where
   pub there : node_in w.at.world.nodes u ≡ Some b
   pub framed : Framed arts x u v b (frame_to arts b v)
   pub at : frame_in y.at.world.directions u v (polls y.at.events u v) ≡ Some (frame_to arts b v)
 
-module _ (arts : Arts) (x : Setting) (all : List Event) (era : Era) (flow : Flow) (fits : SettingFits arts x) (reads : ComesThrough x.topology.format arts x.signature_len)
-    (w y : Watched arts x all era) (e : Event) (u v : NodeId) (hop : IsBetween x era u v) (leads : Leads arts x all era w e y) (poll : is_poll u v e ≡ true) where
-  abbrev told : Told
-  told = told_of arts x era flow u v (frame_in y.at.world.directions u v (polls y.at.events u v))
+module _ (arts : Arts) (x : Setting) (all : List Event) (era : Era) (flow : Flow) (fits : SettingFits arts x)
+    (reads : ComesThrough x.topology.format arts x.signature_len)
+    (w y : Watched arts x all era) (e : Event) (u v : NodeId) (hop : IsBetween x era u v) (leads : Leads arts x all era w e y) (poll : is_poll u v e ≡ true)
+  where
+    abbrev told : Told
+    told = told_of arts x era flow u v (frame_in y.at.world.directions u v (polls y.at.events u v))
 
-  last_place : (frame : Option (List ℕ)) → frames_in y.at.world.directions u v ≡ frames_in w.at.world.directions u v ++ frame ∷ []
-      → frame_in y.at.world.directions u v (polls y.at.events u v) ≡ frame
-  last_place frame frames =
-      let ds = w.at.world.directions in
-      let count = frames_count arts x w.at.events w.at.journal w.at.world w.at.run u v in
-      let number = one_polled arts x all w.at y.at e u v leads poll in
-      ap (frame_in y.at.world.directions u v) (let q : polls y.at.events u v ≡ suc (length (frames_in ds u v)) = omega (arith, number, count) in q)
-      ∙ ap (option_and_then (λ frame. frame)) (ap (λ fs. slice_get fs (length (frames_in ds u v))) frames ∙ get_last (frames_in ds u v) frame)
+    last_place : (frame : Option (List ℕ)) → frames_in y.at.world.directions u v ≡ frames_in w.at.world.directions u v ++ frame ∷ []
+        → frame_in y.at.world.directions u v (polls y.at.events u v) ≡ frame
+    last_place frame frames =
+        let ds = w.at.world.directions in
+        let count = frames_count arts x w.at.events w.at.journal w.at.world w.at.run u v in
+        let number = one_polled arts x all w.at y.at e u v leads poll in
+        ap (frame_in y.at.world.directions u v) (let q : polls y.at.events u v ≡ suc (length (frames_in ds u v)) = omega (arith, number, count) in q)
+        ∙ ap (option_and_then (λ frame. frame)) (ap (λ fs. slice_get fs (length (frames_in ds u v))) frames ∙ get_last (frames_in ds u v) frame)
 
-  -- an empty place, or a frame of u as it was
-  pub polled_now : (frame_in y.at.world.directions u v (polls y.at.events u v) ≡ None) × (is_running w.at.world.nodes u ≡ false)
-      ⊎ ((b : NodeState) × Polled arts x all era flow w y u v b)
-  polled_now = of_turn leads
-    where
-      of_frames : (j : Entry) → FramesTurn arts w.at.world e y.at.world u v
-          → (frame_in y.at.world.directions u v (polls y.at.events u v) ≡ None) × (is_running w.at.world.nodes u ≡ false)
-          ⊎ ((b : NodeState) × Polled arts x all era flow w y u v b)
-      of_frames j (Makes on b there frames) = inr (
-        b,
-        record {
-          there = there;
-          framed = frame_at arts x w.at.events w.at.journal w.at.world fits reads w.at.run u v hop.hop.joined b there;
-          at = last_place (Some (frame_to arts b v)) frames;
-        },
-      )
-      of_frames j (Misses on down frames) = inl (last_place None frames, down)
-      of_frames j (Leaves off frames) = absurd (let f : true ≡ false = sym poll ∙ off in cc)
+    -- an empty place, or a frame of u as it was
+    pub polled_now : (frame_in y.at.world.directions u v (polls y.at.events u v) ≡ None) × (is_running w.at.world.nodes u ≡ false)
+        ⊎ ((b : NodeState) × Polled arts x all era flow w y u v b)
+    polled_now = of_turn leads
+      where
+        of_frames : (j : Entry) → FramesTurn arts w.at.world e y.at.world u v
+            → (frame_in y.at.world.directions u v (polls y.at.events u v) ≡ None) × (is_running w.at.world.nodes u ≡ false)
+            ⊎ ((b : NodeState) × Polled arts x all era flow w y u v b)
+        of_frames j (Makes on b there frames) = inr (
+          b,
+          record {
+            there = there;
+            framed = frame_at arts x w.at.events w.at.journal w.at.world fits reads w.at.run u v hop.hop.joined b there;
+            at = last_place (Some (frame_to arts b v)) frames;
+          },
+        )
+        of_frames j (Misses on down frames) = inl (last_place None frames, down)
+        of_frames j (Leaves off frames) = absurd (let f : true ≡ false = sym poll ∙ off in cc)
 
-      of_turn : Leads arts x all era w e y → (frame_in y.at.world.directions u v (polls y.at.events u v) ≡ None) × (is_running w.at.world.nodes u ≡ false)
-          ⊎ ((b : NodeState) × Polled arts x all era flow w y u v b)
-      of_turn (Follow j events journal range turn unforged) = of_frames j (frames_turn arts x w.at.world e j y.at.world turn u v)
+        of_turn : Leads arts x all era w e y → (frame_in y.at.world.directions u v (polls y.at.events u v) ≡ None) × (is_running w.at.world.nodes u ≡ false)
+            ⊎ ((b : NodeState) × Polled arts x all era flow w y u v b)
+        of_turn (Follow j events journal range turn unforged) = of_frames j (frames_turn arts x w.at.world e j y.at.world turn u v)
 
-  made_of : (b : NodeState) → Polled arts x all era flow w y u v b
-      → MadeBy era flow (place_at x flow) b u v (is_served b v) ((link_in b v).peer_boot == era.life v)
-      (told_slot era flow ((link_in b v).peer_boot == era.life v) (contents_at b v).slot)
-  made_of b p = go (is_behind b v) (is_shut_to b v)
-    where
-      echo : Bool
-      echo = (link_in b v).peer_boot == era.life v
+    made_of : (b : NodeState) → Polled arts x all era flow w y u v b
+        → MadeBy era flow (place_at x flow) b u v (is_served b v) ((link_in b v).peer_boot == era.life v)
+        (told_slot era flow ((link_in b v).peer_boot == era.life v) (contents_at b v).slot)
+    made_of b p = go (is_behind b v) (is_shut_to b v)
+      where
+        echo : Bool
+        echo = (link_in b v).peer_boot == era.life v
 
-      go : (behind shut : Bool) → MadeBy era flow (place_at x flow) b u v (not behind && not shut) ((link_in b v).peer_boot == era.life v)
-          (told_slot era flow ((link_in b v).peer_boot == era.life v)
-          (cond behind (with_document b.live.document) (cond shut no_contents (contents_to b.fixed b.parts v))).slot)
-      go true shut = none_by era flow (place_at x flow) b u v false echo refl
-      go false true = none_by era flow (place_at x flow) b u v false echo refl
-      go false false =
-          let is = (signs arts x w.at.events w.at.journal w.at.world fits reads.carries w.at.run).nodes u b p.there in
-          made_by era (sizes_at x (Good arts x w.at.events w.at.journal) u) b.signer.index b.fixed.topology.format flow (nodes_of x.topology) b u v true
-          echo refl refl is.holds.parts.rel is.acks
+        go : (behind shut : Bool) → MadeBy era flow (place_at x flow) b u v (not behind && not shut) ((link_in b v).peer_boot == era.life v)
+            (told_slot era flow ((link_in b v).peer_boot == era.life v)
+            (cond behind (with_document b.live.document) (cond shut no_contents (contents_to b.fixed b.parts v))).slot)
+        go true shut = none_by era flow (place_at x flow) b u v false echo refl
+        go false true = none_by era flow (place_at x flow) b u v false echo refl
+        go false false =
+            let is = (signs arts x w.at.events w.at.journal w.at.world fits reads.carries w.at.run).nodes u b p.there in
+            made_by era (sizes_at x (Good arts x w.at.events w.at.journal) u) b.signer.index b.fixed.topology.format flow (nodes_of x.topology) b u v true
+            echo refl refl is.holds.parts.rel is.acks
 
-  met_of : (b : NodeState) → ((link_in b v).peer_boot == era.life v) ≡ true → has_met x era v b ≡ true
-  met_of b is = go x.epochs
-    where
-      go : (t : Bool) → (not t || ((link_in b v).peer_boot == era.life v)) ≡ true
-      go true = is
-      go false = refl
+    met_of : (b : NodeState) → ((link_in b v).peer_boot == era.life v) ≡ true → has_met x era v b ≡ true
+    met_of b is = go x.epochs
+      where
+        go : (t : Bool) → (not t || ((link_in b v).peer_boot == era.life v)) ≡ true
+        go true = is
+        go false = refl
 
-  pub makes : IsMade (Watched arts x all era) (sight arts x all era flow) w u v told
-  makes = elim polled_now [
-    | inl missed ↦ subst (IsMade (Watched arts x all era) (sight arts x all era flow) w u v) (sym (ap (told_of arts x era flow u v) missed.0))
-        (none_made (Watched arts x all era) (sight arts x all era flow) w u v)
-    | inr made ↦ elim (cases_Bool (made.0.fixed.boot == era.life u)) [
-      | inl same ↦
-          let is = ap (told_of arts x era flow u v) made.1.at ∙ frame_told arts x era flow u v made.0 (frame_to arts made.0 v) made.1.framed (eqb-true _ _ same) in
-          subst (IsMade (Watched arts x all era) (sight arts x all era flow) w u v) (sym is)
-          (made_version (made.0.live.version == era.version) _ (of_node made.0 made.1 same))
-      | inr other ↦
-          let off : ((arts.head (frame_to arts made.0 v)).boot == era.life u) ≡ false = ap (λ b. b == era.life u) made.1.framed.head.boot_is ∙ other in
-          let is = ap (told_of arts x era flow u v) made.1.at ∙ other_told arts x era flow u v (frame_to arts made.0 v) off in
-          subst (IsMade (Watched arts x all era) (sight arts x all era flow) w u v) (sym is) (none_made (Watched arts x all era) (sight arts x all era flow) w u v)
+    pub makes : IsMade (Watched arts x all era) (sight arts x all era flow) w u v told
+    makes = elim polled_now [
+      | inl missed ↦ subst (IsMade (Watched arts x all era) (sight arts x all era flow) w u v) (sym (ap (told_of arts x era flow u v) missed.0))
+          (none_made (Watched arts x all era) (sight arts x all era flow) w u v)
+      | inr made ↦ elim (cases_Bool (made.0.fixed.boot == era.life u)) [
+        | inl same ↦
+            let is = ap (told_of arts x era flow u v) made.1.at
+            ∙ frame_told arts x era flow u v made.0 (frame_to arts made.0 v) made.1.framed (eqb-true _ _ same) in
+            subst (IsMade (Watched arts x all era) (sight arts x all era flow) w u v) (sym is)
+            (made_version (made.0.live.version == era.version) _ (of_node made.0 made.1 same))
+        | inr other ↦
+            let off : ((arts.head (frame_to arts made.0 v)).boot == era.life u) ≡ false = ap (λ b. b == era.life u) made.1.framed.head.boot_is ∙ other in
+            let is = ap (told_of arts x era flow u v) made.1.at ∙ other_told arts x era flow u v (frame_to arts made.0 v) off in
+            subst (IsMade (Watched arts x all era) (sight arts x all era flow) w u v) (sym is)
+            (none_made (Watched arts x all era) (sight arts x all era flow) w u v)
+      ]
     ]
-  ]
-    where
-      of_node : (b : NodeState) → Polled arts x all era flow w y u v b → (b.fixed.boot == era.life u) ≡ true
-          → IsMade (Watched arts x all era) (sight arts x all era flow) w u v
-          (told_slot era flow ((link_in b v).peer_boot == era.life v) (contents_at b v).slot)
-      of_node b p same =
-          let made = made_of b p in
-          let f = told_slot era flow ((link_in b v).peer_boot == era.life v) (contents_at b v).slot in
-          let era_of : f.mine ≡ true → in_era era flow u b ≡ true = λ z. let on = hop.first in let held = made.held z in rw (on, same) held in
-          let flow_of_it : f.mine ≡ true → flow_seen arts x all era flow w u ≡ flow_in b.parts.rel.flows flow =
-          λ z. seen_flow arts x all era flow w u b p.there (era_of z) in
-          let echo_of : f.mine ≡ true → ((link_in b v).peer_boot == era.life v) ≡ true = mine_echo era flow ((link_in b v).peer_boot == era.life v)
-          (contents_at b v).slot in
-          let view_of_it : f.mine ≡ true → view_seen arts x all era flow w u v ≡ view_in (peer_in b.parts.rel.peers v).views flow =
-          λ z. seen_view arts x all era flow w u v b p.there (era_of z) (met_of b (echo_of z)) in
-          record {
-            base = λ z. made.base z ∙ sym (ap (λ (g : FlowState). g.at.base) (flow_of_it z));
-            have = λ z. made.have z ∙ sym (ap (λ (g : FlowState). g.at.have) (flow_of_it z));
-            no_ack = λ z none.
-                let low = made.no_ack z none in
-                let b1 = ap (λ (g : FlowState). g.at.base) (flow_of_it z) in
-                let v1 = ap (λ (g : View). g.base) (view_of_it z) in
-                omega (arith, low, b1, v1);
-            next_there = λ z. let low = made.next_there z in let h1 = ap (λ (g : FlowState). g.at.have) (flow_of_it z) in omega (arith, low, h1);
-            next_near = λ z.
-                let low = made.next_near z in
-                let b1 = ap (λ (g : FlowState). g.at.base) (flow_of_it z) in
-                let v1 = ap (λ (g : View). g.have) (view_of_it z) in
-                omega (arith, low, b1, v1);
-          }
+      where
+        of_node : (b : NodeState) → Polled arts x all era flow w y u v b → (b.fixed.boot == era.life u) ≡ true
+            → IsMade (Watched arts x all era) (sight arts x all era flow) w u v
+            (told_slot era flow ((link_in b v).peer_boot == era.life v) (contents_at b v).slot)
+        of_node b p same =
+            let made = made_of b p in
+            let f = told_slot era flow ((link_in b v).peer_boot == era.life v) (contents_at b v).slot in
+            let era_of : f.mine ≡ true → in_era era flow u b ≡ true = λ z. let on = hop.first in let held = made.held z in rw (on, same) held in
+            let flow_of_it : f.mine ≡ true → flow_seen arts x all era flow w u ≡ flow_in b.parts.rel.flows flow =
+            λ z. seen_flow arts x all era flow w u b p.there (era_of z) in
+            let echo_of : f.mine ≡ true → ((link_in b v).peer_boot == era.life v) ≡ true = mine_echo era flow ((link_in b v).peer_boot == era.life v)
+            (contents_at b v).slot in
+            let view_of_it : f.mine ≡ true → view_seen arts x all era flow w u v ≡ view_in (peer_in b.parts.rel.peers v).views flow =
+            λ z. seen_view arts x all era flow w u v b p.there (era_of z) (met_of b (echo_of z)) in
+            record {
+              base = λ z. made.base z ∙ sym (ap (λ (g : FlowState). g.at.base) (flow_of_it z));
+              have = λ z. made.have z ∙ sym (ap (λ (g : FlowState). g.at.have) (flow_of_it z));
+              no_ack = λ z none.
+                  let low = made.no_ack z none in
+                  let b1 = ap (λ (g : FlowState). g.at.base) (flow_of_it z) in
+                  let v1 = ap (λ (g : View). g.base) (view_of_it z) in
+                  omega (arith, low, b1, v1);
+              next_there = λ z. let low = made.next_there z in let h1 = ap (λ (g : FlowState). g.at.have) (flow_of_it z) in omega (arith, low, h1);
+              next_near = λ z.
+                  let low = made.next_near z in
+                  let b1 = ap (λ (g : FlowState). g.at.base) (flow_of_it z) in
+                  let v1 = ap (λ (g : View). g.have) (view_of_it z) in
+                  omega (arith, low, b1, v1);
+            }
 
-  -- where u holds the boots that count, it is there, and serves the flow at its turn
-  pub serves_now : (b : NodeState) → node_in w.at.world.nodes u ≡ Some b → in_era era flow u b ≡ true → b.live.version ≡ era.version
-      → (has_heard x era.version v b ≡ true → is_served b v ≡ true)
-      → IsServed (Watched arts x all era) (sight arts x all era flow) (place_at x flow) flow.dst w u v told
-  serves_now b there counts version carried = elim polled_now [
-    | inl missed ↦ absurd (let f : true ≡ false = sym (found_there u b w.at.world.nodes there) ∙ missed.1 in cc)
-    | inr made ↦
-        let same : made.0 ≡ b = same_Some made.0 b (sym made.1.there ∙ there) in
-        let p = subst (Polled arts x all era flow w y u v) same made.1 in
-        let life = (life_is era u b (era_is era flow u b counts).0).1 in
-        let is = ap (told_of arts x era flow u v) p.at ∙ frame_told arts x era flow u v b (frame_to arts b v) p.framed life in
-        subst (IsServed (Watched arts x all era) (sight arts x all era flow) (place_at x flow) flow.dst w u v) (sym is)
-        (served_version (b.live.version == era.version) _ (eq-eqb _ _ version) (of_served b p))
-  ]
-    where
-      of_served : (b : NodeState) → Polled arts x all era flow w y u v b
-          → IsServed (Watched arts x all era) (sight arts x all era flow) (place_at x flow) flow.dst w u v
-          (told_slot era flow ((link_in b v).peer_boot == era.life v) (contents_at b v).slot)
-      of_served c p =
-          let same : c ≡ b = same_Some c b (sym p.there ∙ there) in
-          let mine_era : in_era era flow u c ≡ true = ap (in_era era flow u) same ∙ counts in
-          let in_it = era_is era flow u c mine_era in
-          let lived = in_it.0 in
-          let made = made_of c p in
-          let echo = (link_in c v).peer_boot == era.life v in
-          let slot = (contents_at c v).slot in
-          let knows : (sight arts x all era flow).knows w u v ≡ (echo && has_heard x era.version v c) =
-          lit false (knows_now x era u v) (node_in w.at.world.nodes u) c p.there ∙ rw lived refl in
-          let last = lit None (λ q. (peer_in q.parts.rel.peers v).last) (node_in w.at.world.nodes u) c p.there in
-          let actives : (sight arts x all era flow).actives w u ≡ map (λ f. f.active) c.parts.rel.flows = lit [] (actives_of era flow u) (node_in w.at.world.nodes u) c p.there ∙ rw mine_era refl in
-          let flow_now = seen_flow arts x all era flow w u c p.there mine_era in
-          record {
-            here = slot_here era flow echo slot;
-            mine = λ is turn.
-                let known = two_true echo (has_heard x era.version v c) (sym knows ∙ is) in
-                made.mine (subst (λ (q : NodeState). has_heard x era.version v q ≡ true → is_served q v ≡ true) (sym same) carried known.1) known.0 in_it.1
-                (ap (λ o. next_after o (map (λ f. f.active) c.parts.rel.flows)) (sym last) ∙ ap (next_after ((sight arts x all era flow).last w u v)) (sym actives) ∙ turn);
-            echo = λ is. slot_echo era flow echo slot ∙ (two_true echo (has_heard x era.version v c) (sym knows ∙ is)).0;
-            next_is = λ z away.
-                let met : has_met x era v c ≡ true = met_of c (mine_echo era flow echo slot z) in
-                let view_now = seen_view arts x all era flow w u v c p.there mine_era met in
-                let base = ap (λ (g : FlowState). g.at.base) flow_now in
-                let have = ap (λ (g : FlowState). g.at.have) flow_now in
-                let view = ap (λ (g : View). g.have) view_now in
-                elim (made.next_is z away) [
-                  | inl low ↦ inl (omega (arith, low, base, have, view))
-                  | inr is ↦ inr (omega (arith, is, base, view))
-                ];
-          }
+    -- where u holds the boots that count, it is there, and serves the flow at its turn
+    pub serves_now : (b : NodeState) → node_in w.at.world.nodes u ≡ Some b → in_era era flow u b ≡ true → b.live.version ≡ era.version
+        → (has_heard x era.version v b ≡ true → is_served b v ≡ true)
+        → IsServed (Watched arts x all era) (sight arts x all era flow) (place_at x flow) flow.dst w u v told
+    serves_now b there counts version carried = elim polled_now [
+      | inl missed ↦ absurd (let f : true ≡ false = sym (found_there u b w.at.world.nodes there) ∙ missed.1 in cc)
+      | inr made ↦
+          let same : made.0 ≡ b = same_Some made.0 b (sym made.1.there ∙ there) in
+          let p = subst (Polled arts x all era flow w y u v) same made.1 in
+          let life = (life_is era u b (era_is era flow u b counts).0).1 in
+          let is = ap (told_of arts x era flow u v) p.at ∙ frame_told arts x era flow u v b (frame_to arts b v) p.framed life in
+          subst (IsServed (Watched arts x all era) (sight arts x all era flow) (place_at x flow) flow.dst w u v) (sym is)
+          (served_version (b.live.version == era.version) _ (eq-eqb _ _ version) (of_served b p))
+    ]
+      where
+        of_served : (b : NodeState) → Polled arts x all era flow w y u v b
+            → IsServed (Watched arts x all era) (sight arts x all era flow) (place_at x flow) flow.dst w u v
+            (told_slot era flow ((link_in b v).peer_boot == era.life v) (contents_at b v).slot)
+        of_served c p =
+            let same : c ≡ b = same_Some c b (sym p.there ∙ there) in
+            let mine_era : in_era era flow u c ≡ true = ap (in_era era flow u) same ∙ counts in
+            let in_it = era_is era flow u c mine_era in
+            let lived = in_it.0 in
+            let made = made_of c p in
+            let echo = (link_in c v).peer_boot == era.life v in
+            let slot = (contents_at c v).slot in
+            let knows : (sight arts x all era flow).knows w u v ≡ (echo && has_heard x era.version v c) =
+            lit false (knows_now x era u v) (node_in w.at.world.nodes u) c p.there ∙ rw lived refl in
+            let last = lit None (λ q. (peer_in q.parts.rel.peers v).last) (node_in w.at.world.nodes u) c p.there in
+            let actives : (sight arts x all era flow).actives w u ≡ map (λ f. f.active) c.parts.rel.flows =
+            lit [] (actives_of era flow u) (node_in w.at.world.nodes u) c p.there ∙ rw mine_era refl in
+            let flow_now = seen_flow arts x all era flow w u c p.there mine_era in
+            record {
+              here = slot_here era flow echo slot;
+              mine = λ is turn.
+                  let known = two_true echo (has_heard x era.version v c) (sym knows ∙ is) in
+                  made.mine (subst (λ (q : NodeState). has_heard x era.version v q ≡ true → is_served q v ≡ true) (sym same) carried known.1) known.0 in_it.1
+                  (ap (λ o. next_after o (map (λ f. f.active) c.parts.rel.flows)) (sym last)
+                  ∙ ap (next_after ((sight arts x all era flow).last w u v)) (sym actives) ∙ turn);
+              echo = λ is. slot_echo era flow echo slot ∙ (two_true echo (has_heard x era.version v c) (sym knows ∙ is)).0;
+              next_is = λ z away.
+                  let met : has_met x era v c ≡ true = met_of c (mine_echo era flow echo slot z) in
+                  let view_now = seen_view arts x all era flow w u v c p.there mine_era met in
+                  let base = ap (λ (g : FlowState). g.at.base) flow_now in
+                  let have = ap (λ (g : FlowState). g.at.have) flow_now in
+                  let view = ap (λ (g : View). g.have) view_now in
+                  elim (made.next_is z away) [
+                    | inl low ↦ inl (omega (arith, low, base, have, view))
+                    | inr is ↦ inr (omega (arith, is, base, view))
+                  ];
+            }

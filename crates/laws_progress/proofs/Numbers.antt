@@ -49,7 +49,8 @@ pub record Reached (h b q t : ℕ) (x : Numbers) : Type 0 where
 
 base_then : (h b q t : ℕ) (x y : Numbers) → Reached h b q t x → IsRound h x y → (i : ℕ) → i ≤ h → i ≤ suc t → b ≤ y.base i
 base_then h b q t x y r z zero within now = let old = r.base 0 within (omega arith) in let up = z.later.base 0 within in omega (arith, old, up)
-base_then h b q t x y r z (suc j) within now = let old = r.base j (omega (arith, within)) (omega (arith, now)) in let up = z.base_on j (omega (arith, within)) in omega (arith, old, up)
+base_then h b q t x y r z (suc j) within now = let old = r.base j (omega (arith, within)) (omega (arith, now)) in let up =
+    z.base_on j (omega (arith, within)) in omega (arith, old, up)
 
 have_then : (h b q t : ℕ) (x y : Numbers) → q ≤ y.have 0 → Reached h b q t x → IsRound h x y → (i : ℕ) → i ≤ h → i ≤ suc t → min q (b + (suc t - i)) ≤ y.have i
 have_then h b q t x y first r z zero within now = omega (arith, first)
@@ -88,7 +89,8 @@ back : (h a n : ℕ) (x y : Numbers) → a ≤ x.base h → Rounds h n x y → (
 back h a zero x y low Begun i within near = let z : i ≡ h = omega (arith, within, near) in rw z low
 back h a (suc n) x z low (Then {y} rounds round) i within near =
     elim (cases_lt i h) [
-      | inl lt ↦ let old = back h a n x y low rounds (suc i) (omega (arith, lt)) (omega (arith, near)) in let on = round.base_back i lt in omega (arith, old, on)
+      | inl lt ↦ let old = back h a n x y low rounds (suc i) (omega (arith, lt)) (omega (arith, near)) in let on = round.base_back i lt in
+          omega (arith, old, on)
       | inr ge ↦ let old = back h a n x y low rounds i within (omega (arith, ge)) in let on = round.later.base i within in omega (arith, old, on)
     ]
 

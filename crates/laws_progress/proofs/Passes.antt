@@ -1,4 +1,5 @@
--- A frame that is passed comes through: the node that it reaches knows the sender's boot, and, where the frame echoes its own, has seen the frame or a later one.
+-- A frame that is passed comes through: the node that it reaches knows the sender's boot, and, where the frame echoes its own, has seen the frame or a later
+-- one.
 use Rattle.laws_progress.proofs.Versions.{datagram_same}
 use Rattle.std.proofs.Common.{◌≡◌, ℕ, true, false, List, Option, Some, None, refl, sym, ap, ◌∙◌}
 use Rattle.std.specs.Prelude.{option_and_then}
@@ -27,7 +28,8 @@ pub pass_is : (u v : NodeId) (k : ℕ) (e : Event) → is_pass u v k e ≡ true 
 pass_is u v k (events.Pass a b c) is =
     let t = both _ _ is in
     let t2 = both _ _ t.0 in
-    ap (λ z. events.Pass z b c) (same_node a u (eqb-true _ _ t2.0)) ∙ ap (λ z. events.Pass u z c) (same_node b v (eqb-true _ _ t2.1)) ∙ ap (events.Pass u v) (eqb-true _ _ t.1)
+    ap (λ z. events.Pass z b c) (same_node a u (eqb-true _ _ t2.0)) ∙ ap (λ z. events.Pass u z c) (same_node b v (eqb-true _ _ t2.1))
+    ∙ ap (events.Pass u v) (eqb-true _ _ t.1)
 pass_is u v k (events.Rel a b c) is = absurd (let e : false ≡ true = is in cc)
 pass_is u v k (events.Prio a b c f g h) is = absurd (let e : false ≡ true = is in cc)
 pass_is u v k (events.Take a b) is = absurd (let e : false ≡ true = is in cc)
@@ -50,7 +52,8 @@ in_place None bytes e = absurd (let f : None ≡ Some bytes = e in cc)
 in_place (Some frame) bytes e = ap Some e
 
 -- a datagram that was answered, and left the version of its node, leaves its link and its parts
-pub datagram_after : (arts : Arts) (x : Setting) (n : NodeState) (u : NodeId) (bytes : List ℕ) (o : Output) (m : NodeState) (k : ℕ) (reply : Reply) → NodeStep arts n (Datagram u bytes) o m → reply_word x k o.reply ≡ Some reply
+pub datagram_after : (arts : Arts) (x : Setting) (n : NodeState) (u : NodeId) (bytes : List ℕ) (o : Output) (m : NodeState) (k : ℕ) (reply : Reply)
+    → NodeStep arts n (Datagram u bytes) o m → reply_word x k o.reply ≡ Some reply
     → m.live.version ≡ n.live.version → m ≡ before_document arts n u bytes
 datagram_after arts x n u bytes o m k reply s says same =
     let free = answered x k (call_refusal n u) _ reply (ap (λ (p : Output). reply_word x k p.reply) (sym s.0) ∙ says) in

@@ -33,7 +33,8 @@ use Rattle.sp_runs.specs.Runs.{next_frame}
 use Rattle.sp_runs.specs.Settings.{Setting, SettingFits, may_change}
 use Rattle.sp_runs.specs.Worlds.{frame_in, frames_in, node_in}
 use Rattle.sp_schedule_events.specs.declared.event.Event.{Event}
-use Rattle.std.proofs.Common.{Bool, List, None, Option, Some, ap, arith, false, inl, inr, nat_lt, not, refl, subst, suc, sym, true, zero, ℕ, ◌+◌, ◌==◌, ◌∙◌, ◌≡◌, ◌≤◌, ◌⊎◌}
+use Rattle.std.proofs.Common.{Bool, List, None, Option, Some, ap, arith, false, inl, inr, nat_lt, not, refl, subst, suc, sym, true, zero, ℕ, ◌+◌, ◌==◌, ◌∙◌}
+use Rattle.std.proofs.Common.{◌≡◌, ◌≤◌, ◌⊎◌}
 use Rattle.std.proofs.lemmas.Bool.{cases_Bool, cases_lt, eq-eqb, eqb-true, ltb-false}
 use Rattle.std.specs.Prelude.{is_some, option_map, slice_get}
 use Rattle.sp_rules.specs.Steps.{Datagram, NodeStep, Output}
@@ -59,7 +60,12 @@ told_there arts x era flow u v (Some bytes) is = elim (cases_Bool ((arts.head by
     version = rw t refl;
     echo = rw t (slot_echo era flow ((arts.head bytes).echo == era.life v) (slot_in (arts.sections x.signature_len bytes)));
   }
-  | inr t ↦ absurd (elim is [ inl z ↦ (let f : nothing_told.here ≡ true = rw t at z in let g : false ≡ true = f in cc) | inr z ↦ (let f : nothing_told.echo ≡ true = rw t at z in let g : false ≡ true = f in cc) ])
+  | inr t ↦ absurd
+      (elim is [
+        | inl z ↦ (let f : nothing_told.here ≡ true = rw t at z in let g : false ≡ true = f in cc)
+        | inr z ↦
+            (let f : nothing_told.echo ≡ true = rw t at z in let g : false ≡ true = f in cc)
+      ])
 ]
 
 numbered_least : (early counter number : ℕ) → counter ≤ number → 1 ≤ counter → early + counter ≤ numbered early number
@@ -77,7 +83,8 @@ below_counter h l low below = elim (cases_Bool (nat_lt l.seen.0 h.boot)) [
       (same, ltb-false l.seen.1 h.counter (rw (t, on) at below))
 ]
 
-module _ (arts : Arts) (x : Setting) (all : List Event) (era : Era) (flow : Flow) (fits : SettingFits arts x) (reads : ComesThrough x.topology.format arts x.signature_len)
+module _ (arts : Arts) (x : Setting) (all : List Event) (era : Era) (flow : Flow) (fits : SettingFits arts x)
+    (reads : ComesThrough x.topology.format arts x.signature_len)
     (is_era : IsEra x flow era) (w y : Watched arts x all era) (e : Event) (calm : Calmly arts x all era flow w e y) (u v : NodeId) (hop : IsBetween x era u v)
     (k : ℕ) (pass : is_pass u v k e ≡ true) where
   -- v knows u's life after it, and where it echoed the right one, has seen no less
@@ -88,7 +95,8 @@ module _ (arts : Arts) (x : Setting) (all : List Event) (era : Era) (flow : Flow
   module _ (bytes : List ℕ) (frame : frame_in w.at.world.directions u v k ≡ Some bytes) (life : ((arts.head bytes).boot == era.life u) ≡ true) where
     arrives_at : MovesNobody w.at.world (events.Pass u v k) → ⊥
     arrives_at (inl craft) = craft.1
-    arrives_at (inr (inl missing)) = (let f : not (is_some (Some bytes)) ≡ true = ap (λ o. not (is_some o)) (sym frame) ∙ missing in let g : false ≡ true = f in cc)
+    arrives_at (inr (inl missing)) =
+        (let f : not (is_some (Some bytes)) ≡ true = ap (λ o. not (is_some o)) (sym frame) ∙ missing in let g : false ≡ true = f in cc)
     arrives_at (inr (inr other)) = other tt
 
     mv : Moved arts x all era flow fits reads is_era w y e calm v
@@ -184,7 +192,8 @@ module _ (arts : Arts) (x : Setting) (all : List Event) (era : Era) (flow : Flow
             let h = heard_at is version in
             lit false (knows_now x era v u) (node_in y.at.world.nodes v) mv.act.after mv.act.left ∙ rw (t, h) refl
 
-        seen_y : (link_in mv.act.after u).peer_boot ≡ era.life u → (wires arts x all era flow).seen y v u ≡ numbered (era.early u v) (link_in mv.act.after u).seen.1
+        seen_y : (link_in mv.act.after u).peer_boot ≡ era.life u
+            → (wires arts x all era flow).seen y v u ≡ numbered (era.early u v) (link_in mv.act.after u).seen.1
         seen_y is = lit 0 (heard_of era v u) (node_in y.at.world.nodes v) mv.act.after mv.act.left ∙ (let t = known_at is in rw t refl)
 
         knows_n : KnowsOf x w.at.world v u (link_in mv.act.node u)
@@ -210,7 +219,8 @@ module _ (arts : Arts) (x : Setting) (all : List Event) (era : Era) (flow : Flow
             record {
               learned = knows_y at_life;
               late = λ z.
-                  let least = numbered_least (era.early u v) (arts.head bytes).counter (link_in mv.act.after u).seen.1 (let q = it_is.1 in omega (arith, q, seen)) some in
+                  let least = numbered_least (era.early u v) (arts.head bytes).counter (link_in mv.act.after u).seen.1
+                  (let q = it_is.1 in omega (arith, q, seen)) some in
                   let is = seen_y at_life in
                   let num = number in
                   omega (arith, least, is, num);

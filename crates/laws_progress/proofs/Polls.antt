@@ -61,12 +61,14 @@ polls_rise es e u v = let more = counted u v es e in omega (arith, more)
 pub events_are : (arts : Arts) (x : Setting) (all : List Event) (w y : State arts x all) (e : Event) → Follows arts x all w e y → y.events ≡ w.events ++ e ∷ []
 events_are arts x all w y e (Follow j events journal range turn unforged) = events
 
-pub one_polled : (arts : Arts) (x : Setting) (all : List Event) (w y : State arts x all) (e : Event) (u v : NodeId) → Follows arts x all w e y → is_poll u v e ≡ true
+pub one_polled : (arts : Arts) (x : Setting) (all : List Event) (w y : State arts x all) (e : Event) (u v : NodeId) → Follows arts x all w e y
+    → is_poll u v e ≡ true
     → polls y.events u v ≡ polls w.events u v + 1
 one_polled arts x all w y e u v follows is =
     ap (λ es. polls es u v) (events_are arts x all w y e follows) ∙ counted u v w.events e ∙ ap (λ t. polls w.events u v + cond t 1 0) is
 
-pub none_polled : (arts : Arts) (x : Setting) (all : List Event) (w y : State arts x all) (e : Event) (u v : NodeId) → Follows arts x all w e y → is_poll u v e ≡ false
+pub none_polled : (arts : Arts) (x : Setting) (all : List Event) (w y : State arts x all) (e : Event) (u v : NodeId) → Follows arts x all w e y
+    → is_poll u v e ≡ false
     → polls y.events u v ≡ polls w.events u v
 none_polled arts x all w y e u v follows is =
     let more = ap (λ es. polls es u v) (events_are arts x all w y e follows) ∙ counted u v w.events e ∙ ap (λ t. polls w.events u v + cond t 1 0) is in
@@ -105,14 +107,18 @@ between_back x era u v h =
 -- ---- which flow
 
 -- a poll of a neighbour was answered
-pub answered : (x : Setting) (number : ℕ) (r : Option NodeRefused) (o : Output) (reply : Reply) → reply_word x number (steps.refused_call r o).reply ≡ Some reply → r ≡ None
+pub answered : (x : Setting) (number : ℕ) (r : Option NodeRefused) (o : Output) (reply : Reply)
+    → reply_word x number (steps.refused_call r o).reply ≡ Some reply → r ≡ None
 answered x number None o reply e = refl
 answered x number (Some refused) o reply e = absurd cc
 
-pub served_last : (r : RelState) (v : NodeId) (place : ℕ) → list_any (is_peer v) r.peers ≡ true → next_place r v ≡ Some place → (peer_in (served r v).peers v).last ≡ Some place
+pub served_last : (r : RelState) (v : NodeId) (place : ℕ) → list_any (is_peer v) r.peers ≡ true → next_place r v ≡ Some place
+    → (peer_in (served r v).peers v).last ≡ Some place
 served_last r v place there next =
     ap (λ o. (peer_in (served_at r v o).peers v).last) next
-    ∙ ap (λ (p : RelPeer). p.last) (first_replaced (is_peer v) (new_peer [] v) (record (peer_in r.peers v) { last = Some place }) r.peers (eq-eqb _ _ (ap (λ (n : NodeId). n.0) (peer_is r v))) there)
+    ∙ ap (λ (p : RelPeer). p.last)
+    (first_replaced (is_peer v) (new_peer [] v) (record (peer_in r.peers v) { last = Some place }) r.peers
+    (eq-eqb _ _ (ap (λ (n : NodeId). n.0) (peer_is r v))) there)
 
 pub polled_rel : (n : NodeState) (v : NodeId) → call_refusal n v ≡ None → is_served n v ≡ true → (after_poll n v).parts.rel ≡ served n.parts.rel v
 polled_rel n v e on =

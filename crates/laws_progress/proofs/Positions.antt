@@ -84,7 +84,8 @@ module _ (arts : Arts) (x : Setting) (es : List Event) (js : List Entry) (w : Wo
         let k = sizes_at x (Good arts x es js) u in
         let nodes = nodes_hold x.topology.format x.topology.height 0 x.topology.nodes fits.fits.topology.ranges.nodes in
         let rel = ((signs arts x es js w fits.fits through.carries run).nodes u n at).holds.parts.rel in
-        let row = read k n.signer.index n.parts.rel.flows flow (in_range x.topology.format (nodes_of x.topology) s nodes (both _ _ from).0) (in_range x.topology.format (nodes_of x.topology) d nodes (both _ _ to).0) rel.flows in
+        let row = read k n.signer.index n.parts.rel.flows flow (in_range x.topology.format (nodes_of x.topology) s nodes (both _ _ from).0)
+        (in_range x.topology.format (nodes_of x.topology) d nodes (both _ _ to).0) rel.flows in
         let end : (flow_at n s d).dst ≡ d = ap (λ (f : Flow). f.dst) (found_ends n.parts.rel.flows flow) in
         row.standing.position (ne_eqb _ _ (λ same. other (sym (same_node _ _ same) ∙ end)))
 
@@ -159,8 +160,13 @@ module _ (arts : Arts) (x : Setting) (es : List Event) (js : List Entry) (w : Wo
         let flow : Flow = record { src = s; dst = d } in
         let u_on = correct_at u n at in
         let v_on = correct_at v m there in
-        let back : IsBetween x era v u = record
-        { hop = both_ways x u v (record { first = u_on; second = v_on; joined = joined }); first = v_on; second = u_on; open_edge = first_open x fits.fits v u (both_ways x u v (record { first = u_on; second = v_on; joined = joined })).joined } in
+        let back : IsBetween x era v u = record {
+          hop = both_ways x u v (record { first = u_on; second = v_on; joined = joined });
+          first = v_on;
+          second = u_on;
+          open_edge =
+              first_open x fits.fits v u (both_ways x u v (record { first = u_on; second = v_on; joined = joined })).joined;
+        } in
         let h = always arts x es era flow fits.fits through is_era watched v u back in
         let world = ap (λ (z : State arts x es). z.world) watched_at in
         let at_u : node_in watched.at.world.nodes u ≡ Some n = ap (λ (z : World). node_in z.nodes u) world ∙ at in

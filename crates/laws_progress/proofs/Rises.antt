@@ -6,7 +6,8 @@ use Rattle.laws_node.proofs.Adopting.{publishing, reading}
 use Rattle.sp_rules.specs.Documents.{under_topology}
 use Rattle.sp_rules.specs.declared.node.NodeRefused.{NodeRefused}
 use Rattle.sp_topology.specs.declared.topology.Topology.{Topology}
-use Rattle.std.proofs.Common.{◌≡◌, ◌<◌, ◌≤◌, ◌⊎◌, ℕ, ◌-◌, ◌==◌, Bool, true, false, cond, eqb, List, [], ◌∷◌, map, length, drop, Option, Some, None, refl, sym, ap, subst, ◌∙◌, inl, inr, arith}
+use Rattle.std.proofs.Common.{◌≡◌, ◌<◌, ◌≤◌, ◌⊎◌, ℕ, ◌-◌, ◌==◌, Bool, true, false, cond, eqb, List, [], ◌∷◌, map, length, drop, Option, Some, None, refl, sym}
+use Rattle.std.proofs.Common.{ap, subst, ◌∙◌, inl, inr, arith}
 use Rattle.std.specs.Prelude.{◌&&◌}
 use Rattle.std.proofs.lemmas.Bool.{cases_Bool, cases_eq, eq-eqb, eqb-true, ne_eqb}
 use Rattle.std.proofs.lemmas.List.{length-append}
@@ -92,7 +93,8 @@ take_later f = record { base = omega arith; have = omega arith; active = λ on. 
 alike : (a b : FlowState) (flow : Flow) → ends a ≡ ends b → is_flow flow a ≡ is_flow flow b
 alike a b flow e = ap (λ (g : Flow). (eqb g.src.0 flow.src.0) && (eqb g.dst.0 flow.dst.0)) e
 
-put_later : (flow : Flow) (g : FlowState) (fs : List FlowState) → ends g ≡ flow → FlowLater (flow_in fs flow) g → (other : Flow) → FlowLater (flow_in fs other) (flow_in (put_flow fs flow g) other)
+put_later : (flow : Flow) (g : FlowState) (fs : List FlowState) → ends g ≡ flow → FlowLater (flow_in fs flow) g → (other : Flow)
+    → FlowLater (flow_in fs other) (flow_in (put_flow fs flow g) other)
 put_later flow g [] e later other = same_later _
 put_later flow g (f ∷ fs) e later other = elim (cases_Bool (is_flow flow f)) [
   | inl t ↦
@@ -128,10 +130,12 @@ admit_rel_later r o =
     (with_later r flow (pushed f o) (found_ends r.flows flow) (pushed_later f o))
 
 pub admit_ack_later : (r : RelState) (o : Kept) → RelLater r (admit_ack r o)
-admit_ack_later r o = let flow = flow_said o.body in let f = flow_in r.flows flow in with_later r flow (acknowledged_by f o) (found_ends r.flows flow) (acked_later f o)
+admit_ack_later r o = let flow = flow_said o.body in let f = flow_in r.flows flow in
+    with_later r flow (acknowledged_by f o) (found_ends r.flows flow) (acked_later f o)
 
 pub reported_later : (r : RelState) (v : NodeId) (flow : Flow) (base have : ℕ) → RelLater r (reported r v flow base have)
-reported_later r v flow base have = cond_either (RelLater r) (flow_in r.flows flow).active (with_peer r v (told (peer_in r.peers v) flow base have)) r (rel_same r) (rel_same r)
+reported_later r v flow base have =
+    cond_either (RelLater r) (flow_in r.flows flow).active (with_peer r v (told (peer_in r.peers v) flow base have)) r (rel_same r) (rel_same r)
 
 served_later : (r : RelState) (v : NodeId) → RelLater r (served r v)
 served_later r v = go (next_place r v)
@@ -145,7 +149,8 @@ settled_later r o = go (due_place r)
   where
     go : (place : Option ℕ) → RelLater r (settled_at r o place)
     go None = rel_same r
-    go (Some place) = let flow = flow_said o.body in let f = flow_in r.flows flow in with_later r flow (concluded f o) (found_ends r.flows flow) (concluded_later f o)
+    go (Some place) = let flow = flow_said o.body in let f = flow_in r.flows flow in
+        with_later r flow (concluded f o) (found_ends r.flows flow) (concluded_later f o)
 
 took_later : (r : RelState) (src : NodeId) → RelLater r (took r src)
 took_later r src = let flow = flow_to_me r src in let f = flow_in r.flows flow in with_later r flow (after_take f) (found_ends r.flows flow) (take_later f)
@@ -159,7 +164,9 @@ abbrev PartsLater : Parts → Parts → Type 0
 PartsLater p q = RelLater p.rel q.rel
 
 piece_later : (arts : Arts) (at : Arrival) (p : Parts) (piece : Piece) → NoStart piece → PartsLater p (handle arts at p piece).parts
-piece_later arts at p (WeightPiece o) none = cond_either (PartsLater p) (is_new (items.Weight (weight_answer (is_signed arts at.fixed o) (offer_to at.fixed.me p.weights o.body)))) (record p { weights = held p.weights o }) p (rel_same p.rel) (rel_same p.rel)
+piece_later arts at p (WeightPiece o) none =
+    cond_either (PartsLater p) (is_new (items.Weight (weight_answer (is_signed arts at.fixed o) (offer_to at.fixed.me p.weights o.body))))
+    (record p { weights = held p.weights o }) p (rel_same p.rel) (rel_same p.rel)
 piece_later arts at p (PrioAckPiece number) none = rel_same p.rel
 piece_later arts at p (PrioPiece number o) none = go (prio_answer (is_signed arts at.fixed o) (is_dated p.lives o.body) (judge_prio p.prio o.body at.now))
   where
@@ -173,8 +180,12 @@ piece_later arts at p (PrioPiece number o) none = go (prio_answer (is_signed art
 piece_later arts at p (ReportPiece flow sboot dboot base have) none =
     cond_either (PartsLater p) (are_held p.lives flow sboot dboot) (record p { rel = reported p.rel at.from flow base have }) p
     (reported_later p.rel at.from flow base have) (rel_same p.rel)
-piece_later arts at p (AckPiece flow o) none = cond_either (PartsLater p) (is_new (items.Ack (ack_answer (is_signed arts at.fixed o) (is_dated p.lives o.body) (judge_ack_of p.rel flow o.body)))) (record p { rel = admit_ack p.rel o }) p (admit_ack_later p.rel o) (rel_same p.rel)
-piece_later arts at p (RelPiece flow o) none = cond_either (PartsLater p) (is_new (items.Rel (rel_answer (is_signed arts at.fixed o) (is_dated p.lives o.body) (judge_rel_of p.rel flow o.body)))) (record p { rel = admit_rel p.rel o }) p (admit_rel_later p.rel o) (rel_same p.rel)
+piece_later arts at p (AckPiece flow o) none =
+    cond_either (PartsLater p) (is_new (items.Ack (ack_answer (is_signed arts at.fixed o) (is_dated p.lives o.body) (judge_ack_of p.rel flow o.body))))
+    (record p { rel = admit_ack p.rel o }) p (admit_ack_later p.rel o) (rel_same p.rel)
+piece_later arts at p (RelPiece flow o) none =
+    cond_either (PartsLater p) (is_new (items.Rel (rel_answer (is_signed arts at.fixed o) (is_dated p.lives o.body) (judge_rel_of p.rel flow o.body))))
+    (record p { rel = admit_rel p.rel o }) p (admit_rel_later p.rel o) (rel_same p.rel)
 piece_later arts at p (EpochPiece o) none = absurd none
 
 -- ---- an Epoch object
@@ -227,7 +238,8 @@ pub data PartsGo (flow : Flow) (p q : Parts) : Type 0 where
       → flow_in q.rel.flows flow ≡ no_flow flow → ((u : NodeId) → view_in (peer_in q.rel.peers u).views flow ≡ no_view flow) → PartsGo flow p q
 
 -- after something that leaves the boots
-then_go : (flow : Flow) (p q r : Parts) → q.lives ≡ p.lives → FlowLater (flow_in p.rel.flows flow) (flow_in q.rel.flows flow) → PartsGo flow q r → PartsGo flow p r
+then_go : (flow : Flow) (p q r : Parts) → q.lives ≡ p.lives → FlowLater (flow_in p.rel.flows flow) (flow_in q.rel.flows flow) → PartsGo flow q r
+    → PartsGo flow p r
 then_go flow p q r same one (Goes_on src dst two) =
     Goes_on (src ∙ ap (λ ls. held_boot ls flow.src) same) (dst ∙ ap (λ ls. held_boot ls flow.dst) same) (then_later _ _ _ one two)
 then_go flow p q r same one (Begins_anew rises none views) =
@@ -238,7 +250,8 @@ then_go flow p q r same one (Begins_anew rises none views) =
 met_go : (flow : Flow) (p : Parts) (o : Kept) → Follows (origin_said o.body) (boot_said o.body) p (met p o) → PartsGo flow p (met p o)
 met_go flow p o done =
     let v = origin_said o.body in
-    let gone : is_end v flow ≡ true → (held_boot p.lives flow.src < held_boot (met p o).lives flow.src) ⊎ (held_boot p.lives flow.dst < held_boot (met p o).lives flow.dst)
+    let gone : is_end v flow ≡ true
+    → (held_boot p.lives flow.src < held_boot (met p o).lives flow.src) ⊎ (held_boot p.lives flow.dst < held_boot (met p o).lives flow.dst)
     → PartsGo flow p (met p o) =
     λ end up. Begins_anew up (done.flows flow ∙ ap (λ t. cond t (no_flow flow) (flow_in p.rel.flows flow)) end)
     (λ u. restarted_view v u flow p.rel ∙ ap (λ t. cond t (no_view flow) (view_in (peer_in p.rel.peers u).views flow)) end) in
@@ -287,10 +300,11 @@ plain_go flow arts at p piece none =
     Goes_on (ap (λ ls. held_boot ls flow.src) same) (ap (λ ls. held_boot ls flow.dst) same) (piece_later arts at p piece none flow)
 
 one_go : (flow : Flow) (arts : Arts) (at : Arrival) (p : Parts) (piece : Piece) → PartsGo flow p (handle arts at p piece).parts
-one_go flow arts at p (EpochPiece o) = elim (cases_Bool (is_new (items.Epoch (epoch_answer (is_signed arts at.fixed o) (judge_epoch at.fixed.me p.lives o.body))))) [
-  | inl t ↦ rw t (met_go flow p o (start_follows arts at p o t))
-  | inr t ↦ rw t (Goes_on refl refl (same_later _))
-]
+one_go flow arts at p (EpochPiece o) =
+    elim (cases_Bool (is_new (items.Epoch (epoch_answer (is_signed arts at.fixed o) (judge_epoch at.fixed.me p.lives o.body))))) [
+      | inl t ↦ rw t (met_go flow p o (start_follows arts at p o t))
+      | inr t ↦ rw t (Goes_on refl refl (same_later _))
+    ]
 one_go flow arts at p (WeightPiece o) = plain_go flow arts at p (WeightPiece o) tt
 one_go flow arts at p (PrioAckPiece number) = plain_go flow arts at p (PrioAckPiece number) tt
 one_go flow arts at p (PrioPiece number o) = plain_go flow arts at p (PrioPiece number o) tt
@@ -298,7 +312,8 @@ one_go flow arts at p (ReportPiece fl sboot dboot base have) = plain_go flow art
 one_go flow arts at p (AckPiece fl o) = plain_go flow arts at p (AckPiece fl o) tt
 one_go flow arts at p (RelPiece fl o) = plain_go flow arts at p (RelPiece fl o) tt
 
-pub pieces_go : (flow : Flow) (arts : Arts) (at : Arrival) (p : Parts) (pieces : List Piece) → StartLast pieces → PartsGo flow p (handle_all arts at p pieces).parts
+pub pieces_go : (flow : Flow) (arts : Arts) (at : Arrival) (p : Parts) (pieces : List Piece) → StartLast pieces
+    → PartsGo flow p (handle_all arts at p pieces).parts
 pieces_go flow arts at p [] last = Goes_on refl refl (same_later _)
 pieces_go flow arts at p (piece ∷ pieces) (inl plain) =
     then_go flow p (handle arts at p piece).parts _ (same_lives arts at p piece plain.0) (piece_later arts at p piece plain.0 flow)
@@ -361,7 +376,8 @@ step_go flow arts n (Tick now) output new s on = subst (NodeGo flow n) (sym s.1)
     go (Some ack) (Some refusal) = Goes_on refl refl (same_later _)
     go (Some ack) None = Goes_on refl refl (settled_later n.parts.rel (signed_now arts n (bodies.Ack ack)) flow)
 step_go flow arts n (SendRel dst payload) output new s on =
-    subst (NodeGo flow n) (sym s.1) (kept_go flow (rel_refusal n dst) n _ (Goes_on refl refl (sent_later n.parts.rel (signed_now arts n (rel_body n dst payload)) flow)))
+    subst (NodeGo flow n) (sym s.1)
+    (kept_go flow (rel_refusal n dst) n _ (Goes_on refl refl (sent_later n.parts.rel (signed_now arts n (rel_body n dst payload)) flow)))
 step_go flow arts n (SendPrio m) output new s on =
     subst (NodeGo flow n) (sym s.new_is) (kept_go flow (send_prio_refusal n m s.choice) n _ (Goes_on refl refl (same_later _)))
 step_go flow arts n (SetWeight v weight) output new s on =

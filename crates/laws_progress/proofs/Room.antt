@@ -33,7 +33,8 @@ take_is d s (events.Publish a b) is = absurd (let e : false ≡ true = is in cc)
 take_is d s (events.CraftDocument a b c f g) is = absurd (let e : false ≡ true = is in cc)
 take_is d s (events.Stop a) is = absurd (let e : false ≡ true = is in cc)
 
-put_or : (P : FlowState → Type 0) (flow : Flow) (g : FlowState) (fs : List FlowState) → is_flow flow g ≡ true → P g → (flow_in fs flow ≡ no_flow flow → P (no_flow flow)) → P (flow_in (put_flow fs flow g) flow)
+put_or : (P : FlowState → Type 0) (flow : Flow) (g : FlowState) (fs : List FlowState) → is_flow flow g ≡ true → P g
+    → (flow_in fs flow ≡ no_flow flow → P (no_flow flow)) → P (flow_in (put_flow fs flow g) flow)
 put_or P flow g [] is p none = none refl
 put_or P flow g (f ∷ fs) is p none = elim (cases_Bool (is_flow flow f)) [
   | inl t ↦ rw (t, is) p
@@ -45,7 +46,8 @@ less_one [] bound some most = omega (arith, some)
 less_one (x ∷ xs) bound some most = omega (arith, most)
 
 pub room_at : (flow : Flow) (fs : List FlowState) (bound : ℕ) → 1 ≤ bound → length (flow_in fs flow).inbox ≤ bound
-    → (flow_in fs flow).at.have < (flow_in (put_flow fs flow (after_take (flow_in fs flow))) flow).at.have - length (flow_in (put_flow fs flow (after_take (flow_in fs flow))) flow).inbox + bound
+    → (flow_in fs flow).at.have < (flow_in (put_flow fs flow (after_take (flow_in fs flow))) flow).at.have
+    - length (flow_in (put_flow fs flow (after_take (flow_in fs flow))) flow).inbox + bound
 room_at flow fs bound some most =
     let f = flow_in fs flow in
     put_or (λ g. f.at.have < g.at.have - length g.inbox + bound) flow (after_take f) fs (is_its (after_take f) flow (found_ends fs flow))

@@ -1,5 +1,6 @@
 -- The rows of its neighbours stand at each node: whom an edge joins to it has a row there, as at its start.
-use Rattle.std.proofs.Common.{◌≡◌, ℕ, ◌+◌, ◌==◌, ◌&&◌, ◌||◌, Bool, true, false, eqb, List, [], ◌∷◌, ◌++◌, map, find, Option, Some, None, refl, sym, ap, ◌∙◌, inl, inr}
+use Rattle.std.proofs.Common.{◌≡◌, ℕ, ◌+◌, ◌==◌, ◌&&◌, ◌||◌, Bool, true, false, eqb, List, [], ◌∷◌, ◌++◌, map, find, Option, Some, None, refl, sym, ap, ◌∙◌}
+use Rattle.std.proofs.Common.{inl, inr}
 use Rattle.std.specs.List.{list_any, zip}
 use Rattle.std.proofs.lemmas.Bool.{cases_Bool, eqb-true, eq-eqb}
 use Rattle.sp_base.specs.declared.id.EdgeId.{EdgeId}
@@ -39,14 +40,16 @@ new_peers : (flows : List Flow) (vs : List NodeId) → map (λ p. p.peer) (map (
 new_peers flows [] = refl
 new_peers flows (v ∷ vs) = ap (λ (us : List NodeId). v ∷ us) (new_peers flows vs)
 
-new_links : (f : Fixed) (key : NodeId × EdgeId → List ℕ) (ns : List (NodeId × EdgeId)) → map (λ l. l.peer) (map (link_of f) (zip ns (map key ns))) ≡ map (λ n. n.0) ns
+new_links : (f : Fixed) (key : NodeId × EdgeId → List ℕ) (ns : List (NodeId × EdgeId))
+    → map (λ l. l.peer) (map (link_of f) (zip ns (map key ns))) ≡ map (λ n. n.0) ns
 new_links f key [] = refl
 new_links f key (n ∷ ns) = ap (λ (us : List NodeId). n.0 ∷ us) (new_links f key ns)
 
 boot_among : (x : Setting) (u : NodeId) (ns : List NodeId) (n : NodeState) → find (is_me u) (map (node_at_boot x) ns) ≡ Some n → n ≡ node_at_boot x u
 boot_among x u [] n e = absurd cc
 boot_among x u (v ∷ ns) n e = elim (cases_Bool (eqb v.0 u.0)) [
-  | inl t ↦ let here : Some (node_at_boot x v) ≡ Some n = rw t at e in let is : node_at_boot x v ≡ n = cc in sym is ∙ ap (node_at_boot x) (same_node v u (eqb-true _ _ t))
+  | inl t ↦ let here : Some (node_at_boot x v) ≡ Some n = rw t at e in let is : node_at_boot x v ≡ n = cc in
+      sym is ∙ ap (node_at_boot x) (same_node v u (eqb-true _ _ t))
   | inr t ↦ boot_among x u ns n (rw t at e)
 ]
 
@@ -67,7 +70,8 @@ through : {X S Y : Type 0} (shape : X → S) (read : S → Y) (xs : List X) → 
 through shape read [] = refl
 through shape read (x ∷ xs) = ap (λ ys. read (shape x) ∷ ys) (through shape read xs)
 
-same_shapes : {X S Y : Type 0} (shape : X → S) (read : S → Y) (xs ys : List X) → map shape xs ≡ map shape ys → map (λ x. read (shape x)) xs ≡ map (λ x. read (shape x)) ys
+same_shapes : {X S Y : Type 0} (shape : X → S) (read : S → Y) (xs ys : List X) → map shape xs ≡ map shape ys
+    → map (λ x. read (shape x)) xs ≡ map (λ x. read (shape x)) ys
 same_shapes shape read xs ys same = sym (through shape read xs) ∙ ap (map read) same ∙ through shape read ys
 
 pub rows_are : (arts : Arts) (x : Setting) (es : List Event) (js : List Entry) (w : World) → SettingFits arts x → Carries x.topology.format arts
@@ -119,7 +123,8 @@ or_true : (a : Bool) → (a || true) ≡ true
 or_true true = refl
 or_true false = refl
 
-pub neighbour_there : (u v : NodeId) (place : ℕ) (edges : List Edge) → list_any (joins u.0 v.0) edges ≡ true → list_any (is_id v) (map (λ n. n.0) (neighbours_from u.0 place edges)) ≡ true
+pub neighbour_there : (u v : NodeId) (place : ℕ) (edges : List Edge) → list_any (joins u.0 v.0) edges ≡ true
+    → list_any (is_id v) (map (λ n. n.0) (neighbours_from u.0 place edges)) ≡ true
 neighbour_there u v place [] some = absurd (let e : false ≡ true = some in cc)
 neighbour_there u v place (e ∷ edges) some = elim (cases_Bool (joins u.0 v.0 e)) [
   | inl t ↦

@@ -3,7 +3,8 @@ use Rattle.laws_progress.proofs.States.{IsRight, numbered, Follow, Follows, IsHo
 use Rattle.laws_runs.specs.Premises.{Carries}
 use Rattle.sp_runs.specs.Settings.{SettingFits, Setting, is_correct}
 use Rattle.std.specs.Prelude.{IsTrue, slice_get}
-use Rattle.std.proofs.Common.{◌≡◌, ◌<◌, ◌≤◌, ℕ, zero, suc, ◌+◌, ◌-◌, List, [], ◌∷◌, ◌++◌, length, drop, Some, None, refl, sym, ap, subst, ◌∙◌, arith, append_assoc}
+use Rattle.std.proofs.Common.{◌≡◌, ◌<◌, ◌≤◌, ℕ, zero, suc, ◌+◌, ◌-◌, List, [], ◌∷◌, ◌++◌, length, drop, Some, None, refl, sym, ap, subst, ◌∙◌, arith}
+use Rattle.std.proofs.Common.{append_assoc}
 use Rattle.std.proofs.lemmas.List.{append-nil, length-drop, length_push}
 use Rattle.std.proofs.lemmas.List.Folds.{list_any-from_Any}
 use Rattle.std.proofs.lemmas.Option.{get_or_from_slice_get}
@@ -31,7 +32,8 @@ use Rattle.laws_progress.proofs.Sweeps.{apart}
 
 -- ---- a run and its beginning, as states
 
-events_on : (arts : Arts) (x : Setting) (all es : List Event) (w y : State arts x all) → Goes (State arts x all) (Follows arts x all) w es y → y.events ≡ w.events ++ es
+events_on : (arts : Arts) (x : Setting) (all es : List Event) (w y : State arts x all) → Goes (State arts x all) (Follows arts x all) w es y
+    → y.events ≡ w.events ++ es
 events_on arts x all [] w y Stays = sym (append-nil w.events)
 events_on arts x all (e ∷ es) w y (Steps {x = m} step g) =
     events_on arts x all es m y g ∙ ap (λ zs. zs ++ es) (events_are arts x all w m e step) ∙ append_assoc w.events (e ∷ []) es
@@ -53,7 +55,8 @@ same_front {X} (x ∷ a) (y ∷ b) c d long same =
     ap (λ z. z ∷ a) first ∙ ap (λ (zs : List X). y ∷ zs) (same_front a b c d (omega (arith, long)) rest)
 
 -- the state at the end of the beginning, from which the other events lead to the last
-pub record Split (arts : Arts) (x : Setting) (all : List Event) (es : List Event) (js : List Entry) (w : World) (after : List Event) (y : State arts x all) : Type 0 where
+pub record Split (arts : Arts) (x : Setting) (all : List Event) (es : List Event) (js : List Entry) (w : World) (after : List Event)
+    (y : State arts x all) : Type 0 where
   pub mid : State arts x all
   pub events : mid.events ≡ es
   pub journal : mid.journal ≡ js
@@ -69,7 +72,8 @@ split arts x fits reads es after js more w v early run =
     let y = last_state arts x all (js ++ more) v run in
     let b = begins arts x all y in
     let is : all ≡ b.events = events_on arts x all b.events b.first y b.goes ∙ ap (λ zs. zs ++ b.events) b.none in
-    let p = apart (State arts x all) (Follows arts x all) es after b.first y (subst (λ zs. Goes (State arts x all) (Follows arts x all) b.first zs y) (sym is) b.goes) in
+    let p = apart (State arts x all) (Follows arts x all) es after b.first y
+    (subst (λ zs. Goes (State arts x all) (Follows arts x all) b.first zs y) (sym is) b.goes) in
     let events : p.mid.events ≡ es = events_on arts x all es b.first p.mid p.first ∙ ap (λ zs. zs ++ es) b.none in
     let tail = journal_on arts x all after p.mid y p.then_ in
     let long = ap (λ (zs : List Event). length zs) events in
@@ -146,7 +150,8 @@ told_append tells [] fs [] ks long = refl
 told_append tells [] fs (j ∷ js) ks long = absurd (omega (arith, long))
 told_append tells (e ∷ es) fs [] ks long = absurd (omega (arith, long))
 told_append tells (e ∷ es) fs (j ∷ js) ks long =
-    ap (λ zs. tells (e, j) ++ zs) (told_append tells es fs js ks (omega (arith, long))) ∙ sym (append_assoc (tells (e, j)) (told tells es js) (told tells fs ks))
+    ap (λ zs. tells (e, j) ++ zs) (told_append tells es fs js ks (omega (arith, long)))
+    ∙ sym (append_assoc (tells (e, j)) (told tells es js) (told tells fs ks))
 
 there_at : (ms : List Message) (i : ℕ) → i < length ms → (m : Message) × (slice_get ms i ≡ Some m)
 there_at [] i low = absurd (omega (arith, low))

@@ -1,7 +1,8 @@
 -- Service in turn: as many choices as there are places serve each place that is active all the time.
 use Rattle.std.specs.Prelude.{ℕ, zero, suc, ◌≡◌, ◌+◌, ◌≤◌, Bool, true, false, List, [], ◌∷◌, length, ◌++◌, Option, Some, All, if◌then◌else◌}
 use Rattle.sp_base.specs.Cursor.{next_after}
-use Rattle.std.proofs.Common.{◌≡◌, ℕ, zero, suc, ◌+◌, ◌-◌, ◌<◌, ◌≤◌, ◌⊎◌, Bool, true, false, cond, ltb, List, [], ◌∷◌, length, drop, get_or, Option, Some, None, option_map, refl, sym, ap, ◌∙◌, inl, inr, arith}
+use Rattle.std.proofs.Common.{◌≡◌, ℕ, zero, suc, ◌+◌, ◌-◌, ◌<◌, ◌≤◌, ◌⊎◌, Bool, true, false, cond, ltb, List, [], ◌∷◌, length, drop, get_or, Option, Some, None}
+use Rattle.std.proofs.Common.{option_map, refl, sym, ap, ◌∙◌, inl, inr, arith}
 use Rattle.std.specs.Prelude.{All}
 use Rattle.std.proofs.lemmas.List.Elements.{All-head, All-tail}
 use Rattle.std.specs.List.{position, position_or_len}
@@ -98,7 +99,8 @@ first_some k xs q e =
     record {
       from = omega (arith, it.2);
       is = rw it.2 (sym (on_drop k xs it.0) ∙ at.0);
-      least = λ x low on. let back : k + (x - k) ≡ x = omega (arith, low) in let le = at.1 (x - k) (on_drop k xs (x - k) ∙ rw back on) in omega (arith, it.2, le, low);
+      least = λ x low on. let back : k + (x - k) ≡ x = omega (arith, low) in let le = at.1 (x - k) (on_drop k xs (x - k) ∙ rw back on) in
+          omega (arith, it.2, le, low);
     }
 
 first_none : (k : ℕ) (xs : List Bool) → first_active_from k xs ≡ None → (x : ℕ) → k ≤ x → is_on xs x ≡ true → ⊥
@@ -122,7 +124,8 @@ chosen : (last : Option ℕ) (xs : List Bool) (q t : ℕ) → is_on xs t ≡ tru
 chosen None xs q t on e = let f = first_some 0 xs q e in (f.is, f.least t (omega arith) on)
 chosen (Some p) xs q t on e = elim (or_some (first_active_from (p + 1) xs) (first_active_from 0 xs) q e) [
   | inl fore ↦ let f = first_some (p + 1) xs q fore in let from = f.from in (f.is, inl (omega (arith, from), λ lt. f.least t (omega (arith, lt)) on))
-  | inr round ↦ let f = first_some 0 xs q round.1 in (f.is, inr (elim (cases_lt p t) [ inl lt ↦ absurd (first_none (p + 1) xs round.0 t (omega (arith, lt)) on) | inr ge ↦ ge ], f.least t (omega arith) on))
+  | inr round ↦ let f = first_some 0 xs q round.1 in
+      (f.is, inr (elim (cases_lt p t) [ inl lt ↦ absurd (first_none (p + 1) xs round.0 t (omega (arith, lt)) on) | inr ge ↦ ge ], f.least t (omega arith) on))
 ]
 
 -- a place that is chosen is active
@@ -199,7 +202,8 @@ distance_one zs (Some p) t on = elim (cases_Bool (ltb p t)) [
   | inr s ↦ let one = count_one zs t on in let a = count_all zs p in rw s (omega (arith, one, a))
 ]
 
-nearer : (zs : List Bool) (last : Option ℕ) (q t : ℕ) → is_on zs q ≡ true → is_on zs t ≡ true → Chosen last q t → (q ≡ t → ⊥) → distance zs (Some q) t + 1 ≤ distance zs last t
+nearer : (zs : List Bool) (last : Option ℕ) (q t : ℕ) → is_on zs q ≡ true → is_on zs t ≡ true → Chosen last q t → (q ≡ t → ⊥)
+    → distance zs (Some q) t + 1 ≤ distance zs last t
 nearer zs None q t on there le other =
     let s : ltb q t ≡ true = lt-ltb _ _ (omega (arith, le, other)) in
     let one = count_one zs q on in
@@ -247,13 +251,19 @@ served_in place last (active ∷ later) end ons withins one near =
     let within = All-head (λ (xs : List Bool). IsWithin xs end) active later withins in
     let next = serves_nearer last active end place on within in
     elim (cases_eq next.0 place) [
-      | inl is ↦ ([], places_served (next_after last active) later, ap (λ p. p ∷ places_served (next_after last active) later) (next.1 ∙ ap (λ (q : ℕ). Some q) is))
+      | inl is ↦ (
+        [],
+        places_served (next_after last active) later,
+        ap (λ p. p ∷ places_served (next_after last active) later) (next.1 ∙ ap (λ (q : ℕ). Some q) is),
+      )
       | inr other ↦
           let less = next.2 other in
           let some = distance_one end (Some next.0) place (within place on) in
           among_later place (next_after last active) (places_served (next_after last active) later)
-          (rw next.1 (served_in place (Some next.0) later end (All-tail (λ (xs : List Bool). is_on xs place ≡ true) active later ons) (All-tail (λ (xs : List Bool). IsWithin xs end) active later withins) (omega (arith, less, some, near)) (omega (arith, less, near))))
+          (rw next.1 (served_in place (Some next.0) later end (All-tail (λ (xs : List Bool). is_on xs place ≡ true) active later ons)
+          (All-tail (λ (xs : List Bool). IsWithin xs end) active later withins) (omega (arith, less, some, near)) (omega (arith, less, near))))
     ]
 
 pub service : ServiceLaw
-service place last actives end on within one enough = let d = distance_all end last place in served_in place last actives end on within one (omega (arith, d, enough))
+service place last actives end on within one enough = let d = distance_all end last place in
+    served_in place last actives end on within one (omega (arith, d, enough))

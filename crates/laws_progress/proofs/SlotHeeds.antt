@@ -1,7 +1,8 @@
 -- A whole slot of the flow from a correct node: what it leaves of the flow, and of the view of that node.
 use Rattle.laws_runs.proofs.Lists.{both}
 use Rattle.laws_progress.proofs.States.{Era}
-use Rattle.std.proofs.Common.{◌≡◌, ◌≤◌, ◌⊎◌, ℕ, ◌+◌, ◌-◌, ◌==◌, ◌&&◌, ◌||◌, Bool, true, false, cond, min, max, List, [], ◌∷◌, length, map, Option, Some, None, refl, sym, ap, subst, ◌∙◌, inl, inr, arith, eqb-true}
+use Rattle.std.proofs.Common.{◌≡◌, ◌≤◌, ◌⊎◌, ℕ, ◌+◌, ◌-◌, ◌==◌, ◌&&◌, ◌||◌, Bool, true, false, cond, min, max, List, [], ◌∷◌, length, map, Option, Some, None}
+use Rattle.std.proofs.Common.{refl, sym, ap, subst, ◌∙◌, inl, inr, arith, eqb-true}
 use Rattle.std.specs.List.{list_any}
 use Rattle.std.proofs.lemmas.Bool.{cases_Bool, eq-eqb}
 use Rattle.sp_base.specs.Rows.{replace_where}
@@ -36,13 +37,15 @@ use Rattle.laws_progress.proofs.Wires.{has_ack, is_mine, number_in, told_slot, i
 
 -- ---- what stays ready
 
-ready_reported : (nodes : List NodeId) (bound : ℕ) (v : NodeId) (flow : Flow) (r : RelState) (u : NodeId) (fl : Flow) (base have : ℕ) → Ready nodes bound v flow r → Ready nodes bound v flow (reported r u fl base have)
+ready_reported : (nodes : List NodeId) (bound : ℕ) (v : NodeId) (flow : Flow) (r : RelState) (u : NodeId) (fl : Flow) (base have : ℕ)
+    → Ready nodes bound v flow r → Ready nodes bound v flow (reported r u fl base have)
 ready_reported nodes bound v flow r u fl base have h =
     cond_either (Ready nodes bound v flow) (flow_in r.flows fl).active (with_peer r u (told (peer_in r.peers u) fl base have)) r
     (record { me = h.me; nodes_are = h.nodes_are; bound_is = h.bound_is; row = h.row; acks = h.acks; goes_on = h.goes_on }) h
 
 reported_flows : (r : RelState) (u : NodeId) (fl : Flow) (base have : ℕ) → (reported r u fl base have).flows ≡ r.flows
-reported_flows r u fl base have = cond_either (λ (z : RelState). z.flows ≡ r.flows) (flow_in r.flows fl).active (with_peer r u (told (peer_in r.peers u) fl base have)) r refl refl
+reported_flows r u fl base have =
+    cond_either (λ (z : RelState). z.flows ≡ r.flows) (flow_in r.flows fl).active (with_peer r u (told (peer_in r.peers u) fl base have)) r refl refl
 
 -- the same where it is dropped
 ready_report : (ls : List Life) (nodes : List NodeId) (bound : ℕ) (v : NodeId) (flow : Flow) (r : RelState) (u : NodeId) (t : Report)
@@ -90,7 +93,9 @@ acks_later arts fx ls r flow (Some o) = ack_later arts fx ls r flow o
 
 rels_later : (arts : Arts) (fx : Fixed) (ls : List Life) (r : RelState) (flow : Flow) (os : List Kept) → RelLater r (after_rels arts fx ls r flow os)
 rels_later arts fx ls r flow [] = rel_same r
-rels_later arts fx ls r flow (o ∷ os) = rel_then r (after_rel arts fx ls r flow o) (after_rels arts fx ls (after_rel arts fx ls r flow o) flow os) (rel_later arts fx ls r flow o) (rels_later arts fx ls (after_rel arts fx ls r flow o) flow os)
+rels_later arts fx ls r flow (o ∷ os) =
+    rel_then r (after_rel arts fx ls r flow o) (after_rels arts fx ls (after_rel arts fx ls r flow o) flow os) (rel_later arts fx ls r flow o)
+    (rels_later arts fx ls (after_rel arts fx ls r flow o) flow os)
 
 -- ---- the flow after it
 
@@ -113,15 +118,18 @@ pub record SlotFits (arts : Arts) (fx : Fixed) (ls : List Life) (flow : Flow) (b
 pub record SlotHeeded (flow : Flow) (bound : ℕ) (r z : RelState) (t : Report) : Type 0 where
   pub base : t.base ≤ (flow_in z.flows flow).at.base
   pub have : is_to r flow ≡ false → number_in t.rels ≤ (flow_in z.flows flow).at.have
-  pub have_at_end : is_to r flow ≡ true → min (number_in t.rels) ((flow_in r.flows flow).at.have - length (flow_in r.flows flow).inbox + bound) ≤ (flow_in z.flows flow).at.have
+  pub have_at_end : is_to r flow ≡ true
+      → min (number_in t.rels) ((flow_in r.flows flow).at.have - length (flow_in r.flows flow).inbox + bound) ≤ (flow_in z.flows flow).at.have
 
-acks_heard : (arts : Arts) (fx : Fixed) (ls : List Life) (nodes : List NodeId) (bound : ℕ) (v : NodeId) (flow : Flow) (r : RelState) (o : Option Kept) (base : ℕ) → Ready nodes bound v flow r → AreNodes nodes flow → SlotAck flow base o
+acks_heard : (arts : Arts) (fx : Fixed) (ls : List Life) (nodes : List NodeId) (bound : ℕ) (v : NodeId) (flow : Flow) (r : RelState) (o : Option Kept)
+    (base : ℕ) → Ready nodes bound v flow r → AreNodes nodes flow → SlotAck flow base o
     → ((k : Kept) → o ≡ Some k → is_signed arts fx k ≡ true) → ((k : Kept) → o ≡ Some k → is_dated ls k.body ≡ true)
     → (has_ack o ≡ false → base ≤ (flow_in r.flows flow).at.base)
     → (is_from r flow ≡ true → base ≤ (flow_in r.flows flow).at.have) → (is_to r flow ≡ true → base ≤ (flow_in r.flows flow).at.base)
     → base ≤ (flow_in (after_acks arts fx ls r flow o).flows flow).at.base
 acks_heard arts fx ls nodes bound v flow r None base ready are No_ack signed dated none at_source at_end = none refl
-acks_heard arts fx ls nodes bound v flow r (Some o) base ready are (Has_ack x kind number) signed dated none at_source at_end = ack_heard arts fx ls nodes bound v flow r o base ready are kind number (signed o refl) (dated o refl) at_source at_end
+acks_heard arts fx ls nodes bound v flow r (Some o) base ready are (Has_ack x kind number) signed dated none at_source at_end =
+    ack_heard arts fx ls nodes bound v flow r o base ready are kind number (signed o refl) (dated o refl) at_source at_end
 
 rels_heard : (arts : Arts) (fx : Fixed) (ls : List Life) (nodes : List NodeId) (bound : ℕ) (v : NodeId) (flow : Flow) (r : RelState) (os : List Kept)
     → Ready nodes bound v flow r → AreNodes nodes flow → SlotRel flow os
@@ -130,11 +138,14 @@ rels_heard : (arts : Arts) (fx : Fixed) (ls : List Life) (nodes : List NodeId) (
     → number_in os ≤ (flow_in r.flows flow).at.base + bound
     → (is_from r flow ≡ true → number_in os ≤ (flow_in r.flows flow).at.have)
     → (is_to r flow ≡ false → number_in os ≤ (flow_in (after_rels arts fx ls r flow os).flows flow).at.have)
-    × (is_to r flow ≡ true → min (number_in os) ((flow_in r.flows flow).at.have - length (flow_in r.flows flow).inbox + bound) ≤ (flow_in (after_rels arts fx ls r flow os).flows flow).at.have)
+    × (is_to r flow ≡ true
+    → min (number_in os) ((flow_in r.flows flow).at.have - length (flow_in r.flows flow).inbox + bound)
+    ≤ (flow_in (after_rels arts fx ls r flow os).flows flow).at.have)
 rels_heard arts fx ls nodes bound v flow r [] ready are No_rel signed dated near window at_source = (λ z. omega arith, λ z. omega arith)
 rels_heard arts fx ls nodes bound v flow r (o ∷ os) ready are (Has_rel x rest q is) signed dated near window at_source =
     let number = said flow q o.body is in
-    let h = rel_heard arts fx ls nodes bound v flow r o q ready are is (signed o os refl) (dated o os refl) (omega (arith, number, near)) (omega (arith, number, window))
+    let h = rel_heard arts fx ls nodes bound v flow r o q ready are is (signed o os refl) (dated o os refl) (omega (arith, number, near))
+    (omega (arith, number, window))
     (λ z. let low = at_source z in omega (arith, number, low)) in
     let up = (rels_later arts fx ls (after_rel arts fx ls r flow o) flow os flow).have in
     (λ z. let have = h.0 z in omega (arith, have, number, up), λ z. let have = h.1 z in omega (arith, have, number, up))
@@ -161,12 +172,14 @@ slot_heeded arts fx ls nodes bound v u flow r t ready are fits =
     let up_taken = later3.taken in
     let sound = (flow_ack r flow ready.acks).sound in
     let sound3 = (flow_ack r3 flow ready3.acks).sound in
-    let base3 = acks_heard arts fx ls nodes bound v flow r2 t.ack t.base ready2 are fits.ack fits.signed_ack fits.dated_ack (λ z. let l = fits.no_ack z in omega (arith, l, base2))
+    let base3 = acks_heard arts fx ls nodes bound v flow r2 t.ack t.base ready2 are fits.ack fits.signed_ack fits.dated_ack
+    (λ z. let l = fits.no_ack z in omega (arith, l, base2))
     (λ z. let l = fits.low (from2 ∙ z) in omega (arith, l, have2)) (λ z. let l = fits.at_end (to2 ∙ z) in omega (arith, l, base2)) in
     let near = fits.next_near in
     let there = fits.next_there in
     let window = fits.window in
-    let h = rels_heard arts fx ls nodes bound v flow r3 t.rels ready3 are fits.rels fits.signed_rel fits.dated_rel (omega (arith, near, have2, up_have, base3, sound3)) (omega (arith, there, window, base3))
+    let h = rels_heard arts fx ls nodes bound v flow r3 t.rels ready3 are fits.rels fits.signed_rel fits.dated_rel
+    (omega (arith, near, have2, up_have, base3, sound3)) (omega (arith, there, window, base3))
     (λ z. let l = fits.at_source (from3 ∙ z) in omega (arith, l, there, have2, up_have)) in
     let up4 = (rels_later arts fx ls r3 flow t.rels flow).base in
     let it : SlotHeeded flow bound r r4 t = record {
@@ -174,7 +187,8 @@ slot_heeded arts fx ls nodes bound v u flow r t ready are fits =
       have = λ z. h.0 (sym to3 ∙ z);
       have_at_end = λ z. let m = h.1 (sym to3 ∙ z) in omega (arith, m, up_taken, have2, inbox2);
     } in
-    subst (λ (z : RelState). SlotHeeded flow bound r z t) (ap (λ fl. after_rels arts fx ls (after_acks arts fx ls (after_report ls r u t) fl t.ack) fl t.rels) (sym fits.flow_is)) it
+    subst (λ (z : RelState). SlotHeeded flow bound r z t)
+    (ap (λ fl. after_rels arts fx ls (after_acks arts fx ls (after_report ls r u t) fl t.ack) fl t.rels) (sym fits.flow_is)) it
 
 -- ---- the view after it
 
@@ -183,13 +197,16 @@ view_of r u flow = view_in (peer_in r.peers u).views flow
 
 acks_peers : (arts : Arts) (fx : Fixed) (ls : List Life) (r : RelState) (fl : Flow) (o : Option Kept) → (after_acks arts fx ls r fl o).peers ≡ r.peers
 acks_peers arts fx ls r fl None = refl
-acks_peers arts fx ls r fl (Some o) = cond_either (λ (z : RelState). z.peers ≡ r.peers) (is_new (items.Ack (ack_answer (is_signed arts fx o) (is_dated ls o.body) (judge_ack_of r fl o.body)))) (admit_ack r o) r refl refl
+acks_peers arts fx ls r fl (Some o) =
+    cond_either (λ (z : RelState). z.peers ≡ r.peers) (is_new (items.Ack (ack_answer (is_signed arts fx o) (is_dated ls o.body) (judge_ack_of r fl o.body))))
+    (admit_ack r o) r refl refl
 
 rels_peers : (arts : Arts) (fx : Fixed) (ls : List Life) (r : RelState) (fl : Flow) (os : List Kept) → (after_rels arts fx ls r fl os).peers ≡ r.peers
 rels_peers arts fx ls r fl [] = refl
 rels_peers arts fx ls r fl (o ∷ os) =
     rels_peers arts fx ls (after_rel arts fx ls r fl o) fl os
-    ∙ cond_either (λ (z : RelState). z.peers ≡ r.peers) (is_new (items.Rel (rel_answer (is_signed arts fx o) (is_dated ls o.body) (judge_rel_of r fl o.body)))) (admit_rel r o) r refl refl
+    ∙ cond_either (λ (z : RelState). z.peers ≡ r.peers) (is_new (items.Rel (rel_answer (is_signed arts fx o) (is_dated ls o.body) (judge_rel_of r fl o.body))))
+    (admit_rel r o) r refl refl
 
 pub slot_peers : (arts : Arts) (fx : Fixed) (ls : List Life) (r : RelState) (u : NodeId) (t : Report)
     → (after_slot arts fx ls r u (Some t)).peers ≡ (after_report ls r u t).peers
@@ -209,9 +226,11 @@ pub record SlotDone (flow : Flow) (r z : RelState) (u : NodeId) (f : Told) : Typ
   pub views : (view_of z u flow ≡ view_of r u flow) ⊎ ((f.mine ≡ true) × ((view_of z u flow).base ≡ f.base) × ((view_of z u flow).have ≡ f.have))
   pub active : f.mine ≡ true → (flow_in r.flows flow).active ≡ true → ((view_of z u flow).base ≡ f.base) × ((view_of z u flow).have ≡ f.have)
 
-report_done : (nodes : List NodeId) (r : RelState) (u : NodeId) (flow fl : Flow) (base have : ℕ) → RelRows nodes r → map ends r.flows ≡ pairs_of nodes → list_any (is_peer u) r.peers ≡ true → list_any (is_flow flow) r.flows ≡ true
+report_done : (nodes : List NodeId) (r : RelState) (u : NodeId) (flow fl : Flow) (base have : ℕ) → RelRows nodes r → map ends r.flows ≡ pairs_of nodes
+    → list_any (is_peer u) r.peers ≡ true → list_any (is_flow flow) r.flows ≡ true
     → (t : Bool) → (flow_in r.flows fl).active ≡ t
-    → ((is_mine flow fl ≡ true) × (t ≡ true) × ((view_of (reported r u fl base have) u flow).base ≡ base) × ((view_of (reported r u fl base have) u flow).have ≡ have))
+    → ((is_mine flow fl ≡ true) × (t ≡ true) × ((view_of (reported r u fl base have) u flow).base ≡ base)
+    × ((view_of (reported r u fl base have) u flow).have ≡ have))
     ⊎ (((is_mine flow fl ≡ false) ⊎ (t ≡ false)) × (view_of (reported r u fl base have) u flow ≡ view_of r u flow))
 report_done nodes r u flow fl base have rows keys there row false e =
     inr (inr refl, ap (λ t. view_of (cond t (with_peer r u (told (peer_in r.peers u) fl base have)) r) u flow) e)
@@ -220,14 +239,18 @@ report_done nodes r u flow fl base have rows keys there row true e =
     let q = told p fl base have in
     let w : View = record { src = fl.src; dst = fl.dst; base = base; have = have } in
     let is : reported r u fl base have ≡ with_peer r u q = ap (λ t. cond t (with_peer r u q) r) e in
-    let peer : peer_in (with_peer r u q).peers u ≡ q = first_replaced (is_peer u) (new_peer [] u) q r.peers (eq-eqb _ _ (ap (λ (n : NodeId). n.0) (peer_is r u))) there in
-    let at : view_of (reported r u fl base have) u flow ≡ view_in q.views flow = ap (λ (z : RelState). view_of z u flow) is ∙ ap (λ (z : RelPeer). view_in z.views flow) peer in
+    let peer : peer_in (with_peer r u q).peers u ≡ q =
+    first_replaced (is_peer u) (new_peer [] u) q r.peers (eq-eqb _ _ (ap (λ (n : NodeId). n.0) (peer_is r u))) there in
+    let at : view_of (reported r u fl base have) u flow ≡ view_in q.views flow =
+    ap (λ (z : RelState). view_of z u flow) is ∙ ap (λ (z : RelPeer). view_in z.views flow) peer in
     elim (cases_Bool (is_mine flow fl)) [
       | inl mine ↦
           let same = same_flow flow fl mine in
           let views = first_there (ViewsAre nodes) (is_peer u) (new_peer [] u) r.peers rows.views there in
-          let stands : list_any (is_view flow) p.views ≡ true = any_key flow p.views ∙ ap (list_any (is_mine flow)) (views ∙ sym keys) ∙ sym (any_ends flow r.flows) ∙ row in
-          let put : view_in q.views flow ≡ w = ap (λ g. view_in (replace_where (is_view g) w p.views) flow) same ∙ first_replaced (is_view flow) (no_view flow) w p.views mine stands in
+          let stands : list_any (is_view flow) p.views ≡ true =
+          any_key flow p.views ∙ ap (list_any (is_mine flow)) (views ∙ sym keys) ∙ sym (any_ends flow r.flows) ∙ row in
+          let put : view_in q.views flow ≡ w =
+          ap (λ g. view_in (replace_where (is_view g) w p.views) flow) same ∙ first_replaced (is_view flow) (no_view flow) w p.views mine stands in
           inl (mine, refl, ap (λ (z : View). z.base) (at ∙ put), ap (λ (z : View). z.have) (at ∙ put))
       | inr off ↦
           let stays : view_in q.views flow ≡ view_in p.views flow =

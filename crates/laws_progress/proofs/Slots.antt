@@ -53,7 +53,8 @@ pieces_lives : (arts : Arts) (at : Arrival) (p : Parts) (pieces : List Piece) �
 pieces_lives arts at p [] none = refl
 pieces_lives arts at p (piece ∷ pieces) none = pieces_lives arts at (handle arts at p piece).parts pieces none.1 ∙ same_lives arts at p piece none.0
 
-pub all_append : (arts : Arts) (at : Arrival) (p : Parts) (xs ys : List Piece) → (handle_all arts at p (xs ++ ys)).parts ≡ (handle_all arts at (handle_all arts at p xs).parts ys).parts
+pub all_append : (arts : Arts) (at : Arrival) (p : Parts) (xs ys : List Piece)
+    → (handle_all arts at p (xs ++ ys)).parts ≡ (handle_all arts at (handle_all arts at p xs).parts ys).parts
 all_append arts at p [] ys = refl
 all_append arts at p (x ∷ xs) ys = all_append arts at (handle arts at p x).parts xs ys
 
@@ -61,7 +62,8 @@ weights_rel : (arts : Arts) (at : Arrival) (p : Parts) (os : List Kept) → (han
 weights_rel arts at p [] = refl
 weights_rel arts at p (o ∷ os) =
     weights_rel arts at (handle arts at p (WeightPiece o)).parts os
-    ∙ cond_either (λ (q : Parts). q.rel ≡ p.rel) (is_new (items.Weight (weight_answer (is_signed arts at.fixed o) (offer_to at.fixed.me p.weights o.body)))) (record p { weights = held p.weights o }) p refl refl
+    ∙ cond_either (λ (q : Parts). q.rel ≡ p.rel) (is_new (items.Weight (weight_answer (is_signed arts at.fixed o) (offer_to at.fixed.me p.weights o.body))))
+    (record p { weights = held p.weights o }) p refl refl
 
 prio_rel : (arts : Arts) (at : Arrival) (p : Parts) (number : ℕ) (o : Kept) → (handle arts at p (PrioPiece number o)).parts.rel ≡ p.rel
 prio_rel arts at p number o = go (prio_answer (is_signed arts at.fixed o) (is_dated p.lives o.body) (judge_prio p.prio o.body at.now))
@@ -85,7 +87,8 @@ either_rel false p r = refl
 acks_rel : (arts : Arts) (at : Arrival) (p : Parts) (flow : Flow) (o : Option Kept)
     → (handle_all arts at p (map (AckPiece flow) (as_list o))).parts.rel ≡ after_acks arts at.fixed p.lives p.rel flow o
 acks_rel arts at p flow None = refl
-acks_rel arts at p flow (Some o) = either_rel (is_new (items.Ack (ack_answer (is_signed arts at.fixed o) (is_dated p.lives o.body) (judge_ack_of p.rel flow o.body)))) p (admit_ack p.rel o)
+acks_rel arts at p flow (Some o) =
+    either_rel (is_new (items.Ack (ack_answer (is_signed arts at.fixed o) (is_dated p.lives o.body) (judge_ack_of p.rel flow o.body)))) p (admit_ack p.rel o)
 
 rels_rel : (arts : Arts) (at : Arrival) (p : Parts) (flow : Flow) (os : List Kept)
     → (handle_all arts at p (map (RelPiece flow) os)).parts.rel ≡ after_rels arts at.fixed p.lives p.rel flow os
@@ -93,7 +96,9 @@ rels_rel arts at p flow [] = refl
 rels_rel arts at p flow (o ∷ os) =
     rels_rel arts at (handle arts at p (RelPiece flow o)).parts flow os
     ∙ ap (λ ls. after_rels arts at.fixed ls (handle arts at p (RelPiece flow o)).parts.rel flow os) (same_lives arts at p (RelPiece flow o) tt)
-    ∙ ap (λ r. after_rels arts at.fixed p.lives r flow os) (either_rel (is_new (items.Rel (rel_answer (is_signed arts at.fixed o) (is_dated p.lives o.body) (judge_rel_of p.rel flow o.body)))) p (admit_rel p.rel o))
+    ∙ ap (λ r. after_rels arts at.fixed p.lives r flow os)
+    (either_rel (is_new (items.Rel (rel_answer (is_signed arts at.fixed o) (is_dated p.lives o.body) (judge_rel_of p.rel flow o.body)))) p
+    (admit_rel p.rel o))
 
 slot_rel : (arts : Arts) (at : Arrival) (p : Parts) (t : Option Report)
     → (handle_all arts at p (slot_pieces t)).parts.rel ≡ after_slot arts at.fixed p.lives p.rel at.from t
@@ -135,7 +140,8 @@ pieces_apart s =
     ∙ sym (append_assoc (map WeightPiece s.weights) (PrioAckPiece s.prio_ack ∷ (map prio_piece s.prios ++ slot_pieces s.slot)) last)
 
 front_rel : (arts : Arts) (at : Arrival) (p : Parts) (s : Contents)
-    → ((handle_all arts at p (front_of s)).parts.rel ≡ after_slot arts at.fixed p.lives p.rel at.from s.slot) × ((handle_all arts at p (front_of s)).parts.lives ≡ p.lives)
+    → ((handle_all arts at p (front_of s)).parts.rel ≡ after_slot arts at.fixed p.lives p.rel at.from s.slot)
+    × ((handle_all arts at p (front_of s)).parts.lives ≡ p.lives)
 unfolding front_of
 front_rel arts at p s =
     let p1 = (handle_all arts at p (map WeightPiece s.weights)).parts in
@@ -188,10 +194,12 @@ frame_rel arts at p s flow src dst =
     let all : (handle_all arts at p (pieces_of s)).parts ≡ (handle_all arts at p1 last).parts =
     ap (λ ps. (handle_all arts at p ps).parts) (pieces_apart s) ∙ all_append arts at p (front_of s) last in
     let front = front_rel arts at p s in
-    let lives : (w : NodeId) → held_boot (handle_all arts at p (pieces_of s)).parts.lives w ≡ held_boot p.lives w → held_boot (handle_all arts at p1 last).parts.lives w ≡ held_boot p1.lives w =
+    let lives : (w : NodeId) → held_boot (handle_all arts at p (pieces_of s)).parts.lives w ≡ held_boot p.lives w
+    → held_boot (handle_all arts at p1 last).parts.lives w ≡ held_boot p1.lives w =
     λ w is. sym (ap (λ (q : Parts). held_boot q.lives w) all) ∙ is ∙ sym (ap (λ ls. held_boot ls w) front.1) in
     let same = start_same arts at p1 s.epoch flow (lives flow.src src) (lives flow.dst dst) in
     record {
       flow_is = ap (λ (q : Parts). flow_in q.rel.flows flow) all ∙ same.flow_is ∙ ap (λ (r : RelState). flow_in r.flows flow) front.0;
-      views = λ u. ap (λ (q : Parts). view_in (peer_in q.rel.peers u).views flow) all ∙ same.views u ∙ ap (λ (r : RelState). view_in (peer_in r.peers u).views flow) front.0;
+      views = λ u. ap (λ (q : Parts). view_in (peer_in q.rel.peers u).views flow) all ∙ same.views u
+          ∙ ap (λ (r : RelState). view_in (peer_in r.peers u).views flow) front.0;
     }

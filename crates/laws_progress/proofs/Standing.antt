@@ -2,7 +2,8 @@
 use Rattle.sp_runs.specs.Runs.{Clean}
 use Rattle.laws_node.specs.Sizes.{Sizes}
 use Rattle.sp_journal.specs.declared.entry.Entry.{Entry}
-use Rattle.std.proofs.Common.{◌≡◌, ◌≤◌, ◌<◌, ℕ, zero, suc, ◌+◌, ◌==◌, ◌&&◌, Bool, true, false, cond, List, [], ◌∷◌, map, Option, Some, None, refl, sym, ap, subst, ◌∙◌, inl, inr, arith, eqb-true}
+use Rattle.std.proofs.Common.{◌≡◌, ◌≤◌, ◌<◌, ℕ, zero, suc, ◌+◌, ◌==◌, ◌&&◌, Bool, true, false, cond, List, [], ◌∷◌, map, Option, Some, None, refl, sym, ap}
+use Rattle.std.proofs.Common.{subst, ◌∙◌, inl, inr, arith, eqb-true}
 use Rattle.std.specs.Prelude.{slice_get}
 use Rattle.std.proofs.lemmas.Bool.{cases_Bool}
 use Rattle.sp_base.specs.declared.id.Flow.{Flow}
@@ -30,12 +31,14 @@ use Rattle.laws_progress.proofs.Changes.{flow_later}
 
 -- ---- a node that is seen
 
-pub rel_of : (arts : Arts) (x : Setting) (es : List Event) (js : List Entry) (w : World) → SettingFits arts x → Carries x.topology.format arts → Clean arts x es js w
+pub rel_of : (arts : Arts) (x : Setting) (es : List Event) (js : List Entry) (w : World) → SettingFits arts x → Carries x.topology.format arts
+    → Clean arts x es js w
     → (u : NodeId) (n : NodeState) → node_in w.nodes u ≡ Some n → RelHolds (sizes_at x (Good arts x es js) u) n.signer.index n.parts.rel
 rel_of arts x es js w fits reads run u n at = ((signs arts x es js w fits reads run).nodes u n at).holds.parts.rel
 
 -- what is read of rows is a row, or nothing
-first_is : (P : FlowState → Type 0) (flow : Flow) (fs : List FlowState) → P (no_flow flow) → ((i : ℕ) (f : FlowState) → slice_get fs i ≡ Some f → P f) → P (flow_in fs flow)
+first_is : (P : FlowState → Type 0) (flow : Flow) (fs : List FlowState) → P (no_flow flow) → ((i : ℕ) (f : FlowState) → slice_get fs i ≡ Some f → P f)
+    → P (flow_in fs flow)
 first_is P flow [] none each = none
 first_is P flow (f ∷ fs) none each = elim (cases_Bool (is_flow flow f)) [
   | inl t ↦ rw t (each 0 f refl)
@@ -63,7 +66,8 @@ sound arts x all era flow fits reads w u = seen_stands arts x all era flow fits 
 pub window : (arts : Arts) (x : Setting) (all : List Event) (era : Era) (flow : Flow) → SettingFits arts x → Carries x.topology.format arts
     → (w : Watched arts x all era) (u : NodeId)
     → (sight arts x all era flow).have w u ≤ (sight arts x all era flow).base w u + x.buffer
-window arts x all era flow fits reads w u = seen_stands arts x all era flow fits reads (λ f. f.at.have ≤ f.at.base + x.buffer) (omega arith) (λ me f h. h.bounded) w u
+window arts x all era flow fits reads w u =
+    seen_stands arts x all era flow fits reads (λ f. f.at.have ≤ f.at.base + x.buffer) (omega arith) (λ me f h. h.bounded) w u
 
 -- ---- places
 
@@ -85,7 +89,8 @@ at_place flow (f ∷ fs) some = elim (cases_Bool (is_flow flow f)) [
   | inl t ↦ rw t refl
   | inr t ↦
       let rest = at_place flow fs (rw t at some) in
-      let next : slice_get (f ∷ fs) (place_in (map ends fs) flow + 1) ≡ slice_get fs (place_in (map ends fs) flow) = ap (slice_get (f ∷ fs)) (let e : place_in (map ends fs) flow + 1 ≡ suc (place_in (map ends fs) flow) = omega arith in e) in
+      let next : slice_get (f ∷ fs) (place_in (map ends fs) flow + 1) ≡ slice_get fs (place_in (map ends fs) flow) =
+      ap (slice_get (f ∷ fs)) (let e : place_in (map ends fs) flow + 1 ≡ suc (place_in (map ends fs) flow) = omega arith in e) in
       rw t (next ∙ rest)
 ]
 
@@ -118,7 +123,8 @@ active_at k index r flow rel some =
     let at : slice_get flows (place_in (map ends flows) flow) ≡ Some (flow_in flows flow) = at_place flow flows some in
     let stands = (all_get (FlowHolds k index) flows (place_in (map ends flows) flow) (flow_in flows flow) rel.flows at).standing in
     let on = busy_on k.me k.buffer (flow_in flows flow) stands some in
-    ap (λ ps. is_on (map (λ f. f.active) flows) (place_in ps flow)) (sym rel.keys) ∙ on_at (λ f. f.active) flows (place_in (map ends flows) flow) (flow_in flows flow) at ∙ on
+    ap (λ ps. is_on (map (λ f. f.active) flows) (place_in ps flow)) (sym rel.keys)
+    ∙ on_at (λ f. f.active) flows (place_in (map ends flows) flow) (flow_in flows flow) at ∙ on
 
 pub place_found : (fs : List Flow) (flow g : Flow) → slice_get fs (place_in fs flow) ≡ Some g → is_same flow g ≡ true
 place_found [] flow g at = absurd (let e : None ≡ Some g = at in cc)
@@ -126,7 +132,8 @@ place_found (f ∷ fs) flow g at = elim (cases_Bool (is_same flow f)) [
   | inl t ↦ let here : Some f ≡ Some g = rw t at at in let same : f ≡ g = cc in subst (λ h. is_same flow h ≡ true) same t
   | inr t ↦
       let there : slice_get (f ∷ fs) (place_in fs flow + 1) ≡ Some g = rw t at at in
-      let next : slice_get (f ∷ fs) (place_in fs flow + 1) ≡ slice_get fs (place_in fs flow) = ap (slice_get (f ∷ fs)) (let e : place_in fs flow + 1 ≡ suc (place_in fs flow) = omega arith in e) in
+      let next : slice_get (f ∷ fs) (place_in fs flow + 1) ≡ slice_get fs (place_in fs flow) =
+      ap (slice_get (f ∷ fs)) (let e : place_in fs flow + 1 ≡ suc (place_in fs flow) = omega arith in e) in
       place_found fs flow g (sym next ∙ there)
 ]
 
@@ -138,7 +145,8 @@ same_flow flow f is =
     ap (λ s. let g : Flow = record { src = s; dst = f.dst } in g) a ∙ ap (λ d. let g : Flow = record { src = flow.src; dst = d } in g) b
 
 -- and the other way round
-pub active_of : (k : Sizes) (index : ℕ) (r : RelState) (flow : Flow) → RelHolds k index r → is_on (map (λ f. f.active) r.flows) (place_in (pairs_of k.nodes) flow) ≡ true
+pub active_of : (k : Sizes) (index : ℕ) (r : RelState) (flow : Flow) → RelHolds k index r
+    → is_on (map (λ f. f.active) r.flows) (place_in (pairs_of k.nodes) flow) ≡ true
     → (flow_in r.flows flow).active ≡ true
 active_of k index r flow h on =
     let place = place_in (pairs_of k.nodes) flow in
@@ -198,9 +206,11 @@ seen_busy arts x all era flow fits reads w u on = go (node_in w.at.world.nodes u
       | inr t ↦ absurd (let f : (no_flow flow).active ≡ true = rw t at on in let g : false ≡ true = f in cc)
     ]
 
-pub stays_active : (arts : Arts) (x : Setting) (all : List Event) (era : Era) (flow : Flow) → SettingFits arts x → Carries x.topology.format arts → IsEra x flow era
+pub stays_active : (arts : Arts) (x : Setting) (all : List Event) (era : Era) (flow : Flow) → SettingFits arts x → Carries x.topology.format arts
+    → IsEra x flow era
     → (w y : Watched arts x all era) (e : Event) (u : NodeId) → Leads arts x all era w e y
     → is_on ((sight arts x all era flow).actives w u) (place_at x flow) ≡ true → is_on ((sight arts x all era flow).actives y u) (place_at x flow) ≡ true
 stays_active arts x all era flow fits reads is_era w y e u leads on =
     let later = flow_later arts x all era fits reads w y e flow is_era leads u in
-    is_active arts x all era flow fits reads y u (seen_busy arts x all era flow fits reads y u (later.active (seen_active arts x all era flow fits reads w u on)))
+    is_active arts x all era flow fits reads y u
+    (seen_busy arts x all era flow fits reads y u (later.active (seen_active arts x all era flow fits reads w u on)))

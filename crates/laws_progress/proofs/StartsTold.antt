@@ -72,7 +72,8 @@ at_place path i none low =
     (there, get_or_from_slice_get path i (get_or path i none) nobody there)
 
 pub starts_are_told : CountedStarts
-starts_are_told arts x fits reads epochs es js w after more v early run version weights s d path way under ups least enough rounds i one_none low j other_none close n m
+starts_are_told arts x fits reads epochs es js w after more v early run version weights s d path way under ups least enough rounds i one_none low j other_none
+    close n m
     at_n at_m =
     let all = es ++ after in
     let is = way.walks in

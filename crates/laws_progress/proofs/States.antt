@@ -1,7 +1,8 @@
 -- The states of a run, and what is seen of a flow there.
 use Rattle.std.proofs.Common.{sym}
 use Rattle.std.proofs.lemmas.List.{append-nil}
-use Rattle.std.specs.Prelude.{ℕ, zero, suc, ◌≡◌, ◌≤◌, ◌+◌, ◌-◌, ◌==◌, ◌&&◌, ◌||◌, Bool, true, false, not, IsTrue, List, [], ◌∷◌, ◌++◌, length, map, slice_get, Option, Some, None, if◌then◌else◌}
+use Rattle.std.specs.Prelude.{ℕ, zero, suc, ◌≡◌, ◌≤◌, ◌+◌, ◌-◌, ◌==◌, ◌&&◌, ◌||◌, Bool, true, false, not, IsTrue, List, [], ◌∷◌, ◌++◌, length, map, slice_get}
+use Rattle.std.specs.Prelude.{Option, Some, None, if◌then◌else◌}
 use Rattle.sp_base.specs.declared.id.Flow.{Flow}
 use Rattle.sp_base.specs.declared.id.NodeId.{NodeId}
 use Rattle.sp_rules.specs.Arts.{Arts}
@@ -64,7 +65,8 @@ pub record Watched (arts : Arts) (x : Setting) (all : List Event) (era : Era) : 
       → is_one_of (removed_now n) v ≡ false
   pub latest : (v : NodeId) → era.on v ≡ true → last_boot x at.world v ≤ era.life v
   pub runs : (v : NodeId) → era.on v ≡ true → last_boot x at.world v ≡ era.life v → (n : NodeState) × (node_in at.world.nodes v ≡ Some n)
-  pub placed : (u v : NodeId) → era.on u ≡ true → is_hop x u v ≡ true → (k : ℕ) (bytes : List ℕ) → slice_get (frames_in at.world.directions u v) k ≡ Some (Some bytes)
+  pub placed : (u v : NodeId) → era.on u ≡ true → is_hop x u v ≡ true → (k : ℕ) (bytes : List ℕ)
+      → slice_get (frames_in at.world.directions u v) k ≡ Some (Some bytes)
       → (arts.head bytes).boot ≡ era.life u → k + 1 ≡ era.early u v + (arts.head bytes).counter
 
 abbrev pub Leads : (arts : Arts) (x : Setting) (all : List Event) (era : Era) → Watched arts x all era → Event → Watched arts x all era → Type 0

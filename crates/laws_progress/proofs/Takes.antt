@@ -33,7 +33,8 @@ use Rattle.sp_rules.specs.Polls.{contents_at, contents_to}
 use Rattle.sp_rules.specs.Rel.{RelState, View, is_peer, peer_in, view_in}
 use Rattle.sp_runs.specs.Settings.{SettingFits, Setting}
 use Rattle.sp_runs.specs.Worlds.{frame_in}
-use Rattle.std.proofs.Common.{Bool, ap, false, inl, inr, map, nat_lt, not, refl, subst, sym, ◌<◌, ◌==◌, ◌||◌, ◌∙◌, ◌⊎◌, ℕ, ◌≤◌, ◌≡◌, ◌+◌, arith, List, suc, true, zero, cond, ◌&&◌}
+use Rattle.std.proofs.Common.{Bool, ap, false, inl, inr, map, nat_lt, not, refl, subst, sym, ◌<◌, ◌==◌, ◌||◌, ◌∙◌, ◌⊎◌, ℕ, ◌≤◌, ◌≡◌, ◌+◌, arith, List, suc}
+use Rattle.std.proofs.Common.{true, zero, cond, ◌&&◌}
 use Rattle.std.proofs.lemmas.Bool.{cases_Bool, cases_eq, eq-eqb, eqb-true, ltb-true, ne_eqb}
 use Rattle.std.specs.List.{list_any}
 use Rattle.std.specs.Option.{option_and_then}
@@ -58,7 +59,8 @@ above_counter h l same above = elim (cases_Bool (nat_lt l.seen.0 h.boot)) [
   | inr t ↦ ltb-true l.seen.1 h.counter (both (h.boot == l.seen.0) (nat_lt l.seen.1 h.counter) (rw t at above)).1
 ]
 
-module _ (arts : Arts) (x : Setting) (all : List Event) (era : Era) (flow : Flow) (fits : SettingFits arts x) (reads : ComesThrough x.topology.format arts x.signature_len)
+module _ (arts : Arts) (x : Setting) (all : List Event) (era : Era) (flow : Flow) (fits : SettingFits arts x)
+    (reads : ComesThrough x.topology.format arts x.signature_len)
     (is_era : IsEra x flow era) (w y : Watched arts x all era) (e : Event) (u v : NodeId) (hop : IsBetween x era u v) (a : Acted arts x all era w y e v)
     (first : in_life era v a.node ≡ true) (second : in_life era v a.after ≡ true) (k : ℕ) (it : TakenAt arts x all era w u v a.node a.after k) where
   abbrev n : NodeState
@@ -117,7 +119,8 @@ module _ (arts : Arts) (x : Setting) (all : List Event) (era : Era) (flow : Flow
   peers_row = peer_row arts x all era flow fits reads is_era w y e u v hop a first second
 
   pub flow_row : list_any (is_flow flow) a.node.parts.rel.flows ≡ true
-  flow_row = row_of_keys (nodes_of x.topology) flow.src flow.dst a.node.parts.rel.flows is_era.right.different (both _ _ is_era.right.from).0 (both _ _ is_era.right.to).0 rel_is.keys
+  flow_row = row_of_keys (nodes_of x.topology) flow.src flow.dst a.node.parts.rel.flows is_era.right.different (both _ _ is_era.right.from).0
+      (both _ _ is_era.right.to).0 rel_is.keys
 
   pub views_rows : RelRows (nodes_of x.topology) a.node.parts.rel
   views_rows = readied_keeps x w.at.world a.before a.node (λ q. RelRows (nodes_of x.topology) q.parts.rel) (λ upto h. h) a.readied
@@ -134,13 +137,15 @@ module _ (arts : Arts) (x : Setting) (all : List Event) (era : Era) (flow : Flow
 
     -- the slot, on the parts that it meets
     abbrev pub rel_after : RelState
-    rel_after = after_slot arts a.node.fixed (parts_met arts a.node u it.bytes).lives (parts_met arts a.node u it.bytes).rel u (contents_to it.arrived.from.node.fixed it.arrived.from.node.parts v).slot
+    rel_after = after_slot arts a.node.fixed (parts_met arts a.node u it.bytes).lives (parts_met arts a.node u it.bytes).rel u
+        (contents_to it.arrived.from.node.fixed it.arrived.from.node.parts v).slot
 
     pub left_is : HandledAt arts u v a.node a.after it.arrived.from.node it.bytes → SameFlow flow rel_after a.after.parts.rel
     left_is handled =
         let heard = heeded a.node.fixed (contents_to it.arrived.from.node.fixed it.arrived.from.node.parts v) in
         let boots : (z : NodeId) → held_boot a.after.parts.lives z ≡ held_boot a.node.parts.lives z
-        → held_boot (handle_all arts (arrival_at a.node u) (parts_met arts a.node u it.bytes) (pieces_of heard)).parts.lives z ≡ held_boot (parts_met arts a.node u it.bytes).lives z =
+        → held_boot (handle_all arts (arrival_at a.node u) (parts_met arts a.node u it.bytes) (pieces_of heard)).parts.lives z
+        ≡ held_boot (parts_met arts a.node u it.bytes).lives z =
         λ z same. sym (ap (λ (p : Parts). held_boot p.lives z) handled.parts) ∙ same ∙ sym (ap (λ ls. held_boot ls z) lives_met) in
         let same = frame_rel arts (arrival_at a.node u) (parts_met arts a.node u it.bytes) heard flow (boots flow.src stay.1) (boots flow.dst stay.2) in
         let slot = heeded_slot a.node.fixed (contents_to it.arrived.from.node.fixed it.arrived.from.node.parts v) in
@@ -148,20 +153,23 @@ module _ (arts : Arts) (x : Setting) (all : List Event) (era : Era) (flow : Flow
         (subst (λ s. SameFlow flow (after_slot arts a.node.fixed (parts_met arts a.node u it.bytes).lives (parts_met arts a.node u it.bytes).rel u s)
         (handle_all arts (arrival_at a.node u) (parts_met arts a.node u it.bytes) (pieces_of heard)).parts.rel) slot same)
 
-    pub done : SlotDone flow (parts_met arts a.node u it.bytes).rel rel_after u (told_slot era flow true (contents_to it.arrived.from.node.fixed it.arrived.from.node.parts v).slot)
+    pub done : SlotDone flow (parts_met arts a.node u it.bytes).rel rel_after u
+        (told_slot era flow true (contents_to it.arrived.from.node.fixed it.arrived.from.node.parts v).slot)
     done =
         let boots = holds_both a.node flow.src flow.dst era.sboot era.dboot held in
         slot_done arts a.node.fixed (parts_met arts a.node u it.bytes).lives (nodes_of x.topology) (parts_met arts a.node u it.bytes).rel u era flow
         (contents_to it.arrived.from.node.fixed it.arrived.from.node.parts v).slot (ap (λ ls. held_boot ls flow.src) lives_met ∙ boots.0)
         (ap (λ ls. held_boot ls flow.dst) lives_met ∙ boots.1)
-        (greeted_rows (nodes_of x.topology) a.node.fixed.epochs (has_risen (link_in a.node u) (link_after arts a.node u it.bytes)) u a.node.parts peers_row views_rows)
+        (greeted_rows (nodes_of x.topology) a.node.fixed.epochs (has_risen (link_in a.node u) (link_after arts a.node u it.bytes)) u a.node.parts peers_row
+        views_rows)
         (ap (map ends) flows_met ∙ rel_is.keys)
         (greeted_peer a.node.fixed.epochs (has_risen (link_in a.node u) (link_after arts a.node u it.bytes)) u a.node.parts peers_row)
         (ap (list_any (is_flow flow)) flows_met ∙ flow_row)
 
     met_life : (not x.epochs || ((link_after arts a.node u it.bytes).peer_boot == era.life u)) ≡ true
     met_life =
-        let same : ((link_after arts a.node u it.bytes).peer_boot == era.life u) ≡ true = eq-eqb _ _ (ap (λ (l : Link). l.peer_boot) (sym it.link) ∙ it.boot ∙ it.life) in
+        let same : ((link_after arts a.node u it.bytes).peer_boot == era.life u) ≡ true =
+        eq-eqb _ _ (ap (λ (l : Link). l.peer_boot) (sym it.link) ∙ it.boot ∙ it.life) in
         rw same (either x.epochs)
       where
         either : (t : Bool) → (not t || true) ≡ true
@@ -171,7 +179,8 @@ module _ (arts : Arts) (x : Setting) (all : List Event) (era : Era) (flow : Flow
     -- what was seen before, and what is seen after
     pub before_view : view_in (peer_in (parts_met arts a.node u it.bytes).rel.peers u).views flow ≡ view_at x era flow v u a.node
     before_view =
-        let seen = greet_view arts x era flow u v a.node it.bytes (epochs_are arts x all era flow fits reads is_era w y e u v hop a first second) peers_row it.rise it.top in
+        let seen = greet_view arts x era flow u v a.node it.bytes (epochs_are arts x all era flow fits reads is_era w y e u v hop a first second) peers_row
+        it.rise it.top in
         let met = met_life in
         let is : cond (in_era era flow v a.node && (not x.epochs || ((link_after arts a.node u it.bytes).peer_boot == era.life u)))
         (view_in (peer_in (parts_met arts a.node u it.bytes).rel.peers u).views flow) (no_view flow)
@@ -210,7 +219,8 @@ module _ (arts : Arts) (x : Setting) (all : List Event) (era : Era) (flow : Flow
       let counter = ap (λ (p : ℕ × ℕ). p.1) it.seen in
       let some = counts in
       let number = number_is in
-      rw (second, boot) (ap (numbered (era.early u v)) counter ∙ (let z = numbered_some (era.early u v) (arts.head it.bytes).counter some in omega (arith, z, number)))
+      rw (second, boot)
+      (ap (numbered (era.early u v)) counter ∙ (let z = numbered_some (era.early u v) (arts.head it.bytes).counter some in omega (arith, z, number)))
 
   pub heard_before : heard_of era v u a.node < k + 1
   heard_before = elim (cases_eq (link_in a.node u).peer_boot (era.life u)) [

@@ -171,7 +171,8 @@ took c w y e next u up = go next.follows
     go : Follows c.arts c.x c.all w.state e y.state → Took c.arts c.x w.state.world y.state.world e u
     go (Follow j events journal range turn unforged) =
         let m = y.runs u up in
-        of j m.0 m.1 (becomes c.arts c.x w.state.events w.state.journal w.state.world e j y.state.world c.fits c.reads.carries w.state.run range turn unforged u m.0 m.1)
+        of j m.0 m.1
+        (becomes c.arts c.x w.state.events w.state.journal w.state.world e j y.state.world c.fits c.reads.carries w.state.run range turn unforged u m.0 m.1)
 
 -- ---- where nodes run with epochs, and these under one version
 

@@ -6,7 +6,8 @@ use Rattle.std.proofs.lemmas.Bool.Decides.{nat_tests}
 use Rattle.sp_base.specs.declared.id.NodeId.{NodeId}
 use Rattle.sp_topology.specs.Neighbours.{joins}
 use Rattle.sp_topology.specs.declared.topology.NodeKey.{NodeKey}
-use Rattle.sp_rules.specs.Arrivals.{before_document, document_at, handled, is_tagged, link_after, link_says, not_taken, or_fresh, read_by, reply_at, sections_in}
+use Rattle.sp_rules.specs.Arrivals.{before_document, document_at, handled, is_tagged, link_after, link_says, not_taken, or_fresh, read_by, reply_at}
+use Rattle.sp_rules.specs.Arrivals.{sections_in}
 use Rattle.sp_rules.specs.Arts.{Arts}
 use Rattle.sp_rules.specs.Link.{Link, after_answer, is_above}
 use Rattle.sp_rules.specs.Lives.{held_boot, is_life, next_row}
@@ -102,7 +103,8 @@ module _ (c : Interval) (telling : IsTelling c) where
       let now : ((link_in t.after v).peer_boot == last_boot x y.state.world v) ≡ true =
       sym (ap (seen_at false (λ m. (link_in m v).peer_boot == last_boot x y.state.world v)) t.left)
       ∙ known c w y e u v hop next (ap (seen_at false (λ m. (link_in m v).peer_boot == last_boot x w.state.world v)) t.there ∙ was_both.0) in
-      let boot = readied_keeps x w.state.world t.before t.node (λ m. (link_in m v).peer_boot ≡ (link_in t.before v).peer_boot) (λ upto same. same) t.readied refl in
+      let boot = readied_keeps x w.state.world t.before t.node (λ m. (link_in m v).peer_boot ≡ (link_in t.before v).peer_boot) (λ upto same. same) t.readied
+      refl in
       let below = (of_link c y u v hop t.after t.left).below in
       let life = boot_stays c w y e next v hop.far in
       let heard_node = readied_keeps x w.state.world t.before t.node (λ m. has_heard x telling.version v m ≡ true) (λ upto same. same) t.readied was_both.1 in
@@ -148,12 +150,14 @@ module _ (c : Interval) (telling : IsTelling c) where
     -- it carries what u has in turn where it knows v
     served_is : at.knows w u v ≡ true → is_served n v ≡ true
     served_is knows =
-        served_there x telling.version telling.weights u v f.hop.joined open_edge n (is_node_of c w u n f.there).fixed (telling.under n (w.holds u f.hop.near n f.there))
+        served_there x telling.version telling.weights u v f.hop.joined open_edge n (is_node_of c w u n f.there).fixed
+        (telling.under n (w.holds u f.hop.near n f.there))
         (both ((link_in n v).peer_boot == last_boot x w.state.world v) (has_heard x telling.version v n)
         (sym (ap (seen_at false (knows_both x telling.version (last_boot x w.state.world v) v)) f.there) ∙ knows)).1
 
     fresh_reply : (y z : W) (e : Event) (t : Took arts x y.state.world z.state.world e v) → at.knows w u v ≡ true
-        → or_fresh (not_taken t.node.live.version (arts.head (frame c f)).topology (arts.is_document (frame c f)) (sections_in arts t.node.fixed (frame c f)) (is_shut_to t.node u))
+        → or_fresh (not_taken t.node.live.version (arts.head (frame c f)).topology (arts.is_document (frame c f)) (sections_in arts t.node.fixed (frame c f))
+        (is_shut_to t.node u))
         ≡ replies.Fresh
     fresh_reply y z e t knows =
         let fixed : t.node.fixed ≡ t.before.fixed = (readied_parts x y.state.world t.before t.node t.readied).1 in
@@ -167,7 +171,8 @@ module _ (c : Interval) (telling : IsTelling c) where
 
     -- the version of its head is kept
     heard_now : (y z : W) (e : Event) → UpNext c y e z → Lasts c f z → (t : Took arts x y.state.world z.state.world e v)
-        → (s : StepOf arts x y.state.world e v t.node t.after) → s.input ≡ Datagram u (frame c f) → (link_after arts t.node u (frame c f)).peer_boot ≡ n.fixed.boot
+        → (s : StepOf arts x y.state.world e v t.node t.after) → s.input ≡ Datagram u (frame c f)
+        → (link_after arts t.node u (frame c f)).peer_boot ≡ n.fixed.boot
         → has_heard x telling.version u t.after ≡ true
     heard_now y z e next l t s is boot = heard_least x telling.version u t.after least
       where
@@ -178,15 +183,19 @@ module _ (c : Interval) (telling : IsTelling c) where
             (readied_parts x y.state.world t.before t.node t.readied).1 ∙ (is_node_of c y v t.before t.there).fixed in
             let free = answered x (next_frame (ready x y.state.world e) e) (call_refusal t.node u) _ s.entry.reply
             (ap (λ (o : Output). reply_word x (next_frame (ready x y.state.world e) e) o.reply) (sym step.0) ∙ s.journal.reply) in
-            let tagged = readied_keeps x y.state.world t.before t.node (λ q. is_tagged (link_says arts (link_in q u) (frame c f)) ≡ true) (λ upto h. h) t.readied
-            (tagged_at arts x y.state.events y.state.journal y.state.world c.fits c.reads y.state.run u v (hop_of c u v f.hop) t.before t.there n (frame c f) framed_is) in
+            let tagged =
+            readied_keeps x y.state.world t.before t.node (λ q. is_tagged (link_says arts (link_in q u) (frame c f)) ≡ true) (λ upto h. h) t.readied
+            (tagged_at arts x y.state.events y.state.journal y.state.world c.fits c.reads y.state.run u v (hop_of c u v f.hop) t.before t.there n (frame c f)
+            framed_is) in
             let below = (of_link c y v u back t.before t.there).below in
-            let ready_is = readied_keeps x y.state.world t.before t.node (λ q. (link_in q u).peer_boot ≡ (link_in t.before u).peer_boot) (λ upto h. h) t.readied refl in
+            let ready_is =
+            readied_keeps x y.state.world t.before t.node (λ q. (link_in q u).peer_boot ≡ (link_in t.before u).peer_boot) (λ upto h. h) t.readied refl in
             let life = boot_stays c y z e next u f.hop.near in
             let near = l.near in
             let head = (head_at c f).boot_is in
             let rows = readied_keeps x y.state.world t.before t.node (λ q. list_any (is_heard_of u) q.heard ≡ true) (λ upto h. h) t.readied
-            (heard_there x v u t.before (rows_are arts x y.state.events y.state.journal y.state.world c.fits c.reads.carries y.state.run v t.before t.there) back.joined) in
+            (heard_there x v u t.before (rows_are arts x y.state.events y.state.journal y.state.world c.fits c.reads.carries y.state.run v t.before t.there)
+            back.joined) in
             let kept = versions_are_heard arts t.node u (frame c f) (ap changes fixed ∙ may) (record {
               called = free;
               opened = framed_is.opens;
@@ -286,7 +295,8 @@ module _ (c : Interval) (telling : IsTelling c) where
         → (s : StepOf arts x y.state.world e v t.node t.after) → s.input ≡ Datagram u (frame c f) → link_in t.after u ≡ link_after arts t.node u (frame c f)
         → link_after arts t.node u (frame c f) ≡ after_answer (link_in t.node u) (arts.head (frame c f)) answers.Fresh
         → reply_at arts t.node u (frame c f)
-        ≡ or_fresh (not_taken t.node.live.version (arts.head (frame c f)).topology (arts.is_document (frame c f)) (sections_in arts t.node.fixed (frame c f)) (is_shut_to t.node u))
+        ≡ or_fresh (not_taken t.node.live.version (arts.head (frame c f)).topology (arts.is_document (frame c f)) (sections_in arts t.node.fixed (frame c f))
+        (is_shut_to t.node u))
         → Done z
     done_now y z e next l t s is link left reply = record {
       learned =

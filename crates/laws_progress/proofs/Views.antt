@@ -24,7 +24,8 @@ pub record RelRows (nodes : List NodeId) (r : RelState) : Type 0 where
   pub nodes_are : r.nodes ≡ nodes
   pub views : All (ViewsAre nodes) r.peers
 
-each_peer : (nodes : List NodeId) (ps : List RelPeer) (ns : List (NodeId × EdgeId)) → map rel_peer_shape ps ≡ map (λ n. record { peer = n.0; views = pairs_of nodes }) ns
+each_peer : (nodes : List NodeId) (ps : List RelPeer) (ns : List (NodeId × EdgeId))
+    → map rel_peer_shape ps ≡ map (λ n. record { peer = n.0; views = pairs_of nodes }) ns
     → All (ViewsAre nodes) ps
 each_peer nodes [] ns same = All-nil (ViewsAre nodes)
 each_peer nodes (p ∷ ps) [] same = absurd cc

@@ -52,16 +52,19 @@ AllUp arts x all era flow w = (v : NodeId) → era.on v ≡ true → UpAt arts x
 abbrev pub IsFree : Era → List Event → Type 0
 IsFree era es = (v : NodeId) → era.on v ≡ true → list_any (is_life_of v) es ≡ false
 
-module _ (arts : Arts) (x : Setting) (all : List Event) (era : Era) (flow : Flow) (fits : SettingFits arts x) (reads : Carries x.topology.format arts) (is_era : IsEra x flow era) where
+module _ (arts : Arts) (x : Setting) (all : List Event) (era : Era) (flow : Flow) (fits : SettingFits arts x) (reads : Carries x.topology.format arts)
+    (is_era : IsEra x flow era) where
   boots_of : (old new : World) (e : Event) (j : Entry) (v : NodeId) (b n : NodeState) → node_in old.nodes v ≡ Some b → Becomes arts x old e j new v n
       → ((n.fixed.boot ≡ b.fixed.boot) × ((z : NodeId) → held_boot b.parts.lives z ≤ held_boot n.parts.lives z))
   boots_of old new e j v b n at (Remains c there readied why) =
       let same : c ≡ b = same_Some c b (sym there ∙ at) in
       subst (λ (q : NodeState). (n.fixed.boot ≡ q.fixed.boot) × ((z : NodeId) → held_boot q.parts.lives z ≤ held_boot n.parts.lives z)) same
-      (readied_keeps x old c n (λ m. (m.fixed.boot ≡ c.fixed.boot) × ((z : NodeId) → held_boot c.parts.lives z ≤ held_boot m.parts.lives z)) (λ upto h. h) readied (refl, λ z. omega arith))
+      (readied_keeps x old c n (λ m. (m.fixed.boot ≡ c.fixed.boot) × ((z : NodeId) → held_boot c.parts.lives z ≤ held_boot m.parts.lives z)) (λ upto h. h)
+      readied (refl, λ z. omega arith))
   boots_of old new e j v b n at (Acts acts c there m readied after none) =
       let same : c ≡ b = same_Some c b (sym there ∙ at) in
-      let was = readied_keeps x old c m.node (λ q. (q.fixed.boot ≡ c.fixed.boot) × ((z : NodeId) → held_boot c.parts.lives z ≤ held_boot q.parts.lives z)) (λ upto h. h) readied (refl, λ z. omega arith) in
+      let was = readied_keeps x old c m.node (λ q. (q.fixed.boot ≡ c.fixed.boot) × ((z : NodeId) → held_boot c.parts.lives z ≤ held_boot q.parts.lives z))
+      (λ upto h. h) readied (refl, λ z. omega arith) in
       let stays = ap (λ (f : Fixed). f.boot) (step_stays arts m.node m.input m.output m.after m.step).fixed in
       subst (λ (q : NodeState). (n.fixed.boot ≡ q.fixed.boot) × ((z : NodeId) → held_boot q.parts.lives z ≤ held_boot n.parts.lives z)) same
       (subst (λ (q : NodeState). (q.fixed.boot ≡ c.fixed.boot) × ((z : NodeId) → held_boot c.parts.lives z ≤ held_boot q.parts.lives z)) (sym after) (
@@ -72,7 +75,8 @@ module _ (arts : Arts) (x : Setting) (all : List Event) (era : Era) (flow : Flow
 
   -- it goes on through an event that starts or stops none
   module _ (w y : State arts x all) (e : Event) (j : Entry) (range : InRange x w.events e) (turn : Turn arts x w.world e j y.world)
-      (unforged : forged_in arts x w.events w.journal w.world e j y.world turn ≡ None) (idle : (v : NodeId) → era.on v ≡ true → is_life_of v e ≡ false) (up : AllUp arts x all era flow w) where
+      (unforged : forged_in arts x w.events w.journal w.world e j y.world turn ≡ None) (idle : (v : NodeId) → era.on v ≡ true → is_life_of v e ≡ false)
+      (up : AllUp arts x all era flow w) where
     -- it runs, in the same life, holds no older boots, and runs under no older version
     record One (v : NodeId) (b n : NodeState) : Type 0 where
       there : node_in y.world.nodes v ≡ Some n
@@ -103,7 +107,8 @@ module _ (arts : Arts) (x : Setting) (all : List Event) (era : Era) (flow : Flow
         let p = up v on in
         let n = one_on v on in
         let before = holds_both p.node flow.src flow.dst era.sboot era.dboot p.held in
-        let here : (z : NodeId) → era.on z ≡ true → is_correct x z ≡ true → (k : ℕ) → (x.epochs ≡ true → era.life z ≡ k) → (x.epochs ≡ false → k ≡ 0) → held_boot p.node.parts.lives z ≡ k
+        let here : (z : NodeId) → era.on z ≡ true → is_correct x z ≡ true → (k : ℕ) → (x.epochs ≡ true → era.life z ≡ k) → (x.epochs ≡ false → k ≡ 0)
+        → held_boot p.node.parts.lives z ≡ k
         → held_boot n.0.parts.lives z ≡ k =
         λ z z_on correct k taken only was. elim (cases_Bool x.epochs) [
           | inl epochs ↦
@@ -128,11 +133,13 @@ module _ (arts : Arts) (x : Setting) (all : List Event) (era : Era) (flow : Flow
               (here flow.dst is_era.end is_era.right.to era.dboot (λ t. (is_era.taken t).1) (λ t. (is_era.only t).1) before.1);
         }
 
-  pub up_step : (w y : State arts x all) (e : Event) → Follows arts x all w e y → ((v : NodeId) → era.on v ≡ true → is_life_of v e ≡ false) → AllUp arts x all era flow w
+  pub up_step : (w y : State arts x all) (e : Event) → Follows arts x all w e y → ((v : NodeId) → era.on v ≡ true → is_life_of v e ≡ false)
+      → AllUp arts x all era flow w
       → AllUp arts x all era flow y
   up_step w y e (Follow j events journal range turn unforged) idle up = all_on w y e j range turn unforged idle up
 
-  pub up_on : (es : List Event) (w y : State arts x all) → Goes (State arts x all) (Follows arts x all) w es y → IsFree era es → AllUp arts x all era flow w → AllUp arts x all era flow y
+  pub up_on : (es : List Event) (w y : State arts x all) → Goes (State arts x all) (Follows arts x all) w es y → IsFree era es → AllUp arts x all era flow w
+      → AllUp arts x all era flow y
   up_on [] w y facts.Stays idle up = up
   up_on (e ∷ es) w y (facts.Steps {x = m} step g) idle up =
       up_on es m y g (λ v on. (off_first (is_life_of v e) (list_any (is_life_of v) es) (idle v on)).1)
@@ -150,7 +157,8 @@ module _ (arts : Arts) (x : Setting) (all : List Event) (era : Era) (flow : Flow
       let version : p.node.live.version ≡ era.version = omega (arith, least, most) in
       record { node = p.node; there = p.there; counts = rw (life, held) refl; runs = (version, p.weights version) }
 
-  pub calmly_on : (es : List Event) (w y : Watched arts x all era) → Goes (Watched arts x all era) (Leads arts x all era) w es y → IsFree era es → AllUp arts x all era flow w.at
+  pub calmly_on : (es : List Event) (w y : Watched arts x all era) → Goes (Watched arts x all era) (Leads arts x all era) w es y → IsFree era es
+      → AllUp arts x all era flow w.at
       → Goes (Watched arts x all era) (Calmly arts x all era flow) w es y
   calmly_on [] w y facts.Stays idle up = facts.Stays
   calmly_on (e ∷ es) w y (facts.Steps {x = m} step g) idle up =
@@ -169,7 +177,8 @@ module _ (arts : Arts) (x : Setting) (all : List Event) (era : Era) (flow : Flow
     at = y;
     most = λ u on n at life. most u on n at;
     joined = λ u v on v_on n at life. joined u v on v_on n at;
-    latest = λ v on. let p = up v on in let last = running_boot arts x y.events y.journal y.world fits reads y.run v p.node p.there in let boot = p.boot in omega (arith, last, boot);
+    latest = λ v on. let p = up v on in let last = running_boot arts x y.events y.journal y.world fits reads y.run v p.node p.there in let boot = p.boot in
+        omega (arith, last, boot);
     runs = λ v on last. let p = up v on in (p.node, p.there);
     placed = λ u v on joined k bytes at life.
         let p = up u on in
@@ -185,7 +194,8 @@ module _ (arts : Arts) (x : Setting) (all : List Event) (era : Era) (flow : Flow
       (most : (u : NodeId) → era.on u ≡ true → (n : NodeState) → node_in y.world.nodes u ≡ Some n → n.live.version ≤ era.version)
       (joined : (u v : NodeId) → era.on u ≡ true → era.on v ≡ true → (n : NodeState) → node_in y.world.nodes u ≡ Some n → is_one_of (removed_now n) v ≡ false)
       (early : (u v : NodeId) → era.on u ≡ true → (n : NodeState) → node_in y.world.nodes u ≡ Some n → era.early u v ≡ polls y.events u v - (link_in n v).sent)
-      (within : (u v : NodeId) → era.on u ≡ true → is_hop x u v ≡ true → (n : NodeState) → node_in y.world.nodes u ≡ Some n → (link_in n v).sent ≤ polls y.events u v)
+      (within : (u v : NodeId) → era.on u ≡ true → is_hop x u v ≡ true → (n : NodeState) → node_in y.world.nodes u ≡ Some n
+      → (link_in n v).sent ≤ polls y.events u v)
       → (watch heads y up most joined early within).at ≡ y
   unfolding watch
   watch_is heads y up most joined early within = refl

@@ -22,9 +22,11 @@ use Rattle.laws_progress.proofs.Calms as calms
 use Rattle.laws_progress.proofs.Heeding as heeding
 use Rattle.laws_progress.proofs.Passing as passing
 
-pub steady : (arts : Arts) (x : Setting) (all : List Event) (era : Era) (flow : Flow) (fits : SettingFits arts x) (reads : ComesThrough x.topology.format arts x.signature_len)
+pub steady : (arts : Arts) (x : Setting) (all : List Event) (era : Era) (flow : Flow) (fits : SettingFits arts x)
+    (reads : ComesThrough x.topology.format arts x.signature_len)
     → (is_era : IsEra x flow era) → 1 ≤ x.buffer → (least : ℕ) → flow_count x all ≤ least
-    → Steady (Watched arts x all era) (Calmly arts x all era flow) (IsBetween x era) (sight arts x all era flow) (wires arts x all era flow) (place_at x flow) x.buffer least flow.src flow.dst
+    → Steady (Watched arts x all era) (Calmly arts x all era flow) (IsBetween x era) (sight arts x all era flow) (wires arts x all era flow) (place_at x flow)
+    x.buffer least flow.src flow.dst
 steady arts x all era flow fits reads is_era one least enough = record {
   both_ways = λ u v hop. between_back x era u v hop;
   holds = λ w u v hop. always arts x all era flow fits reads is_era w u v hop;

@@ -34,7 +34,8 @@ three_pairs a b c ab ac bc (suc i) (suc (suc (suc j))) d below within = absurd (
 differ : (a b : ℕ) → (a ≡ b → ⊥) → node a ≢ node b
 differ a b other = λ same. other (ap (λ (n : NodeId). n.0) same)
 
-pub three_path : (x : Setting) (a b c : ℕ) → (a ≡ b → ⊥) → (a ≡ c → ⊥) → (b ≡ c → ⊥) → is_correct x (node a) ≡ true → is_correct x (node b) ≡ true → is_correct x (node c) ≡ true
+pub three_path : (x : Setting) (a b c : ℕ) → (a ≡ b → ⊥) → (a ≡ c → ⊥) → (b ≡ c → ⊥) → is_correct x (node a) ≡ true → is_correct x (node b) ≡ true
+    → is_correct x (node c) ≡ true
     → is_hop x (node a) (node b) ≡ true → is_hop x (node b) (node c) ≡ true → IsCorrectPath x (node a) (node c) (node a ∷ node b ∷ node c ∷ [])
 three_path x a b c ab ac bc one two three first second =
     let Correct = λ (u : NodeId). IsTrue (is_correct x u) in
@@ -46,7 +47,8 @@ three_path x a b c ab ac bc one two three first second =
             (All-cons On (node b, node c) [] (Any-from_list_any (joins b c) x.topology.edges second) (All-nil On));
         once = three_pairs (node a) (node b) (node c) (differ a b ab) (differ a c ac) (differ b c bc);
       };
-      correct = All-cons Correct (node a) (node b ∷ node c ∷ []) one (All-cons Correct (node b) (node c ∷ []) two (All-cons Correct (node c) [] three (All-nil Correct)));
+      correct = All-cons Correct (node a) (node b ∷ node c ∷ []) one
+          (All-cons Correct (node b) (node c ∷ []) two (All-cons Correct (node c) [] three (All-nil Correct)));
     }
 
 -- and one of a version
@@ -61,7 +63,8 @@ three_under x weights a b c walks first second =
 
 -- ---- rounds of a path of three nodes
 
-pub sweep : (least : ℕ) (u v : NodeId) (before during : List Event) → polls during u v ≡ least → are_passed u v (polls before u v) during ≡ true → IsSweep least u v before during
+pub sweep : (least : ℕ) (u v : NodeId) (before during : List Event) → polls during u v ≡ least → are_passed u v (polls before u v) during ≡ true
+    → IsSweep least u v before during
 sweep least u v before during enough passed = record { enough = omega (arith, enough); passed = passed }
 
 two_hops : (least : ℕ) (s d a b c : NodeId) (before during : List Event) → IsHopServed least s d a b before during → IsHopServed least s d b c before during
@@ -75,7 +78,8 @@ pub line_is : (before : List Event) (k : ℕ)
     → are_passed (node 2) (node 1) (polls (before ++ []) (node 2) (node 1)) (frames 2 1 k 1) ≡ true
     → are_passed (node 1) (node 2) (polls (before ++ frames 2 1 k 1) (node 1) (node 2)) (frames 1 2 k 1) ≡ true
     → are_passed (node 3) (node 2) (polls (before ++ (frames 2 1 k 1 ++ frames 1 2 k 1)) (node 3) (node 2)) (frames 3 2 k 1) ≡ true
-    → are_passed (node 2) (node 3) (polls (before ++ ((frames 2 1 k 1 ++ frames 1 2 k 1) ++ (frames 3 2 k 1 ++ take_it))) (node 2) (node 3)) (frames 2 3 k 1) ≡ true
+    → are_passed (node 2) (node 3) (polls (before ++ ((frames 2 1 k 1 ++ frames 1 2 k 1) ++ (frames 3 2 k 1 ++ take_it))) (node 2) (node 3)) (frames 2 3 k 1)
+    ≡ true
     → IsCompleteRound 1 (node 1) (node 3) line_path before (line_round k)
 line_is before k one two three four = two_hops 1 (node 1) (node 3) (node 1) (node 2) (node 3) before (line_round k)
     (record {
@@ -144,7 +148,8 @@ square_is : (before : List Event) (k : ℕ)
     → are_passed (node 4) (node 1) (polls (before ++ []) (node 4) (node 1)) (frames 4 1 (7 * k) 7) ≡ true
     → are_passed (node 1) (node 4) (polls (before ++ frames 4 1 (7 * k) 7) (node 1) (node 4)) (frames 1 4 (7 * k) 7) ≡ true
     → are_passed (node 3) (node 4) (polls (before ++ (frames 4 1 (7 * k) 7 ++ frames 1 4 (7 * k) 7)) (node 3) (node 4)) (frames 3 4 (7 * k) 7) ≡ true
-    → are_passed (node 4) (node 3) (polls (before ++ ((frames 4 1 (7 * k) 7 ++ frames 1 4 (7 * k) 7) ++ (frames 3 4 (7 * k) 7 ++ take_it))) (node 4) (node 3)) (frames 4 3 (7 * k) 7) ≡ true
+    → are_passed (node 4) (node 3) (polls (before ++ ((frames 4 1 (7 * k) 7 ++ frames 1 4 (7 * k) 7) ++ (frames 3 4 (7 * k) 7 ++ take_it))) (node 4) (node 3))
+    (frames 4 3 (7 * k) 7) ≡ true
     → IsCompleteRound 7 (node 1) (node 3) square_path before (square_round k)
 square_is before k one two three four = two_hops 7 (node 1) (node 3) (node 1) (node 4) (node 3) before (square_round k)
     (record {
@@ -166,7 +171,8 @@ square_is before k one two three four = two_hops 7 (node 1) (node 3) (node 1) (n
       late = [];
       parts = refl;
       is_back = sweep 7 (node 3) (node 4) (before ++ (frames 4 1 (7 * k) 7 ++ frames 1 4 (7 * k) 7)) (frames 3 4 (7 * k) 7) refl three;
-      is_forth = sweep 7 (node 4) (node 3) (before ++ ((frames 4 1 (7 * k) 7 ++ frames 1 4 (7 * k) 7) ++ (frames 3 4 (7 * k) 7 ++ take_it))) (frames 4 3 (7 * k) 7) refl four;
+      is_forth = sweep 7 (node 4) (node 3) (before ++ ((frames 4 1 (7 * k) 7 ++ frames 1 4 (7 * k) 7) ++ (frames 3 4 (7 * k) 7 ++ take_it)))
+          (frames 4 3 (7 * k) 7) refl four;
       take = λ same. refl;
     })
 

@@ -79,7 +79,8 @@ lives_are_counted = record {
       let last : 2 ≡ version = second_of version weights changed _ refl under.ends in
       omega (arith, first, last);
   is_delivered = λ arts js more w v n promise run longer under calm at has.
-      let it = promise sent_by js w four_rounds more v run longer 1 line_weights (node 1) (node 3) line_path is_path under 1 1 calm n at 1 1 (omega arith) has (omega arith) 1
+      let it = promise sent_by js w four_rounds more v run longer 1 line_weights (node 1) (node 3) line_path is_path under 1 1 calm n at 1 1 (omega arith) has
+      (omega arith) 1
       (omega arith) rounds_are in
       (it.payload, it.sent.there, it.delivered.there);
   restarts = λ w a b calm.
@@ -89,7 +90,8 @@ lives_are_counted = record {
   behind_one = λ a b calm.
       let At = IsCalmAt behind four_rounds (node 1) a (node 3) b in
       let one = boots_at behind four_rounds a b (node 1) (holding 1 2 1) refl (All-head At (node 1) (node 2 ∷ node 3 ∷ []) calm) in
-      let two = boots_at behind four_rounds a b (node 2) (holding 2 1 1) refl (All-head At (node 2) (node 3 ∷ []) (All-tail At (node 1) (node 2 ∷ node 3 ∷ []) calm)) in
+      let two = boots_at behind four_rounds a b (node 2) (holding 2 1 1) refl
+      (All-head At (node 2) (node 3 ∷ []) (All-tail At (node 1) (node 2 ∷ node 3 ∷ []) calm)) in
       let first : 2 ≡ a = one.0 in
       let second : 1 ≡ a = two.0 in
       omega (arith, first, second);

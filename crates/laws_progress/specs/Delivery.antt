@@ -57,9 +57,11 @@ ReturnsInRounds arts x =
 
 -- ---- the laws, of any arts by which frames come through, and of settings without epochs
 
+-- the law that what a source accepted is delivered after so many complete rounds
 abbrev pub CountedDelivery : Type 0
 CountedDelivery = (arts : Arts) (x : Setting) → StaysUp arts x → ComesThrough x.topology.format arts x.signature_len → 1 ≤ x.buffer
     → DeliversInRounds arts x
 
+-- the law that what a destination acknowledged has returned after so many complete rounds
 abbrev pub CountedReturn : Type 0
 CountedReturn = (arts : Arts) (x : Setting) → StaysUp arts x → ComesThrough x.topology.format arts x.signature_len → 1 ≤ x.buffer → ReturnsInRounds arts x

@@ -60,10 +60,12 @@ StartsAreTold arts x =
 
 -- ---- the laws, of any arts by which frames come through, with epochs or without
 
+-- the law of counted delivery where nodes start and stop
 abbrev pub CountedDeliveryInLives : Type 0
 CountedDeliveryInLives = (arts : Arts) (x : Setting) → SettingFits arts x → ComesThrough x.topology.format arts x.signature_len → 1 ≤ x.buffer
     → DeliversInLives arts x
 
+-- the law of counted acknowledgement where nodes start and stop
 abbrev pub CountedReturnInLives : Type 0
 CountedReturnInLives = (arts : Arts) (x : Setting) → SettingFits arts x → ComesThrough x.topology.format arts x.signature_len → 1 ≤ x.buffer
     → ReturnsInLives arts x

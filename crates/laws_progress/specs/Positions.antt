@@ -44,6 +44,7 @@ pub record PositionClaims (arts : Arts) (x : Setting) (s d : NodeId) (es : List 
   pub view : (u v : NodeId) (n m : NodeState) → IsTrue (is_hop x u v) → node_in w.nodes u ≡ Some n → node_in w.nodes v ≡ Some m
       → ((view_at n v s d).base ≤ (flow_at m s d).at.base) × ((view_at n v s d).have ≤ (flow_at m s d).at.have)
 
+-- where each flow between correct nodes stands, and that all active flows are counted
 pub record ProgressClaims (arts : Arts) (x : Setting) (es : List Event) (js : List Entry) (w : World) : Type 0 where
   pub positions : (s d : NodeId) → IsTrue (is_correct x s) → IsTrue (is_correct x d) → (s ≡ d → ⊥) → PositionClaims arts x s d es js w
   -- each flow that is active at a node is counted, so there are no more of them

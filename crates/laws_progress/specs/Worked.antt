@@ -27,9 +27,11 @@ use Rattle.laws_progress.specs.Within.{IsPathUnder, StaysUnder}
 abbrev pub node : ℕ → NodeId
 node u = record { 0 = u }
 
+-- a node without a key
 abbrev pub no_key : ℕ → NodeKey
 no_key u = record { id = node u; key = [] }
 
+-- an edge of weight 10
 abbrev pub edge : ℕ → ℕ → Edge
 edge low high = record { low = node low; high = node high; weight = 10 }
 
@@ -91,9 +93,11 @@ HasReturnedBy x weights path before after = (arts : Arts) (js more : List Entry)
 
 -- ---- three nodes in a row
 
+-- three nodes in a row
 abbrev pub line : Setting
 line = setting (1 ∷ 2 ∷ 3 ∷ []) (edge 1 2 ∷ edge 2 3 ∷ []) []
 
+-- the path along them
 abbrev pub line_path : List NodeId
 line_path = map node (1 ∷ 2 ∷ 3 ∷ [])
 
@@ -101,9 +105,11 @@ line_path = map node (1 ∷ 2 ∷ 3 ∷ [])
 abbrev pub line_round : ℕ → List Event
 line_round before = frames 2 1 before 1 ++ (frames 1 2 before 1 ++ (frames 3 2 before 1 ++ (take_it ++ frames 2 3 before 1)))
 
+-- the rounds of the message
 abbrev pub first_rounds : List Event
 first_rounds = line_round 0 ++ (line_round 1 ++ (line_round 2 ++ (line_round 3 ++ [])))
 
+-- the rounds of its acknowledgement
 abbrev pub later_rounds : List Event
 later_rounds = line_round 4 ++ (line_round 5 ++ (line_round 6 ++ []))
 
@@ -111,6 +117,7 @@ later_rounds = line_round 4 ++ (line_round 5 ++ (line_round 6 ++ []))
 abbrev pub line_weights : List ℕ
 line_weights = 10 ∷ 10 ∷ []
 
+-- a message and its acknowledgement in counted rounds
 pub record FirstMessage : Type 0 where
   pub path : IsPathUnder line line_weights (node 1) (node 3) line_path
   pub two_hops : hops line_path ≡ 2
@@ -129,6 +136,7 @@ pub record FirstMessage : Type 0 where
 abbrev pub square : Setting
 square = setting (1 ∷ 2 ∷ 3 ∷ 4 ∷ []) (edge 1 2 ∷ edge 1 4 ∷ edge 2 3 ∷ edge 3 4 ∷ []) (2 ∷ [])
 
+-- the path round the compromised node
 abbrev pub square_path : List NodeId
 square_path = map node (1 ∷ 4 ∷ 3 ∷ [])
 
@@ -136,12 +144,15 @@ square_path = map node (1 ∷ 4 ∷ 3 ∷ [])
 abbrev pub square_round : ℕ → List Event
 square_round before = frames 4 1 (7 * before) 7 ++ (frames 1 4 (7 * before) 7 ++ (frames 3 4 (7 * before) 7 ++ (take_it ++ frames 4 3 (7 * before) 7)))
 
+-- four rounds along it
 abbrev pub four_rounds : List Event
 four_rounds = square_round 0 ++ (square_round 1 ++ (square_round 2 ++ (square_round 3 ++ [])))
 
+-- the weights of the square's edges
 abbrev pub square_weights : List ℕ
 square_weights = 10 ∷ 10 ∷ 10 ∷ 10 ∷ []
 
+-- the rounds of a message round a compromised node
 pub record RoundACompromisedNode : Type 0 where
   pub path : IsPathUnder square square_weights (node 1) (node 3) square_path
   pub two_hops : hops square_path ≡ 2
@@ -155,6 +166,7 @@ pub record RoundACompromisedNode : Type 0 where
 
 -- ---- what a version withdraws
 
+-- which paths a version leaves, and which rounds count under it
 pub record WithinAVersion : Type 0 where
   -- one that withdraws both edges of the compromised node leaves the path that goes round it
   pub left : IsPathUnder square (0 ∷ 10 ∷ 0 ∷ 10 ∷ []) (node 1) (node 3) square_path
@@ -176,6 +188,7 @@ hand_it = events.Publish (node 3) None ∷ []
 abbrev pub craft_it : List Event
 craft_it = events.CraftDocument (node 2) (node 1) 0 2 (Some (20 ∷ 10 ∷ [])) ∷ []
 
+-- which events leave the topology as it is
 pub record WhereItStays : Type 0 where
   pub rounds : TopologyStays (send ++ (first_rounds ++ (tick ++ later_rounds)))
   -- who only crafts publishes nothing, and what is handed out again is no version more

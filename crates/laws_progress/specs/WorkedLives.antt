@@ -27,6 +27,7 @@ restless = record line { topology = record line.topology { format = 2 }; epochs 
 
 -- ---- events
 
+-- each node starts
 abbrev pub starts : List Event
 starts = events.Start (node 1) ∷ events.Start (node 2) ∷ events.Start (node 3) ∷ []
 
@@ -34,6 +35,7 @@ starts = events.Start (node 1) ∷ events.Start (node 2) ∷ events.Start (node 
 abbrev pub sent_by : List Event
 sent_by = starts ++ (line_round 0 ++ (line_round 1 ++ (line_round 2 ++ (line_round 3 ++ (line_round 4 ++ (line_round 5 ++ send))))))
 
+-- the rounds of a message of these lives
 abbrev pub four_rounds : List Event
 four_rounds = line_round 6 ++ (line_round 7 ++ (line_round 8 ++ (line_round 9 ++ [])))
 
@@ -55,6 +57,7 @@ abbrev pub holding : (u one three : ℕ) → NodeState
 holding u one three =
     let n = node_at_boot restless (node u) in record n { parts = record n.parts { lives = heard 1 one ∷ heard 2 1 ∷ heard 3 three ∷ [] } }
 
+-- a world of three nodes
 abbrev pub world : (one two three : NodeState) → World
 world one two three = record { keys = []; nodes = one ∷ two ∷ three ∷ []; directions = []; crafted = []; published = none_published }
 
@@ -83,6 +86,7 @@ IsDeliveredUnder = (arts : Arts) (js more : List Entry) (w v : World) (n : NodeS
     → (payload : List ℕ) × (slice_get (sent_under (past arts restless sent_by js w run) (node 1) 1 (node 3) 1) 0 ≡ Some (1, payload))
     × (slice_get (delivered_under (past arts restless (sent_by ++ four_rounds) (js ++ more) v longer) (node 1) 1 (node 3) 1) 0 ≡ Some (1, payload))
 
+-- a message is counted in the lives of its path
 pub record LivesAreCounted : Type 0 where
   pub path : IsPathUnder restless line_weights (node 1) (node 3) line_path
   pub two_hops : hops line_path ≡ 2

@@ -22,6 +22,7 @@ use Rattle.sp_schedule_events.specs.Documents.{none_published}
 abbrev pub accepted : List Entry
 accepted = (record { reply = replies.Accepted 1; effects = [] }) ∷ []
 
+-- the first message of the flow from 1 to 3
 abbrev pub message : (payload : List ℕ) → Kept
 message payload = record { body = bodies.Rel (record { src = node 1; dst = node 3; sboot = 0; dboot = 0; seq = 1; payload = payload }); signature = [] }
 
@@ -29,6 +30,7 @@ message payload = record { body = bodies.Rel (record { src = node 1; dst = node 
 abbrev pub sent_message : Kept
 sent_message = message (104 ∷ 105 ∷ [])
 
+-- a flow by the numbers of its ends
 abbrev pub flow_from : (src dst : ℕ) → Flow
 flow_from src dst = record { src = node src; dst = node dst }
 
@@ -44,6 +46,7 @@ with_row f n = record n { parts = record n.parts { rel = record n.parts.rel { fl
 abbrev pub reporting : (base have : ℕ) → RelPeer → RelPeer
 reporting base have p = record p { views = put_view p.views (flow_from 1 3) (record { src = node 1; dst = node 3; base = base; have = have }) }
 
+-- a node whose neighbours all reported this
 abbrev pub with_views : (base have : ℕ) → NodeState → NodeState
 with_views base have n = record n { parts = record n.parts { rel = record n.parts.rel { peers = map (reporting base have) n.parts.rel.peers } } }
 
@@ -51,6 +54,7 @@ with_views base have n = record n { parts = record n.parts { rel = record n.part
 abbrev pub at_boot : ℕ → NodeState
 at_boot u = node_at_boot line (node u)
 
+-- a node at which the flow from 1 to 3 stands so
 abbrev pub standing : (u base have : ℕ) (list : List Kept) → NodeState
 standing u base have list = with_row (row (flow_from 1 3) base have list) (at_boot u)
 
@@ -58,14 +62,17 @@ standing u base have list = with_row (row (flow_from 1 3) base have list) (at_bo
 abbrev pub source : NodeState
 source = standing 1 0 1 (sent_message ∷ [])
 
+-- a world of three nodes
 abbrev pub world : (one two three : NodeState) → World
 world one two three = record { keys = []; nodes = one ∷ two ∷ three ∷ []; directions = []; crafted = []; published = none_published }
 
 -- ---- what is claimed
 
+-- a world that the claims exclude
 abbrev pub IsRefused : World → Type 0
 IsRefused w = (arts : Arts) → ProgressClaims arts line send accepted w → ⊥
 
+-- what the claims exclude
 pub record PositionsAreWorked : Type 0 where
   -- only the flow from 1 to 3 can be active
   pub one_active : (arts : Arts) (w : World) (u : NodeId) (n : NodeState) → ProgressClaims arts line send accepted w → node_in w.nodes u ≡ Some n

@@ -28,6 +28,7 @@ NeverBack = (arts : Arts) (es after : List Event) (js more : List Entry)
     → VersionsNeverFall arts restless → Clean arts restless es js changed → Clean arts restless (es ++ after) (js ++ more) told
     → StaysUpIn changed after (node 2) → ⊥
 
+-- where a version has spread, and where it hasn't
 pub record SpreadingIsWorked : Type 0 where
   pub changes : may_change row ≡ true
   pub follows : EndFollows

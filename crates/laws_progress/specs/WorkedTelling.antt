@@ -24,6 +24,7 @@ use Rattle.laws_progress.specs.Worked.{frames, line, line_path, line_weights, no
 abbrev pub row : Setting
 row = record line { topology = record line.topology { format = FORMAT_2 }; epochs = true }
 
+-- each node starts
 abbrev pub starts : List Event
 starts = events.Start (node 1) ∷ events.Start (node 2) ∷ events.Start (node 3) ∷ []
 
@@ -31,6 +32,7 @@ starts = events.Start (node 1) ∷ events.Start (node 2) ∷ events.Start (node 
 abbrev pub telling_round : ℕ → List Event
 telling_round before = frames 1 2 (3 * before) 3 ++ (frames 2 1 (3 * before) 3 ++ (frames 3 2 (3 * before) 3 ++ frames 2 3 (3 * before) 3))
 
+-- three rounds that tell starts
 abbrev pub three_rounds : List Event
 three_rounds = telling_round 0 ++ (telling_round 1 ++ (telling_round 2 ++ []))
 
@@ -55,6 +57,7 @@ late_frames =
     events.Poll (node 2) (node 3) ∷ events.Poll (node 2) (node 3) ∷ events.Pass (node 2) (node 3) 1
     ∷ (events.Pass (node 2) (node 3) 2 ∷ frames 2 3 2 1)
 
+-- a round in which one direction comes too late
 abbrev pub late_round : List Event
 late_round = frames 1 2 0 3 ++ (frames 2 1 0 3 ++ (frames 3 2 0 3 ++ late_frames))
 
@@ -66,9 +69,11 @@ restart = telling_round 0 ++ (events.Stop (node 2) ∷ events.Start (node 2) ∷
 abbrev pub booted_at : (u boot : ℕ) → NodeState
 booted_at u boot = booted (fixed_at row (node u) boot) (first_signer row (node u)) (link_keys row (node u)) 2 4
 
+-- a world in which one node is in another life
 abbrev pub untold : World
 untold = record { keys = []; nodes = booted_at 1 1 ∷ booted_at 2 2 ∷ booted_at 3 1 ∷ []; directions = []; crafted = []; published = none_published }
 
+-- after three rounds the starts are told, and after less they needn't be
 pub record TellingIsWorked : Type 0 where
   pub path : IsPathUnder row line_weights (node 1) (node 3) line_path
   pub two_hops : hops line_path ≡ 2

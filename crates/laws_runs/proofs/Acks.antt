@@ -57,12 +57,14 @@ RelAck r = All (FlowAck r.removed) r.flows
 pub none_ack : (removed : List NodeId) (flow : Flow) → FlowAck removed (no_flow flow)
 none_ack removed flow = record { sound = omega arith; ack = λ some. absurd (omega (arith, some)); inbox = λ on. omega arith }
 
+-- what holds of the acknowledgement of all flows holds of each one's
 pub flow_ack : (r : RelState) (flow : Flow) → RelAck r → FlowAck r.removed (flow_in r.flows flow)
 flow_ack r flow h = all_first (FlowAck r.removed) (is_flow flow) (no_flow flow) r.flows h (none_ack r.removed flow)
 
 -- ---- one flow
 
-same_ack : (gone : List NodeId) (f g : FlowState) → ends g ≡ ends f → g.ack ≡ f.ack → g.at.base ≡ f.at.base → f.at.have ≤ g.at.have → (length f.inbox ≤ f.at.have → length g.inbox ≤ g.at.have) → FlowAck gone f
+same_ack : (gone : List NodeId) (f g : FlowState) → ends g ≡ ends f → g.ack ≡ f.ack → g.at.base ≡ f.at.base → f.at.have ≤ g.at.have
+    → (length f.inbox ≤ f.at.have → length g.inbox ≤ g.at.have) → FlowAck gone f
     → FlowAck gone g
 same_ack gone f g same ack base have inbox h = record {
   inbox = λ on. inbox (h.inbox (sym (ap (is_over gone) same) ∙ on));
@@ -71,10 +73,22 @@ same_ack gone f g same ack base have inbox h = record {
 }
 
 acked_ack : (gone : List NodeId) (f : FlowState) (o : Kept) → f.at.base < number_said o.body → FlowAck gone f → FlowAck gone (acknowledged_by f o)
-acked_ack gone f o above h = record { sound = let s = h.sound in omega (arith, s); ack = λ some. record { ack = o; kept = refl; number = omega (arith, above) }; inbox = λ on. let i = h.inbox on in omega (arith, i) }
+acked_ack gone f o above h =
+    record {
+      sound = let s = h.sound in omega (arith, s);
+      ack = λ some. record { ack = o; kept = refl; number = omega (arith, above) };
+      inbox = λ on. let i =
+          h.inbox on in omega (arith, i);
+    }
 
 concluded_ack : (gone : List NodeId) (f : FlowState) (o : Kept) → number_said o.body ≡ f.at.have → FlowAck gone f → FlowAck gone (concluded f o)
-concluded_ack gone f o is h = record { sound = let s = h.sound in omega (arith, s); ack = λ some. record { ack = o; kept = refl; number = let s = h.sound in omega (arith, s, is) }; inbox = λ on. let i = h.inbox on in omega (arith, i) }
+concluded_ack gone f o is h =
+    record {
+      sound = let s = h.sound in omega (arith, s);
+      ack =
+          λ some. record { ack = o; kept = refl; number = let s = h.sound in omega (arith, s, is) };
+      inbox = λ on. let i = h.inbox on in omega (arith, i);
+    }
 
 shorter : (xs : List (List ℕ)) → length (drop 1 xs) ≤ length xs
 shorter [] = omega arith
@@ -90,7 +104,9 @@ admit_rel_ack r o h =
     let flow = flow_said o.body in
     let f = flow_in r.flows flow in
     cond_either (λ (g : FlowState). RelAck (with_flow r flow g)) (is_to r flow) (received f (payload_of o.body)) (pushed f o)
-    (with_ack r flow (received f (payload_of o.body)) h (same_ack r.removed f (received f (payload_of o.body)) refl refl refl (omega arith) (λ i. omega (arith, i, length-append f.inbox (payload_of o.body ∷ []))) (flow_ack r flow h)))
+    (with_ack r flow (received f (payload_of o.body)) h
+    (same_ack r.removed f (received f (payload_of o.body)) refl refl refl (omega arith)
+    (λ i. omega (arith, i, length-append f.inbox (payload_of o.body ∷ []))) (flow_ack r flow h)))
     (with_ack r flow (pushed f o) h (same_ack r.removed f (pushed f o) refl refl refl (omega arith) (λ i. omega (arith, i)) (flow_ack r flow h)))
 
 passes_old : (e t : Bool) (x : AckJudged) → e ≡ true → cond (not e) acks.BadEnd (cond t acks.Old x) ≡ acks.New → t ≡ false
@@ -122,7 +138,8 @@ ack_ack right dated r flow o h =
     (λ new.
     let said = flow_said o.body in
     let f = flow_in r.flows said in
-    with_ack r said (acknowledged_by f o) h (acked_ack r.removed f o (above_new r flow o.body (judged.new_ack right dated (judge_ack_of r flow o.body) new).1) (flow_ack r said h)))
+    with_ack r said (acknowledged_by f o) h
+    (acked_ack r.removed f o (above_new r flow o.body (judged.new_ack right dated (judge_ack_of r flow o.body) new).1) (flow_ack r said h)))
     (λ old. h)
 
 pub reported_ack : (r : RelState) (v : NodeId) (flow : Flow) (base have : ℕ) → RelAck r → RelAck (reported r v flow base have)
@@ -140,13 +157,17 @@ settled_ack r o is h = go (due_place r)
   where
     go : (place : Option ℕ) → RelAck (settled_at r o place)
     go None = h
-    go (Some place) = let flow = flow_said o.body in let f = flow_in r.flows flow in with_ack r flow (concluded f o) h (concluded_ack r.removed f o is (flow_ack r flow h))
+    go (Some place) = let flow = flow_said o.body in let f = flow_in r.flows flow in
+        with_ack r flow (concluded f o) h (concluded_ack r.removed f o is (flow_ack r flow h))
 
 took_ack : (r : RelState) (src : NodeId) → RelAck r → RelAck (took r src)
-took_ack r src h = let flow = flow_to_me r src in let f = flow_in r.flows flow in with_ack r flow (after_take f) h (same_ack r.removed f (after_take f) refl refl refl (omega arith) (λ i. let less = shorter f.inbox in omega (arith, i, less)) (flow_ack r flow h))
+took_ack r src h = let flow = flow_to_me r src in let f = flow_in r.flows flow in
+    with_ack r flow (after_take f) h
+    (same_ack r.removed f (after_take f) refl refl refl (omega arith) (λ i. let less = shorter f.inbox in omega (arith, i, less)) (flow_ack r flow h))
 
 sent_ack : (r : RelState) (o : Kept) → RelAck r → RelAck (pushed_in r o)
-sent_ack r o h = let flow = flow_said o.body in let f = flow_in r.flows flow in with_ack r flow (pushed f o) h (same_ack r.removed f (pushed f o) refl refl refl (omega arith) (λ i. omega (arith, i)) (flow_ack r flow h))
+sent_ack r o h = let flow = flow_said o.body in let f = flow_in r.flows flow in
+    with_ack r flow (pushed f o) h (same_ack r.removed f (pushed f o) refl refl refl (omega arith) (λ i. omega (arith, i)) (flow_ack r flow h))
 
 -- a flow that begins anew
 less_ack : (gone : List NodeId) (v : NodeId) (f : FlowState) → FlowAck gone f → FlowAck gone (flow_less v f)
@@ -163,7 +184,9 @@ greeted_ack false risen v p h = h
 -- ---- pieces
 
 piece_ack : (arts : Arts) (at : Arrival) (p : Parts) (piece : Piece) → RelAck p.rel → RelAck (handle arts at p piece).parts.rel
-piece_ack arts at p (WeightPiece o) h = cond_either (λ (q : Parts). RelAck q.rel) (is_new (items.Weight (weight_answer (is_signed arts at.fixed o) (offer_to at.fixed.me p.weights o.body)))) (record p { weights = held p.weights o }) p h h
+piece_ack arts at p (WeightPiece o) h =
+    cond_either (λ (q : Parts). RelAck q.rel) (is_new (items.Weight (weight_answer (is_signed arts at.fixed o) (offer_to at.fixed.me p.weights o.body))))
+    (record p { weights = held p.weights o }) p h h
 piece_ack arts at p (PrioAckPiece number) h = h
 piece_ack arts at p (PrioPiece number o) h = go (prio_answer (is_signed arts at.fixed o) (is_dated p.lives o.body) (judge_prio p.prio o.body at.now))
   where
@@ -178,13 +201,21 @@ piece_ack arts at p (ReportPiece flow sboot dboot base have) h =
     cond_either (λ (q : Parts). RelAck q.rel) (are_held p.lives flow sboot dboot) (record p { rel = reported p.rel at.from flow base have }) p
     (reported_ack p.rel at.from flow base have h) h
 piece_ack arts at p (AckPiece flow o) h =
-    cond_where (λ (q : Parts). RelAck q.rel) (is_new (items.Ack (ack_answer (is_signed arts at.fixed o) (is_dated p.lives o.body) (judge_ack_of p.rel flow o.body)))) (record p { rel = admit_ack p.rel o }) p
+    cond_where (λ (q : Parts). RelAck q.rel)
+    (is_new (items.Ack (ack_answer (is_signed arts at.fixed o) (is_dated p.lives o.body) (judge_ack_of p.rel flow o.body))))
+    (record p { rel = admit_ack p.rel o }) p
     (λ new.
     let said = flow_said o.body in
     let f = flow_in p.rel.flows said in
-    with_ack p.rel said (acknowledged_by f o) h (acked_ack p.rel.removed f o (above_new p.rel flow o.body (judged.new_ack (is_signed arts at.fixed o) (is_dated p.lives o.body) (judge_ack_of p.rel flow o.body) new).1) (flow_ack p.rel said h)))
+    with_ack p.rel said (acknowledged_by f o) h
+    (acked_ack p.rel.removed f o
+    (above_new p.rel flow o.body (judged.new_ack (is_signed arts at.fixed o) (is_dated p.lives o.body) (judge_ack_of p.rel flow o.body) new).1)
+    (flow_ack p.rel said h)))
     (λ old. h)
-piece_ack arts at p (RelPiece flow o) h = cond_either (λ (q : Parts). RelAck q.rel) (is_new (items.Rel (rel_answer (is_signed arts at.fixed o) (is_dated p.lives o.body) (judge_rel_of p.rel flow o.body)))) (record p { rel = admit_rel p.rel o }) p (admit_rel_ack p.rel o h) h
+piece_ack arts at p (RelPiece flow o) h =
+    cond_either (λ (q : Parts). RelAck q.rel)
+    (is_new (items.Rel (rel_answer (is_signed arts at.fixed o) (is_dated p.lives o.body) (judge_rel_of p.rel flow o.body))))
+    (record p { rel = admit_rel p.rel o }) p (admit_rel_ack p.rel o h) h
 piece_ack arts at p (EpochPiece o) h =
     cond_either (λ (q : Parts). RelAck q.rel) (is_new (items.Epoch (epoch_answer (is_signed arts at.fixed o) (judge_epoch at.fixed.me p.lives o.body))))
     (met p o) p (less_all_ack p.rel.removed (origin_said o.body) p.rel.flows h) h
@@ -195,10 +226,12 @@ pieces_ack arts at p (piece ∷ pieces) h = pieces_ack arts at (handle arts at p
 
 -- ---- another version of the topology
 
-pub over_less : (gone more : List NodeId) (fl : Flow) → ((u : NodeId) → is_one_of gone u ≡ true → is_one_of more u ≡ true) → is_over more fl ≡ false → is_over gone fl ≡ false
+pub over_less : (gone more : List NodeId) (fl : Flow) → ((u : NodeId) → is_one_of gone u ≡ true → is_one_of more u ≡ true) → is_over more fl ≡ false
+    → is_over gone fl ≡ false
 over_less gone more fl less off = go (is_one_of gone fl.src) refl (is_one_of gone fl.dst) refl (is_one_of more fl.src) refl (is_one_of more fl.dst) refl off
   where
-    go : (a : Bool) → is_one_of gone fl.src ≡ a → (b : Bool) → is_one_of gone fl.dst ≡ b → (c : Bool) → is_one_of more fl.src ≡ c → (d : Bool) → is_one_of more fl.dst ≡ d
+    go : (a : Bool) → is_one_of gone fl.src ≡ a → (b : Bool) → is_one_of gone fl.dst ≡ b → (c : Bool) → is_one_of more fl.src ≡ c → (d : Bool)
+        → is_one_of more fl.dst ≡ d
         → (c || d) ≡ false → (a || b) ≡ false
     go false one false two c three d four off = refl
     go true one b two true three d four off = absurd (cc)
@@ -207,20 +240,24 @@ over_less gone more fl less off = go (is_one_of gone fl.src) refl (is_one_of gon
     go false one true two false three true four off = absurd (cc)
     go false one true two false three false four off = absurd (let both : true ≡ false = sym (less fl.dst two) ∙ four in cc)
 
-pub ended_ack : (gone more : List NodeId) → ((u : NodeId) → is_one_of gone u ≡ true → is_one_of more u ≡ true) → (f : FlowState) → FlowAck gone f → FlowAck more (ended_where more f)
+pub ended_ack : (gone more : List NodeId) → ((u : NodeId) → is_one_of gone u ≡ true → is_one_of more u ≡ true) → (f : FlowState) → FlowAck gone f
+    → FlowAck more (ended_where more f)
 ended_ack gone more less f h = go f.active (is_over more (ends f)) refl
   where
     go : (a b : Bool) → is_over more (ends f) ≡ b → FlowAck more (cond (a && b) (ended f) f)
-    go true true over = record { sound = omega arith; ack = λ some. absurd (omega (arith, some)); inbox = λ off. absurd (let both : true ≡ false = sym over ∙ off in cc) }
+    go true true over =
+        record { sound = omega arith; ack = λ some. absurd (omega (arith, some)); inbox = λ off. absurd (let both : true ≡ false = sym over ∙ off in cc) }
     go true false over = record { sound = h.sound; ack = h.ack; inbox = λ off. h.inbox (over_less gone more (ends f) less off) }
     go false b over = record { sound = h.sound; ack = h.ack; inbox = λ off. h.inbox (over_less gone more (ends f) less off) }
 
-pub closed_ack : (r : RelState) (more : List NodeId) → ((u : NodeId) → is_one_of r.removed u ≡ true → is_one_of more u ≡ true) → RelAck r → RelAck (closed r more)
+pub closed_ack : (r : RelState) (more : List NodeId) → ((u : NodeId) → is_one_of r.removed u ≡ true → is_one_of more u ≡ true) → RelAck r
+    → RelAck (closed r more)
 closed_ack r more less h = all_map (FlowAck r.removed) (FlowAck more) (ended_where more) (ended_ack r.removed more less) r.flows h
 
 -- ---- steps
 
-kept_where : {X : Type 0} (r : Option X) (n m new : NodeState) → new ≡ kept_or r n m → RelAck n.parts.rel → (r ≡ None → new ≡ m → RelAck m.parts.rel) → RelAck new.parts.rel
+kept_where : {X : Type 0} (r : Option X) (n m new : NodeState) → new ≡ kept_or r n m → RelAck n.parts.rel → (r ≡ None → new ≡ m → RelAck m.parts.rel)
+    → RelAck new.parts.rel
 kept_where None n m new is old then = subst (λ (y : NodeState). RelAck y.parts.rel) (sym is) (then refl is)
 kept_where (Some x) n m new is old then = subst (λ (y : NodeState). RelAck y.parts.rel) (sym is) old
 
@@ -231,7 +268,8 @@ kept_ack (Some x) n m old new = old
 -- the acknowledgement that is due is of all that came
 due_is : (r : RelState) (a : Ack) (o : Option Flow) → option_map (ack_of r) o ≡ Some a → a.seq ≡ (flow_in r.flows (record { src = a.src; dst = a.dst })).at.have
 due_is r a None e = absurd (let f : None ≡ Some a = e in cc)
-due_is r a (Some fl) e = let f : Some (ack_of r fl) ≡ Some a = e in let is : ack_of r fl ≡ a = cc in subst (λ (b : Ack). b.seq ≡ (flow_in r.flows (record { src = b.src; dst = b.dst })).at.have) is refl
+due_is r a (Some fl) e = let f : Some (ack_of r fl) ≡ Some a = e in let is : ack_of r fl ≡ a = cc in
+    subst (λ (b : Ack). b.seq ≡ (flow_in r.flows (record { src = b.src; dst = b.dst })).at.have) is refl
 
 pub step_ack : (arts : Arts) (n : NodeState) (input : Input) (output : Output) (new : NodeState) → NodeStep arts n input output new → Obeys n
     → RelAck n.parts.rel → RelAck new.parts.rel
@@ -258,9 +296,13 @@ step_ack arts n (Tick now) output new s obeys h = subst (λ (m : NodeState). Rel
         let number = due_is n.parts.rel d.raw (option_and_then (flow_at n.parts.rel.flows) (due_place n.parts.rel)) d.is_due in
         settled_ack n.parts.rel (signed_now arts (at_time n now) (bodies.Ack ack))
         (subst (λ (a : Ack). a.seq ≡ (flow_in n.parts.rel.flows (record { src = a.src; dst = a.dst })).at.have) (sym d.is) number) h
-step_ack arts n (SendRel dst payload) output new s obeys h = subst (λ (m : NodeState). RelAck m.parts.rel) (sym s.1) (kept_ack (rel_refusal n dst) n _ h (sent_ack n.parts.rel (signed_now arts n (rel_body n dst payload)) h))
-step_ack arts n (SendPrio m) output new s obeys h = subst (λ (m : NodeState). RelAck m.parts.rel) (sym s.new_is) (kept_ack (send_prio_refusal n m s.choice) n _ h h)
-step_ack arts n (SetWeight v weight) output new s obeys h = subst (λ (m : NodeState). RelAck m.parts.rel) (sym s.1) (kept_ack (weight_refusal n v weight) n _ h h)
+step_ack arts n (SendRel dst payload) output new s obeys h =
+    subst (λ (m : NodeState). RelAck m.parts.rel) (sym s.1)
+    (kept_ack (rel_refusal n dst) n _ h (sent_ack n.parts.rel (signed_now arts n (rel_body n dst payload)) h))
+step_ack arts n (SendPrio m) output new s obeys h =
+    subst (λ (m : NodeState). RelAck m.parts.rel) (sym s.new_is) (kept_ack (send_prio_refusal n m s.choice) n _ h h)
+step_ack arts n (SetWeight v weight) output new s obeys h =
+    subst (λ (m : NodeState). RelAck m.parts.rel) (sym s.1) (kept_ack (weight_refusal n v weight) n _ h h)
 step_ack arts n (TakeRel src) output new s obeys h = subst (λ (m : NodeState). RelAck m.parts.rel) (sym s.1) (took_ack n.parts.rel src h)
 step_ack arts n TakePrio output new s obeys h = subst (λ (m : NodeState). RelAck m.parts.rel) (sym s.1) h
 step_ack arts n (Publish document) output new s obeys h =

@@ -43,7 +43,8 @@ use Rattle.laws_runs.proofs.Goods.{fit_in}
 use Rattle.laws_runs.proofs.Lists.{among_right, both, first_among, told_more}
 
 module _ (arts : Arts) (x : Setting) (es : List Event) (js : List Entry) (old new : World) (u : NodeId) (j : Entry) (fits : SettingFits arts x)
-    (reads : Carries x.topology.format arts) (on : x.epochs ≡ true) (keys : KeysStand x es old) (even : length es ≡ length js) (range : InRange x es (events.Start u))
+    (reads : Carries x.topology.format arts) (on : x.epochs ≡ true) (keys : KeysStand x es old) (even : length es ≡ length js)
+    (range : InRange x es (events.Start u))
     (start : IsStart arts x old u j new) where
   abbrev s : Started
   s = next_start x old u
@@ -53,7 +54,8 @@ module _ (arts : Arts) (x : Setting) (es : List Event) (js : List Entry) (old ne
 
   -- as it booted, before it signs
   abbrev before : NodeState
-  before = booted (fixed_at x u (next_start x old u).boot) (signer_from x u (next_start x old u).index (next_start x old u).bound) (link_keys x u) x.buffer x.store
+  before = booted (fixed_at x u (next_start x old u).boot) (signer_from x u (next_start x old u).index (next_start x old u).bound) (link_keys x u) x.buffer
+      x.store
 
   abbrev object : Kept
   object = signed_now arts before (own_epoch f)

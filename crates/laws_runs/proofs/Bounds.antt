@@ -39,7 +39,8 @@ flow_bounded x P u index f h = record {
   acknowledgement = at_most_one f.ack;
 }
 
-peer_bounded : (x : Setting) (P : Kept → Type 0) (u : NodeId) (numbers ids : ℕ) (q : PrioPeer) → PrioPeerHolds (sizes_at x P u) numbers ids q → PeerIsBounded x.store q
+peer_bounded : (x : Setting) (P : Kept → Type 0) (u : NodeId) (numbers ids : ℕ) (q : PrioPeer) → PrioPeerHolds (sizes_at x P u) numbers ids q
+    → PeerIsBounded x.store q
 peer_bounded x P u numbers ids q h = record {
   entries = let entries = h.store.bounded in let capacity = h.store.capacity in omega (arith, entries, capacity);
   flight = h.few;
@@ -53,7 +54,8 @@ places : (x : Setting) (P : Kept → Type 0) (u : NodeId) (n : NodeState) → No
 places x P u n is =
     sym (fused (λ (s : PeerShape). s.peer) peer_shape (λ (q : PrioPeer). q.peer) (λ q. refl) n.parts.prio.peers)
     ∙ ap (λ (s : Shape). map (λ (p : PeerShape). p.peer) s.prio.peers) is.shape
-    ∙ fused (λ (s : PeerShape). s.peer) (λ n. record { peer = n.0.0; edge = n.1.0; capacity = x.store }) (λ n. n.0.0) (λ n. refl) (neighbours_of (fixed_at x u n.fixed.boot))
+    ∙ fused (λ (s : PeerShape). s.peer) (λ n. record { peer = n.0.0; edge = n.1.0; capacity = x.store }) (λ n. n.0.0) (λ n. refl)
+    (neighbours_of (fixed_at x u n.fixed.boot))
 
 update_placed : (x : Setting) (P : Kept → Type 0) (u : NodeId) (index row : ℕ) (o : Option Kept) → IfSome o (UpdateHolds (sizes_at x P u) index row)
     → IfSome o (λ (y : Kept). row_for x.topology.edges y.body ≡ Some row)
@@ -67,7 +69,8 @@ is_bounded x P u n is =
     let numbers = numbers_after n.calls in
     record {
       flows = is.holds.parts.rel.keys;
-      each_flow = all_weaker (FlowHolds k n.signer.index) (FlowIsBounded x.buffer) n.parts.rel.flows (flow_bounded x P u n.signer.index) is.holds.parts.rel.flows;
+      each_flow = all_weaker (FlowHolds k n.signer.index) (FlowIsBounded x.buffer) n.parts.rel.flows (flow_bounded x P u n.signer.index)
+          is.holds.parts.rel.flows;
       inbox = let entries = prio.inbox.bounded in let capacity = prio.inbox.capacity in omega (arith, entries, capacity);
       peers = places x P u n is;
       each_peer = all_weaker (PrioPeerHolds k numbers _) (PeerIsBounded x.store) n.parts.prio.peers (peer_bounded x P u numbers _) prio.peers;

@@ -57,7 +57,8 @@ settled_calls arts n (Some ack) (Some why) = refl
 settled_calls arts n (Some ack) None = refl
 
 -- a step is one call at most
-step_calls : (arts : Arts) (n : NodeState) (input : Input) (output : Output) (after : NodeState) → NodeStep arts n input output after → after.calls ≤ n.calls + 1
+step_calls : (arts : Arts) (n : NodeState) (input : Input) (output : Output) (after : NodeState) → NodeStep arts n input output after
+    → after.calls ≤ n.calls + 1
 step_calls arts n (steps.Poll v) output after s = subst (λ (m : NodeState). m.calls ≤ n.calls + 1) (sym s.1) (either_calls (call_refusal n v) n _ (omega arith))
 step_calls arts n (steps.Datagram v bytes) output after s =
     let left = before_document arts n v bytes in
@@ -86,7 +87,8 @@ abbrev Few : ℕ → World → Type 0
 Few most w = (u : NodeId) (n : NodeState) → node_in w.nodes u ≡ Some n → n.calls ≤ most
 
 -- one event is one call more at most
-few_after : (arts : Arts) (x : Setting) (es' : List Event) (js' : List Entry) (old w : World) (e : Event) (j : Entry) → SettingFits arts x → Clean arts x es' js' old
+few_after : (arts : Arts) (x : Setting) (es' : List Event) (js' : List Entry) (old w : World) (e : Event) (j : Entry) → SettingFits arts x
+    → Clean arts x es' js' old
     → Few (length es') old → Turn arts x old e j w → (u : NodeId) (n : NodeState) → node_in w.nodes u ≡ Some n → n.calls ≤ length (es' ++ e ∷ [])
 few_after arts x es' js' old w e j fits run before turn u n at = go turn
   where
@@ -207,7 +209,8 @@ none_more n = omega arith
 frame_more : (ds : List Direction) (e : Event) (r : steps.Reply) (u v : NodeId) → MakesFrame e r
     → length (frames_in (directions_after ds e r) u v) ≡ length (frames_in ds u v) + cond (is_poll u v e) 1 0
 frame_more ds (events.Poll a b) r u v made =
-    subst (λ (q : steps.Reply). length (frames_in (directions_after ds (events.Poll a b) q) u v) ≡ length (frames_in ds u v) + cond (is_poll u v (events.Poll a b)) 1 0)
+    subst (λ (q : steps.Reply). length (frames_in (directions_after ds (events.Poll a b) q) u v) ≡ length (frames_in ds u v)
+    + cond (is_poll u v (events.Poll a b)) 1 0)
     (sym made.1) (one_frame ds a b u v (Some made.0))
 frame_more ds (events.Rel a b p) r u v made = none_more (length (frames_in ds u v))
 frame_more ds (events.Prio a b c d f p) r u v made = none_more (length (frames_in ds u v))
@@ -225,14 +228,16 @@ frame_more ds (events.CraftDocument c' v' key' version weights) r u v made = non
 frame_more ds (events.Start a) r u v made = none_more (length (frames_in ds u v))
 frame_more ds (events.Stop a) r u v made = none_more (length (frames_in ds u v))
 
-makes_frame : (arts : Arts) (x : Setting) (es : List Event) (w : World) (n : NodeState) (e : Event) (input : Input) (output : Output) (after : NodeState) (number : ℕ) (words : Words)
+makes_frame : (arts : Arts) (x : Setting) (es : List Event) (w : World) (n : NodeState) (e : Event) (input : Input) (output : Output) (after : NodeState)
+    (number : ℕ) (words : Words)
     → input_of arts x w n e ≡ Some input → NodeStep arts n input output after → reply_word x number output.reply ≡ Some words → MakesFrame e output.reply
 makes_frame arts x es w n (events.Poll a b) input output after number words reaches step told =
     let same : input ≡ steps.Poll b = cc in
     let moves : NodeStep arts n (steps.Poll b) output after = subst (λ i. NodeStep arts n i output after) same step in
     go (call_refusal n b) (ap (λ (o : Output). o.reply) moves.0)
   where
-    go : (r : Option NodeRefused) → output.reply ≡ (steps.refused_call r (steps.replied (steps.Frame (frame_to arts n b)))).reply → MakesFrame (events.Poll a b) output.reply
+    go : (r : Option NodeRefused) → output.reply ≡ (steps.refused_call r (steps.replied (steps.Frame (frame_to arts n b)))).reply
+        → MakesFrame (events.Poll a b) output.reply
     go None is = (frame_to arts n b, is)
     go (Some why) is = absurd (let none : None ≡ Some words = ap (λ (q : steps.Reply). reply_word x number q) (sym is) ∙ told in cc)
 makes_frame arts x es w n (events.Rel a b p) input output after number words reaches step told = tt
@@ -251,11 +256,13 @@ makes_frame arts x es w n (events.CraftDocument c' v' key' version weights) inpu
 makes_frame arts x es w n (events.Start a) input output after number words reaches step told = tt
 makes_frame arts x es w n (events.Stop a) input output after number words reaches step told = tt
 
+-- one more event counts as a poll where it is one
 pub poll_more : (es : List Event) (e : Event) (u v : NodeId) → polls (es ++ e ∷ []) u v ≡ polls es u v + cond (is_poll u v e) 1 0
 poll_more es e u v = sum_by_push (λ y. cond (is_poll u v y) 1 0) es e
 
 -- a poll of a node that doesn't run counts too
-missed_more : (ds : List Direction) (e : Event) (u v : NodeId) → length (frames_in (directions_missed ds e) u v) ≡ length (frames_in ds u v) + cond (is_poll u v e) 1 0
+missed_more : (ds : List Direction) (e : Event) (u v : NodeId)
+    → length (frames_in (directions_missed ds e) u v) ≡ length (frames_in ds u v) + cond (is_poll u v e) 1 0
 missed_more ds (events.Poll a b) u v = one_frame ds a b u v None
 missed_more ds (events.Rel a b p) u v = none_more (length (frames_in ds u v))
 missed_more ds (events.Prio a b c d f p) u v = none_more (length (frames_in ds u v))

@@ -74,7 +74,8 @@ never_all true true c h = absurd (let e : true ≡ false = h refl in cc)
 never_all true false c h = refl
 never_all false b c h = refl
 
-none_forged : (arts : Arts) (x : Setting) (es : List Event) (js : List Entry) (answered : List (Kept × Item)) → NewKeep (IsOfCompromised x) answered → forged_object arts x es js answered ≡ None
+none_forged : (arts : Arts) (x : Setting) (es : List Event) (js : List Entry) (answered : List (Kept × Item)) → NewKeep (IsOfCompromised x) answered
+    → forged_object arts x es js answered ≡ None
 none_forged arts x es js [] h = refl
 none_forged arts x es js (a ∷ others) h =
     let fine : is_forged arts x es js a ≡ false =
@@ -86,7 +87,8 @@ none_forged arts x es js (a ∷ others) h =
 one_input : (a b : Input) → Some a ≡ Some b → b ≡ a
 one_input a b e = cc
 
-arrived_unforged : (arts : Arts) (x : Setting) (es : List Event) (js : List Entry) (w new : World) (e : Event) (j : Entry) (m : Move arts x w e j new) (c : NodeId) (contents : Contents)
+arrived_unforged : (arts : Arts) (x : Setting) (es : List Event) (js : List Entry) (w new : World) (e : Event) (j : Entry) (m : Move arts x w e j new)
+    (c : NodeId) (contents : Contents)
     → Carries x.topology.format arts → m.node.fixed ≡ fixed_of x (acting e) → is_correct x c ≡ false
     → IsContentsIn x.topology.format x.signature_len contents → HasGoodMessages arts contents
     → AllKeep (IsOfCompromised x) (pieces_of contents)
@@ -106,7 +108,9 @@ arrived_unforged arts x es js w new e j m c contents carries fixed bad range goo
     subst (λ (o : Output). NewKeep P o.answered) (sym moves.0) (called_good P (arrived arts n c bytes) (call_refusal n c)
     (pieces_new P arts (arrival_at n c) (parts_met arts n c bytes) (pieces_at arts n c bytes)
     (where_keep P (reply_at arts n c bytes) (pieces_in n.fixed (sections_in arts n.fixed bytes)) pieces))) in
-    let tag : has_forged_tag arts x w n m.input ≡ false = ap (has_forged_tag arts x w n) is ∙ never_first (is_correct x c) (is_tagged (reply_at arts n c bytes)) (is_made bytes (frames_in w.directions c n.fixed.me)) bad in
+    let tag : has_forged_tag arts x w n m.input ≡ false =
+    ap (has_forged_tag arts x w n) is
+    ∙ never_first (is_correct x c) (is_tagged (reply_at arts n c bytes)) (is_made bytes (frames_in w.directions c n.fixed.me)) bad in
     let left = before_document arts n c bytes in
     let untouched : forged_document arts es (document_adopted arts left (document_at arts n c bytes)) ≡ None =
     where_forges arts es left (reply_at arts n c bytes) (document_in (sections_in arts n.fixed bytes))
@@ -120,7 +124,8 @@ arrived_unforged arts x es js w new e j m c contents carries fixed bad range goo
 
 -- ---- what is no frame
 
-untagged : (arts : Arts) (f : Fixed) (version : ℕ) (shut : Bool) (l : Link) (bytes : List ℕ) (refused : FrameRefused) → is_tagged (of_frame arts f version shut l bytes (Err refused)) ≡ false
+untagged : (arts : Arts) (f : Fixed) (version : ℕ) (shut : Bool) (l : Link) (bytes : List ℕ) (refused : FrameRefused)
+    → is_tagged (of_frame arts f version shut l bytes (Err refused)) ≡ false
 untagged arts f version shut l bytes frames.TooLong = refl
 untagged arts f version shut l bytes (frames.Short short) = refl
 untagged arts f version shut l bytes frames.Magic = refl
@@ -154,15 +159,19 @@ no_frame_is_forged arts x es js w new u v bytes j none (Moves m) =
     let reply : reply_at arts n u bytes ≡ of_frame arts n.fixed version shut (link_in n u) bytes (Err none.0) =
     ap (of_frame arts n.fixed version shut (link_in n u) bytes) none.1 in
     let read = pieces_in n.fixed (sections_in arts n.fixed bytes) in
-    let pieces : AllKeep P (pieces_where (reply_at arts n u bytes) read) = subst (λ r. AllKeep P (pieces_where r read)) (sym reply) (no_pieces P arts n.fixed version shut (link_in n u) bytes none.0 read) in
+    let pieces : AllKeep P (pieces_where (reply_at arts n u bytes) read) =
+    subst (λ r. AllKeep P (pieces_where r read)) (sym reply) (no_pieces P arts n.fixed version shut (link_in n u) bytes none.0 read) in
     let news : NewKeep P m.output.answered =
     subst (λ (o : Output). NewKeep P o.answered) (sym moves.0) (called_good P (arrived arts n u bytes) (call_refusal n u)
     (pieces_new P arts (arrival_at n u) (parts_met arts n u bytes) (pieces_where (reply_at arts n u bytes) read) pieces)) in
     let tag : has_forged_tag arts x there n m.input ≡ false =
-    ap (has_forged_tag arts x there n) is ∙ never_second (is_correct x u) (is_tagged (reply_at arts n u bytes)) (is_made bytes (frames_in there.directions u n.fixed.me)) (ap is_tagged reply ∙ untagged arts n.fixed version shut (link_in n u) bytes none.0) in
+    ap (has_forged_tag arts x there n) is
+    ∙ never_second (is_correct x u) (is_tagged (reply_at arts n u bytes)) (is_made bytes (frames_in there.directions u n.fixed.me))
+    (ap is_tagged reply ∙ untagged arts n.fixed version shut (link_in n u) bytes none.0) in
     let left = before_document arts n u bytes in
     let untouched : forged_document arts es (document_adopted arts left (document_at arts n u bytes)) ≡ None =
-    ap (λ (o : Option (List ℕ)). forged_document arts es (document_adopted arts left o)) (ap (λ r. document_where r (document_in (sections_in arts n.fixed bytes))) reply
+    ap (λ (o : Option (List ℕ)). forged_document arts es (document_adopted arts left o))
+    (ap (λ r. document_where r (document_in (sections_in arts n.fixed bytes))) reply
     ∙ no_document arts n.fixed version shut (link_in n u) bytes none.0 (document_in (sections_in arts n.fixed bytes))) in
     neither_both _ _ _ tag (none_forged arts x es js m.output.answered news)
     (ap (λ (o : Output). forged_document arts es o.adopted) moves.0 ∙ call_forges arts es (call_refusal n u) (arrived arts n u bytes) untouched)
@@ -246,13 +255,15 @@ object_fits : (format len : ℕ) (lives : List Life) → HoldNone lives → (bod
     → HasGoodFieldsIn format body → length signature ≡ len → len < 65536
     → IsContentsIn format len (object_alone lives body (record { body = body; signature = signature }))
 object_fits format len lives none (bodies.Prio p) signature good long short =
-    with_fits format len [] ((1, record { body = bodies.Prio p; signature = signature }) ∷ []) None (omega arith) (All-nil (IsObject format kinds.Weight len)) (omega arith)
+    with_fits format len [] ((1, record { body = bodies.Prio p; signature = signature }) ∷ []) None (omega arith) (All-nil (IsObject format kinds.Weight len))
+    (omega arith)
     (All-cons (IsNumbered format len) (1, record { body = bodies.Prio p; signature = signature }) []
     (record { number = omega arith; object = record { fields = good; is = refl; long = long; fits = short } }) (All-nil (IsNumbered format len))) tt
 object_fits format len lives none (bodies.Rel r) signature good long short =
     let fields = good_rel format r good in
     let few = few_nodes format in
-    slot_fits format len 0 0 lives none (record { src = r.src; dst = r.dst }) None (record { body = bodies.Rel r; signature = signature } ∷ []) (omega (arith, fields.src.1, few))
+    slot_fits format len 0 0 lives none (record { src = r.src; dst = r.dst }) None (record { body = bodies.Rel r; signature = signature } ∷ [])
+    (omega (arith, fields.src.1, few))
     (omega (arith, fields.dst.1, few)) (omega arith) (omega arith) tt (omega arith)
     (All-cons (IsObject format kinds.Rel len) (record { body = bodies.Rel r; signature = signature }) []
     (record { fields = good; is = refl; long = long; fits = short }) (All-nil (IsObject format kinds.Rel len)))
@@ -265,7 +276,8 @@ object_fits format len lives none (bodies.Ack a) signature good long short =
 object_fits format len lives none (bodies.Weight w) signature good long short =
     with_fits format len (record { body = bodies.Weight w; signature = signature } ∷ []) [] None (omega arith)
     (All-cons (IsObject format kinds.Weight len) (record { body = bodies.Weight w; signature = signature }) []
-    (record { fields = good; is = refl; long = long; fits = short }) (All-nil (IsObject format kinds.Weight len))) (omega arith) (All-nil (IsNumbered format len)) tt
+    (record { fields = good; is = refl; long = long; fits = short }) (All-nil (IsObject format kinds.Weight len))) (omega arith)
+    (All-nil (IsNumbered format len)) tt
 object_fits format len lives none (bodies.Krel r) signature good long short = none_fits format len
 object_fits format len lives none (bodies.Kack a) signature good long short = none_fits format len
 object_fits format len lives none (bodies.Epoch e) signature good long short = none_fits format len

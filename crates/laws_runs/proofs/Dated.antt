@@ -270,7 +270,8 @@ pub closed_dated : (p : Parts) (least : List ℕ) (gone : List NodeId) → AreDa
 closed_dated p least gone h = all_map (FlowDated p.lives) (FlowDated p.lives) (ended_where gone) one p.rel.flows h
   where
     one : (f : FlowState) → FlowDated p.lives f → FlowDated p.lives (ended_where gone f)
-    one f is = cond_either (FlowDated p.lives) (f.active && is_over gone (ends f)) (ended f) f (record { messages = All-nil (λ o. NamesHeld p.lives (ends f) o.body); ack = tt }) is
+    one f is = cond_either (FlowDated p.lives) (f.active && is_over gone (ends f)) (ended f) f
+        (record { messages = All-nil (λ o. NamesHeld p.lives (ends f) o.body); ack = tt }) is
 
 -- ---- steps
 

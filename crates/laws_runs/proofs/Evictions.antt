@@ -1,6 +1,7 @@
 -- Which entry of a full place goes, and what share its source keeps.
 use Rattle.laws_runs.specs.Places.{Rising, all_held, as_held, less_held}
-use Rattle.std.proofs.Common.{◌≡◌, ◌<◌, ◌≤◌, ℕ, zero, suc, ◌+◌, ◌-◌, ◌/◌, ◌==◌, Bool, true, false, cond, List, [], ◌∷◌, ◌++◌, length, get_or, filter, Option, Some, None, refl, sym, ap, subst, ◌∙◌, inl, inr, arith, nat_lt}
+use Rattle.std.proofs.Common.{◌≡◌, ◌<◌, ◌≤◌, ℕ, zero, suc, ◌+◌, ◌-◌, ◌/◌, ◌==◌, Bool, true, false, cond, List, [], ◌∷◌, ◌++◌, length, get_or, filter, Option}
+use Rattle.std.proofs.Common.{Some, None, refl, sym, ap, subst, ◌∙◌, inl, inr, arith, nat_lt}
 use Rattle.std.specs.Prelude.{◌||◌, ◌≢◌, AllPairs, Contains, drop}
 use Rattle.std.specs.List.{All, list_any, range_with_len}
 use Rattle.std.specs.Option.{option_and_then}
@@ -27,16 +28,19 @@ rising_low b c (e ∷ es) le h = (omega (arith, le, h.0), h.1)
 
 pub rising_push : (b : ℕ) (es : List Entry) (e : Entry) → All (λ x. x.id < e.id) es → b < e.id → Rising b es → Rising b (es ++ e ∷ [])
 rising_push b [] e all below h = (below, tt)
-rising_push b (x ∷ es) e all below h = (h.0, rising_push x.id es e (All-tail (λ (y : Entry). y.id < e.id) x es all) (All-head (λ (y : Entry). y.id < e.id) x es all) h.1)
+rising_push b (x ∷ es) e all below h =
+    (h.0, rising_push x.id es e (All-tail (λ (y : Entry). y.id < e.id) x es all) (All-head (λ (y : Entry). y.id < e.id) x es all) h.1)
 
 pub rising_less : (b : ℕ) (test : Entry → Bool) (es : List Entry) → Rising b es → Rising b (less_first test es)
 rising_less b test [] h = tt
-rising_less b test (e ∷ es) h = cond_either (Rising b) (test e) es (e ∷ less_first test es) (rising_low b e.id es (omega (arith, h.0)) h.1) (h.0, rising_less e.id test es h.1)
+rising_less b test (e ∷ es) h =
+    cond_either (Rising b) (test e) es (e ∷ less_first test es) (rising_low b e.id es (omega (arith, h.0)) h.1) (h.0, rising_less e.id test es h.1)
 
 pub rising_filter : (b : ℕ) (test : Entry → Bool) (es : List Entry) → Rising b es → Rising b (filter test es)
 rising_filter b test [] h = tt
 rising_filter b test (e ∷ es) h =
-    cond_either (Rising b) (test e) (e ∷ filter test es) (filter test es) (h.0, rising_filter e.id test es h.1) (rising_low b e.id (filter test es) (omega (arith, h.0)) (rising_filter e.id test es h.1))
+    cond_either (Rising b) (test e) (e ∷ filter test es) (filter test es) (h.0, rising_filter e.id test es h.1)
+    (rising_low b e.id (filter test es) (omega (arith, h.0)) (rising_filter e.id test es h.1))
 
 pub rising_drop : (b : ℕ) (es : List Entry) → Rising b es → Rising b (drop 1 es)
 rising_drop b [] h = tt
@@ -71,7 +75,8 @@ any_same (e ∷ es) src = ap (λ t. (source e == src) || t) (any_same es src)
 
 filter_same : {X : Type 0} (p q : X → Bool) → ((x : X) → p x ≡ q x) → (xs : List X) → filter p xs ≡ filter q xs
 filter_same p q same [] = refl
-filter_same {X} p q same (x ∷ xs) = ap (λ (t : Bool). cond t (x ∷ filter p xs) (filter p xs)) (same x) ∙ ap (λ (ys : List X). cond (q x) (x ∷ ys) ys) (filter_same p q same xs)
+filter_same {X} p q same (x ∷ xs) =
+    ap (λ (t : Bool). cond t (x ∷ filter p xs) (filter p xs)) (same x) ∙ ap (λ (ys : List X). cond (q x) (x ∷ ys) ys) (filter_same p q same xs)
 
 sources_same : (es : List Entry) → sources_held (all_held es) ≡ sources es
 sources_same es = filter_same (λ id. list_any (λ (h : Held). h.src == id) (all_held es)) (has_entries es) (any_same es) ids
@@ -86,7 +91,8 @@ record IsBest (f : ℕ → ℕ) (first count b : ℕ) : Type 0 where
 
 best : (f : ℕ → ℕ) (first count b : ℕ) → first_by (λ x y. nat_lt (f y) (f x)) (range_with_len first count) ≡ Some b → IsBest f first count b
 best f first zero b is = absurd (cc)
-best f first (suc count) b is = go (first_by (λ x y. nat_lt (f y) (f x)) (range_with_len (first + 1) count)) refl (λ c chosen. best f (first + 1) count c chosen)
+best f first (suc count) b is =
+    go (first_by (λ x y. nat_lt (f y) (f x)) (range_with_len (first + 1) count)) refl (λ c chosen. best f (first + 1) count c chosen)
   where
     alone : count ≡ 0 → first ≡ b → IsBest f first (suc count) b
     alone none same = record {
@@ -125,7 +131,8 @@ best f first (suc count) b is = go (first_by (λ x y. nat_lt (f y) (f x)) (range
         })
 
     go : (o : Option ℕ) → first_by (λ x y. nat_lt (f y) (f x)) (range_with_len (first + 1) count) ≡ o
-        → ((c : ℕ) → first_by (λ x y. nat_lt (f y) (f x)) (range_with_len (first + 1) count) ≡ Some c → IsBest f (first + 1) count c) → IsBest f first (suc count) b
+        → ((c : ℕ) → first_by (λ x y. nat_lt (f y) (f x)) (range_with_len (first + 1) count) ≡ Some c → IsBest f (first + 1) count c)
+        → IsBest f first (suc count) b
     go None none rest =
         let chosen : Some (sooner (λ x y. nat_lt (f y) (f x)) first None) ≡ Some b = rw none at is in
         alone (nothing count none) (let same : first ≡ b = cc in same)
@@ -140,7 +147,9 @@ record IsLowest (es : List Entry) (v : Entry) : Type 0 where
 
 pub above_all : (b : ℕ) (es : List Entry) → Rising b es → All (λ e. b < e.id) es
 above_all b [] h = All-nil (λ (e : Entry). b < e.id)
-above_all b (e ∷ es) h = All-cons (λ (x : Entry). b < x.id) e es h.0 (all_weaker (λ (x : Entry). e.id < x.id) (λ (x : Entry). b < x.id) es (λ x far. omega (arith, far, h.0)) (above_all e.id es h.1))
+above_all b (e ∷ es) h =
+    All-cons (λ (x : Entry). b < x.id) e es h.0
+    (all_weaker (λ (x : Entry). e.id < x.id) (λ (x : Entry). b < x.id) es (λ x far. omega (arith, far, h.0)) (above_all e.id es h.1))
 
 low : (b : ℕ) (es : List Entry) (v : Entry) → Rising b es → first_by (λ x y. nat_lt (priority x) (priority y)) es ≡ Some v → IsLowest es v
 low b [] v rising is = absurd (cc)
@@ -148,9 +157,11 @@ low b (e ∷ es) v rising is = go (first_by (λ x y. nat_lt (priority x) (priori
   where
     itself : es ≡ [] → IsLowest (e ∷ es) e
     itself none = record {
-      lowest_of = subst (λ xs. All (λ (y : Entry). priority e ≤ priority y) (e ∷ xs)) (sym none) (All-cons (λ (y : Entry). priority e ≤ priority y) e [] (omega arith) (All-nil (λ (y : Entry). priority e ≤ priority y)));
+      lowest_of = subst (λ xs. All (λ (y : Entry). priority e ≤ priority y) (e ∷ xs)) (sym none)
+          (All-cons (λ (y : Entry). priority e ≤ priority y) e [] (omega arith) (All-nil (λ (y : Entry). priority e ≤ priority y)));
       oldest_of = subst (λ xs. All (λ (y : Entry). priority y ≡ priority e → e.id ≤ y.id) (e ∷ xs)) (sym none)
-          (All-cons (λ (y : Entry). priority y ≡ priority e → e.id ≤ y.id) e [] (λ same. omega arith) (All-nil (λ (y : Entry). priority y ≡ priority e → e.id ≤ y.id)));
+          (All-cons (λ (y : Entry). priority y ≡ priority e → e.id ≤ y.id) e [] (λ same. omega arith)
+          (All-nil (λ (y : Entry). priority y ≡ priority e → e.id ≤ y.id)));
     }
 
     empty : (xs : List Entry) → first_by (λ x y. nat_lt (priority x) (priority y)) xs ≡ None → xs ≡ []
@@ -167,12 +178,16 @@ low b (e ∷ es) v rising is = go (first_by (λ x y. nat_lt (priority x) (priori
     of_two c false goes h =
         let not_lower : priority e ≤ priority c = grind (arith, nat_tests) in
         record {
-          lowest_of = All-cons (λ (y : Entry). priority e ≤ priority y) e es (omega arith) (all_weaker (λ (y : Entry). priority c ≤ priority y) (λ (y : Entry). priority e ≤ priority y) es (λ y far. omega (arith, far, not_lower)) h.lowest_of);
+          lowest_of = All-cons (λ (y : Entry). priority e ≤ priority y) e es (omega arith)
+              (all_weaker (λ (y : Entry). priority c ≤ priority y) (λ (y : Entry). priority e ≤ priority y) es (λ y far. omega (arith, far, not_lower))
+              h.lowest_of);
           oldest_of = All-cons (λ (y : Entry). priority y ≡ priority e → e.id ≤ y.id) e es (λ same. omega arith)
-              (all_weaker (λ (y : Entry). e.id < y.id) (λ (y : Entry). priority y ≡ priority e → e.id ≤ y.id) es (λ y far same. omega (arith, far)) (above_all e.id es rising.1));
+              (all_weaker (λ (y : Entry). e.id < y.id) (λ (y : Entry). priority y ≡ priority e → e.id ≤ y.id) es (λ y far same. omega (arith, far))
+              (above_all e.id es rising.1));
         }
 
-    go : (o : Option Entry) → first_by (λ x y. nat_lt (priority x) (priority y)) es ≡ o → ((c : Entry) → first_by (λ x y. nat_lt (priority x) (priority y)) es ≡ Some c → IsLowest es c) → IsLowest (e ∷ es) v
+    go : (o : Option Entry) → first_by (λ x y. nat_lt (priority x) (priority y)) es ≡ o
+        → ((c : Entry) → first_by (λ x y. nat_lt (priority x) (priority y)) es ≡ Some c → IsLowest es c) → IsLowest (e ∷ es) v
     go None none rest =
         let chosen : Some (sooner (λ x y. nat_lt (priority x) (priority y)) e None) ≡ Some v = rw none at is in
         let same : e ≡ v = cc in
@@ -186,13 +201,15 @@ low b (e ∷ es) v rising is = go (first_by (λ x y. nat_lt (priority x) (priori
 
 all_of_map : (Q : Held → Type 0) (es : List Entry) → All (λ e. Q (as_held e)) es → All Q (all_held es)
 all_of_map Q [] all = All-nil Q
-all_of_map Q (e ∷ es) all = All-cons Q (as_held e) (all_held es) (All-head (λ (x : Entry). Q (as_held x)) e es all) (all_of_map Q es (All-tail (λ (x : Entry). Q (as_held x)) e es all))
+all_of_map Q (e ∷ es) all =
+    All-cons Q (as_held e) (all_held es) (All-head (λ (x : Entry). Q (as_held x)) e es all) (all_of_map Q es (All-tail (λ (x : Entry). Q (as_held x)) e es all))
 
 where_passes : (P : Entry → Type 0) (t : Entry → Bool) (es : List Entry) → All P (filter t es) → All (λ e. t e ≡ true → P e) es
 where_passes P t [] all = All-nil (λ (e : Entry). t e ≡ true → P e)
 where_passes P t (e ∷ es) all = go (t e) refl all (where_passes P t es)
   where
-    go : (b : Bool) → t e ≡ b → All P (cond b (e ∷ filter t es) (filter t es)) → (All P (filter t es) → All (λ x. t x ≡ true → P x) es) → All (λ x. t x ≡ true → P x) (e ∷ es)
+    go : (b : Bool) → t e ≡ b → All P (cond b (e ∷ filter t es) (filter t es)) → (All P (filter t es) → All (λ x. t x ≡ true → P x) es)
+        → All (λ x. t x ≡ true → P x) (e ∷ es)
     go true is all rest = All-cons (λ (x : Entry). t x ≡ true → P x) e es (λ passes. All-head P e (filter t es) all) (rest (All-tail P e (filter t es) all))
     go false is all rest = All-cons (λ (x : Entry). t x ≡ true → P x) e es (λ passes. absurd (let f : true ≡ false = sym passes ∙ is in cc)) (rest all)
 
@@ -278,7 +295,8 @@ the_best : (es : List Entry) (b : ℕ) → fullest es ≡ Some b → IsBest (cou
 unfolding ids
 the_best es b is = best (count_of es) 0 IDS b is
 
-pub is_share : (capacity : ℕ) (es : List Entry) (v : Entry) → Rising 0 es → All (λ e. source e < IDS) es → length es ≡ capacity + 1 → victim es ≡ Some v → IsShare capacity (all_held es) v.id
+pub is_share : (capacity : ℕ) (es : List Entry) (v : Entry) → Rising 0 es → All (λ e. source e < IDS) es → length es ≡ capacity + 1 → victim es ≡ Some v
+    → IsShare capacity (all_held es) v.id
 is_share capacity es v rising small full goes =
     let of = goes_of es v goes in
     let b = of.best_of in
@@ -295,7 +313,8 @@ is_share capacity es v rising small full goes =
     all_weaker (λ (e : Entry). is_of b e ≡ true → priority v ≤ priority e) (λ (e : Entry). source e ≡ source v → priority v ≤ priority e) es
     (λ e is same. is (eq-eqb (source e) b (same ∙ mine))) (where_passes (λ (e : Entry). priority v ≤ priority e) (is_of b) es least.lowest_of) in
     let oldest : All (λ e. source e ≡ source v → priority e ≡ priority v → v.id ≤ e.id) es =
-    all_weaker (λ (e : Entry). is_of b e ≡ true → priority e ≡ priority v → v.id ≤ e.id) (λ (e : Entry). source e ≡ source v → priority e ≡ priority v → v.id ≤ e.id) es
+    all_weaker (λ (e : Entry). is_of b e ≡ true → priority e ≡ priority v → v.id ≤ e.id)
+    (λ (e : Entry). source e ≡ source v → priority e ≡ priority v → v.id ≤ e.id) es
     (λ e is same. is (eq-eqb (source e) b (same ∙ mine))) (where_passes (λ (e : Entry). priority e ≡ priority v → v.id ≤ e.id) (is_of b) es least.oldest_of) in
     record {
       full = all_length es ∙ full;
@@ -309,7 +328,8 @@ is_share capacity es v rising small full goes =
           (λ e below. subst (λ m. count_held (all_held es) (source e) ≤ count_held (all_held es) m) (sym mine)
           (let most = top.most (source e) (omega arith) (omega (arith, below)) in omega (arith, most, count_same es (source e), count_same es b))) small);
       lowest_source = all_of_map (λ h. count_held (all_held es) h.src ≡ count_held (all_held es) (source v) → source v ≤ h.src) es
-          (all_weaker (λ (e : Entry). source e < IDS) (λ (e : Entry). count_held (all_held es) (source e) ≡ count_held (all_held es) (source v) → source v ≤ source e) es
+          (all_weaker (λ (e : Entry). source e < IDS)
+          (λ (e : Entry). count_held (all_held es) (source e) ≡ count_held (all_held es) (source v) → source v ≤ source e) es
           (λ e below same. elim (cases_Bool (nat_lt (source e) (source v))) [
             | inl t ↦
                 let less : source e < source v = grind (arith, nat_tests, t) in
@@ -320,15 +340,19 @@ is_share capacity es v rising small full goes =
           ]) small);
       lowest = all_of_map (λ h. h.src ≡ source v → priority v ≤ h.prio) es lowest;
       first = all_of_map (λ h. h.src ≡ source v → priority v < h.prio) parts.before
-          (sooner_ones v parts.before apart (all_left (λ e. source e ≡ source v → priority v ≤ priority e) parts.before (v ∷ parts.after) (subst (All (λ e. source e ≡ source v → priority v ≤ priority e)) parts.is lowest))
+          (sooner_ones v parts.before apart
+          (all_left (λ e. source e ≡ source v → priority v ≤ priority e) parts.before (v ∷ parts.after)
+          (subst (All (λ e. source e ≡ source v → priority v ≤ priority e)) parts.is lowest))
           (all_left (λ e. source e ≡ source v → priority e ≡ priority v → v.id ≤ e.id) parts.before (v ∷ parts.after)
           (subst (All (λ e. source e ≡ source v → priority e ≡ priority v → v.id ≤ e.id)) parts.is oldest)));
       share =
           let fairly = fair es v (record { own_ids = ids_differ 0 es rising; from_ids = small }) goes in
           let one : length es - 1 ≡ capacity = omega (arith, full) in
-          let rest : less_first (has_id v.id) es ≡ parts.before ++ parts.after = ap (less_first (has_id v.id)) parts.is ∙ less_there v parts.before parts.after apart in
+          let rest : less_first (has_id v.id) es ≡ parts.before ++ parts.after =
+          ap (less_first (has_id v.id)) parts.is ∙ less_there v parts.before parts.after apart in
           let left : count_held (all_held parts.before ++ all_held parts.after) (source v) ≡ count_of (less_first (has_id v.id) es) (source v) =
-          ap (λ hs. count_held hs (source v)) (sym (ap all_held rest ∙ map-append as_held parts.before parts.after)) ∙ count_same (less_first (has_id v.id) es) (source v) in
+          ap (λ hs. count_held hs (source v)) (sym (ap all_held rest ∙ map-append as_held parts.before parts.after))
+          ∙ count_same (less_first (has_id v.id) es) (source v) in
           subst (λ n. n / length (sources_held (all_held es)) ≤ count_held (all_held parts.before ++ all_held parts.after) (source v)) one
           (subst (λ (xs : List ℕ). (length es - 1) / length xs ≤ count_held (all_held parts.before ++ all_held parts.after) (source v)) (sym (sources_same es))
           (subst (λ n. (length es - 1) / length (sources es) ≤ n) (sym left) fairly));

@@ -57,16 +57,19 @@ pub record RelIs (C : Type 0) (s d : NodeId) (S D : List Message) (c : ℕ) (u :
   pub flow : FlowAt C s d S D c (seat_in s d u r) (flow_in r.flows (flow_of s d))
 
 -- a flow that hasn't ended stands as at its node
-pub live : (C : Type 0) (s d : NodeId) (S D : List Message) (c : ℕ) (u : NodeId) (r : RelState) → is_over r.removed (flow_of s d) ≡ false → RelIs C s d S D c u r
+pub live : (C : Type 0) (s d : NodeId) (S D : List Message) (c : ℕ) (u : NodeId) (r : RelState) → is_over r.removed (flow_of s d) ≡ false
+    → RelIs C s d S D c u r
     → FlowAt C s d S D c u (flow_in r.flows (flow_of s d))
 live C s d S D c u r free h = subst (λ (t : Bool). FlowAt C s d S D c (seat t s d u) (flow_in r.flows (flow_of s d))) free h.flow
 
-pub seated : (C : Type 0) (s d : NodeId) (S D : List Message) (c : ℕ) (u : NodeId) (r : RelState) (f : FlowState) → is_over r.removed (flow_of s d) ≡ false → FlowAt C s d S D c u f
+pub seated : (C : Type 0) (s d : NodeId) (S D : List Message) (c : ℕ) (u : NodeId) (r : RelState) (f : FlowState) → is_over r.removed (flow_of s d) ≡ false
+    → FlowAt C s d S D c u f
     → FlowAt C s d S D c (seat_in s d u r) f
 seated C s d S D c u r f free h = subst (λ (t : Bool). FlowAt C s d S D c (seat t s d u) f) (sym free) h
 
 -- ---- rows
 
+-- a row that was replaced is found
 pub first_replaced : {X : Type 0} (p : X → Bool) (none y : X) (xs : List X) → p y ≡ true → list_any p xs ≡ true → first_where p none (replace_where p y xs) ≡ y
 first_replaced p none y [] is some = absurd cc
 first_replaced p none y (x ∷ xs) is some = elim (cases_Bool (p x)) [
@@ -74,6 +77,7 @@ first_replaced p none y (x ∷ xs) is some = elim (cases_Bool (p x)) [
   | inr t ↦ rw (t, t) (first_replaced p none y xs is (rw t at some))
 ]
 
+-- another row is found as before
 pub other_replaced : {X : Type 0} (p q : X → Bool) (none y : X) (xs : List X) → ((x : X) → p x ≡ true → q x ≡ false) → q y ≡ false
     → first_where q none (replace_where p y xs) ≡ first_where q none xs
 other_replaced p q none y [] apart e = refl
@@ -83,7 +87,8 @@ other_replaced p q none y (x ∷ xs) apart e = elim (cases_Bool (p x)) [
 ]
 
 -- a test that passes the new row where it passed the old one
-pub still_there : {X : Type 0} (p q : X → Bool) (y : X) (xs : List X) → ((x : X) → p x ≡ true → q x ≡ true → q y ≡ true) → list_any q xs ≡ true → list_any q (replace_where p y xs) ≡ true
+pub still_there : {X : Type 0} (p q : X → Bool) (y : X) (xs : List X) → ((x : X) → p x ≡ true → q x ≡ true → q y ≡ true) → list_any q xs ≡ true
+    → list_any q (replace_where p y xs) ≡ true
 still_there p q y [] same some = some
 still_there p q y (x ∷ xs) same some = elim (cases_Bool (p x)) [
   | inl t ↦ elim (cases_Bool (q x)) [
@@ -100,6 +105,7 @@ still_there p q y (x ∷ xs) same some = elim (cases_Bool (p x)) [
     or_right true b is = refl
     or_right false b is = is
 
+-- a flow passes for its own ends
 pub is_its : (f : FlowState) (flow : Flow) → ends f ≡ flow → is_flow flow f ≡ true
 is_its f flow e =
     let src : f.src.0 ≡ flow.src.0 = ap (λ (x : Flow). x.src.0) e in
@@ -121,7 +127,8 @@ cases_flow a b = elim (cases_eq a.src.0 b.src.0) [
 -- one flow changed
 pub with_flow_is : (C : Type 0) (s d : NodeId) (S D Sa Da : List Message) (c c2 : ℕ) (u : NodeId) (r : RelState) (flow : Flow) (g : FlowState) → ends g ≡ flow
     → RelIs C s d S D c u r
-    → (flow ≡ flow_of s d → FlowAt C s d Sa Da c2 (seat_in s d u r) g) → ((flow ≡ flow_of s d → ⊥) → FlowAt C s d Sa Da c2 (seat_in s d u r) (flow_in r.flows (flow_of s d)))
+    → (flow ≡ flow_of s d → FlowAt C s d Sa Da c2 (seat_in s d u r) g)
+    → ((flow ≡ flow_of s d → ⊥) → FlowAt C s d Sa Da c2 (seat_in s d u r) (flow_in r.flows (flow_of s d)))
     → RelIs C s d Sa Da c2 u (with_flow r flow g)
 with_flow_is C s d S D Sa Da c c2 u r flow g same h mine others =
     let fl = flow_of s d in
@@ -135,13 +142,15 @@ with_flow_is C s d S D Sa Da c c2 u r flow g same h mine others =
             subst (FlowAt C s d Sa Da c2 (seat_in s d u r)) (sym there) (mine e)
         | inr never ↦
             let there : flow_in (put_flow r.flows flow g) fl ≡ flow_in r.flows fl =
-            other_replaced (is_flow flow) (is_flow fl) (no_flow fl) g r.flows (λ f p. not_its f fl (λ e. never (sym (same_ends f flow p) ∙ e))) (not_its g fl (λ e. never (sym same ∙ e))) in
+            other_replaced (is_flow flow) (is_flow fl) (no_flow fl) g r.flows (λ f p. not_its f fl (λ e. never (sym (same_ends f flow p) ∙ e)))
+            (not_its g fl (λ e. never (sym same ∙ e))) in
             subst (FlowAt C s d Sa Da c2 (seat_in s d u r)) (sym there) (others never)
       ];
     }
 
 -- nothing of the flows changed
-pub same_rows_is : (C : Type 0) (s d : NodeId) (S D : List Message) (c : ℕ) (u : NodeId) (r r2 : RelState) → r2.me ≡ r.me → r2.flows ≡ r.flows → r2.removed ≡ r.removed → RelIs C s d S D c u r → RelIs C s d S D c u r2
+pub same_rows_is : (C : Type 0) (s d : NodeId) (S D : List Message) (c : ℕ) (u : NodeId) (r r2 : RelState) → r2.me ≡ r.me → r2.flows ≡ r.flows
+    → r2.removed ≡ r.removed → RelIs C s d S D c u r → RelIs C s d S D c u r2
 same_rows_is C s d S D c u r r2 e f g h = record {
   me = e ∙ h.me;
   row = subst (λ fs. list_any (is_flow (flow_of s d)) fs ≡ true) (sym f) h.row;
@@ -152,7 +161,8 @@ same_rows_is C s d S D c u r r2 e f g h = record {
 -- ---- each change, of the flow itself
 
 -- more was sent, delivered or acknowledged elsewhere
-pub flow_grown : (C : Type 0) (s d : NodeId) (S T D E : List Message) (c c2 : ℕ) (u : NodeId) (f : FlowState) → (u ≡ s → T ≡ []) → (u ≡ d → E ≡ []) → c ≤ c2 → (u ≡ d → c2 ≡ c)
+pub flow_grown : (C : Type 0) (s d : NodeId) (S T D E : List Message) (c c2 : ℕ) (u : NodeId) (f : FlowState) → (u ≡ s → T ≡ []) → (u ≡ d → E ≡ []) → c ≤ c2
+    → (u ≡ d → c2 ≡ c)
     → FlowAt C s d S D c u f → FlowAt C s d (S ++ T) (D ++ E) c2 u f
 flow_grown C s d S T D E c c2 u f no_t no_e more same h = record {
   base = omega (arith, more, h.base);
@@ -163,8 +173,10 @@ flow_grown C s d S T D E c c2 u f no_t no_e more same h = record {
 }
 
 -- the position is all that matters
-pub same_at : (C : Type 0) (s d : NodeId) (S D : List Message) (c : ℕ) (u : NodeId) (f g : FlowState) → g.at ≡ f.at → FlowAt C s d S D c u f → FlowAt C s d S D c u g
-same_at C s d S D c u f g e h = record { base = rw e h.base; base_end = rw e h.base_end; have_end = rw e h.have_end; have = rw e h.have; have_source = rw e h.have_source }
+pub same_at : (C : Type 0) (s d : NodeId) (S D : List Message) (c : ℕ) (u : NodeId) (f g : FlowState) → g.at ≡ f.at → FlowAt C s d S D c u f
+    → FlowAt C s d S D c u g
+same_at C s d S D c u f g e h =
+    record { base = rw e h.base; base_end = rw e h.base_end; have_end = rw e h.have_end; have = rw e h.have; have_source = rw e h.have_source }
 
 -- a client sent
 pub flow_sent : (C : Type 0) (s d : NodeId) (S D : List Message) (c : ℕ) (f : FlowState) (o : Kept) (m : Message) → (s ≡ d → ⊥) → FlowAt C s d S D c s f
@@ -178,7 +190,8 @@ flow_sent C s d S D c f o m different h = record {
 }
 
 -- another node took the next message
-pub flow_took : (C : Type 0) (s d : NodeId) (S D : List Message) (c : ℕ) (u : NodeId) (f : FlowState) (o : Kept) (p : List ℕ) → (u ≡ s → ⊥) → (u ≡ d → ⊥) → (C → IsIn S (f.at.have + 1) p)
+pub flow_took : (C : Type 0) (s d : NodeId) (S D : List Message) (c : ℕ) (u : NodeId) (f : FlowState) (o : Kept) (p : List ℕ) → (u ≡ s → ⊥) → (u ≡ d → ⊥)
+    → (C → IsIn S (f.at.have + 1) p)
     → FlowAt C s d S D c u f → FlowAt C s d S D c u (pushed f o)
 flow_took C s d S D c u f o p not_s not_d next h = record {
   base = h.base;
@@ -200,7 +213,8 @@ flow_received C s d S D c f q p not_s next h = record {
 }
 
 -- an acknowledgement came
-pub flow_acked : (C : Type 0) (s d : NodeId) (S D : List Message) (c : ℕ) (u : NodeId) (f : FlowState) (o : Kept) → (u ≡ d → ⊥) → number_said o.body ≤ c → (C → c ≤ length S)
+pub flow_acked : (C : Type 0) (s d : NodeId) (S D : List Message) (c : ℕ) (u : NodeId) (f : FlowState) (o : Kept) → (u ≡ d → ⊥) → number_said o.body ≤ c
+    → (C → c ≤ length S)
     → (u ≡ s → number_said o.body ≤ f.at.have) → FlowAt C s d S D c u f → FlowAt C s d S D c u (acknowledged_by f o)
 flow_acked C s d S D c u f o not_d known few at_source h = record {
   base = omega (arith, h.base, known);
@@ -211,7 +225,8 @@ flow_acked C s d S D c u f o not_d known few at_source h = record {
 }
 
 -- the destination signed one
-pub flow_concluded : (C : Type 0) (s d : NodeId) (S D : List Message) (c c2 : ℕ) (f : FlowState) (o : Kept) → (d ≡ s → ⊥) → c ≤ length D → c2 ≡ f.at.have → FlowAt C s d S D c d f
+pub flow_concluded : (C : Type 0) (s d : NodeId) (S D : List Message) (c c2 : ℕ) (f : FlowState) (o : Kept) → (d ≡ s → ⊥) → c ≤ length D → c2 ≡ f.at.have
+    → FlowAt C s d S D c d f
     → FlowAt C s d S D c2 d (concluded f o)
 flow_concluded C s d S D c c2 f o not_s low is h = record {
   base = let at = h.base_end refl in let have = h.have_end refl in omega (arith, at, have, low, is);
@@ -244,7 +259,8 @@ in_more S T q p h = record { number = h.number; there = get_left S T (q - 1) (q,
 -- ---- another version of the topology
 
 -- a flow stands as at no end, too
-pub to_nobody : (C : Type 0) (s d : NodeId) (S D : List Message) (c : ℕ) (w u : NodeId) (f : FlowState) → FlowAt C s d S D c w f → FlowAt C s d S D c (seat true s d u) f
+pub to_nobody : (C : Type 0) (s d : NodeId) (S D : List Message) (c : ℕ) (w u : NodeId) (f : FlowState) → FlowAt C s d S D c w f
+    → FlowAt C s d S D c (seat true s d u) f
 to_nobody C s d S D c w u f h = record {
   base = h.base;
   base_end = λ z. absurd (let n : s.0 + d.0 + 1 ≡ d.0 = ap (λ (v : NodeId). v.0) z in omega (arith, n));
@@ -266,16 +282,19 @@ flow_ended C s d S D c u f = record {
 -- rows stay those of their flows
 any_closed : (more : List NodeId) (fl : Flow) (fs : List FlowState) → list_any (is_flow fl) (map (ended_where more) fs) ≡ list_any (is_flow fl) fs
 any_closed more fl [] = refl
-any_closed more fl (f ∷ fs) = ap₂ (λ (a b : Bool). a || b) (ap (λ (g : Flow). (g.src.0 == fl.src.0) && (g.dst.0 == fl.dst.0)) (same_ends_closed more f)) (any_closed more fl fs)
+any_closed more fl (f ∷ fs) =
+    ap₂ (λ (a b : Bool). a || b) (ap (λ (g : Flow). (g.src.0 == fl.src.0) && (g.dst.0 == fl.dst.0)) (same_ends_closed more f)) (any_closed more fl fs)
 
-in_closed : (more : List NodeId) (fl : Flow) (fs : List FlowState) → list_any (is_flow fl) fs ≡ true → flow_in (map (ended_where more) fs) fl ≡ ended_where more (flow_in fs fl)
+in_closed : (more : List NodeId) (fl : Flow) (fs : List FlowState) → list_any (is_flow fl) fs ≡ true
+    → flow_in (map (ended_where more) fs) fl ≡ ended_where more (flow_in fs fl)
 in_closed more fl [] some = absurd (cc)
 in_closed more fl (f ∷ fs) some = go (is_flow fl f) refl some (in_closed more fl fs)
   where
     same : is_flow fl (ended_where more f) ≡ is_flow fl f
     same = ap (λ (g : Flow). (g.src.0 == fl.src.0) && (g.dst.0 == fl.dst.0)) (same_ends_closed more f)
 
-    go : (t : Bool) → is_flow fl f ≡ t → (t || list_any (is_flow fl) fs) ≡ true → (list_any (is_flow fl) fs ≡ true → flow_in (map (ended_where more) fs) fl ≡ ended_where more (flow_in fs fl))
+    go : (t : Bool) → is_flow fl f ≡ t → (t || list_any (is_flow fl) fs) ≡ true
+        → (list_any (is_flow fl) fs ≡ true → flow_in (map (ended_where more) fs) fl ≡ ended_where more (flow_in fs fl))
         → cond (is_flow fl (ended_where more f)) (ended_where more f) (flow_in (map (ended_where more) fs) fl) ≡ ended_where more (cond t f (flow_in fs fl))
     go true is some rest = ap (λ (t : Bool). cond t (ended_where more f) (flow_in (map (ended_where more) fs) fl)) (same ∙ is)
     go false is some rest = ap (λ (t : Bool). cond t (ended_where more f) (flow_in (map (ended_where more) fs) fl)) (same ∙ is) ∙ rest some
@@ -286,7 +305,8 @@ pub closed_is : (C : Type 0) (s d : NodeId) (S D : List Message) (c : ℕ) (u : 
 closed_is C s d S D c u r more less h = record {
   me = h.me;
   row = any_closed more (flow_of s d) r.flows ∙ h.row;
-  flow = subst (λ (g : FlowState). FlowAt C s d S D c (seat (is_over more (flow_of s d)) s d u) g) (sym (in_closed more (flow_of s d) r.flows h.row)) (go (is_over more (flow_of s d)) refl);
+  flow = subst (λ (g : FlowState). FlowAt C s d S D c (seat (is_over more (flow_of s d)) s d u) g) (sym (in_closed more (flow_of s d) r.flows h.row))
+      (go (is_over more (flow_of s d)) refl);
 }
   where
     f : FlowState

@@ -105,7 +105,8 @@ both_there r flow src dst e =
     stays false b e = absurd (cc)
 
 module _ (C : Type 0) (s d : NodeId) (bs bd : ℕ) (S : List Message) (c : ℕ) (u : NodeId) (different : s ≡ d → ⊥) where
-  still : (D : List Message) (r r2 : RelState) (es : List Effect) → Quiet es → r2.me ≡ r.me → r2.flows ≡ r.flows → r2.removed ≡ r.removed → RelIs C s d S D c u r
+  still : (D : List Message) (r r2 : RelState) (es : List Effect) → Quiet es → r2.me ≡ r.me → r2.flows ≡ r.flows → r2.removed ≡ r.removed
+      → RelIs C s d S D c u r
       → (C → IsPrefix D S) → c ≤ length D
       → Handles C s d S D c u r2 es
   still D r r2 es quiet e f g h prefix low =
@@ -116,7 +117,8 @@ module _ (C : Type 0) (s d : NodeId) (bs bd : ℕ) (S : List Message) (c : ℕ) 
         low = subst (λ (X : List Message). c ≤ length X) (sym none) low;
       }
 
-  chosen : (D : List Message) (answer : Item) (new old : Parts) (es : List Effect) → (is_new answer ≡ true → Handles C s d S D c u new.rel es) → Handles C s d S D c u old.rel []
+  chosen : (D : List Message) (answer : Item) (new old : Parts) (es : List Effect) → (is_new answer ≡ true → Handles C s d S D c u new.rel es)
+      → Handles C s d S D c u old.rel []
       → Handles C s d S D c u (cond (is_new answer) new old).rel (cond (is_new answer) es [])
   chosen D answer new old es here else_ = elim (cases_Bool (is_new answer)) [
     | inl t ↦ rw t (here t)
@@ -142,7 +144,8 @@ module _ (C : Type 0) (s d : NodeId) (bs bd : ℕ) (S : List Message) (c : ℕ) 
       record {
         a = a;
         is = refl;
-        not_to = λ e. absurd (let yes : is_to r (flow_of a.src a.dst) ≡ true = eq-eqb _ _ (ap (λ (v : NodeId). v.0) e) in let f : true ≡ false = sym yes ∙ relay in cc);
+        not_to = λ e. absurd
+            (let yes : is_to r (flow_of a.src a.dst) ≡ true = eq-eqb _ _ (ap (λ (v : NodeId). v.0) e) in let f : true ≡ false = sym yes ∙ relay in cc);
         at_source = λ e. at_most (is_from r (flow_of a.src a.dst)) _ a.seq sent (eq-eqb _ _ (ap (λ (v : NodeId). v.0) e));
         free = both_there r flow a.src a.dst facts.ends;
       }
@@ -205,7 +208,8 @@ module _ (C : Type 0) (s d : NodeId) (bs bd : ℕ) (S : List Message) (c : ℕ) 
       record {
         m = m;
         is = refl;
-        not_from = λ e. absurd (let yes : is_from r (flow_of m.src m.dst) ≡ true = eq-eqb _ _ (ap (λ (v : NodeId). v.0) e) in let f : true ≡ false = sym yes ∙ other in cc);
+        not_from = λ e. absurd
+            (let yes : is_from r (flow_of m.src m.dst) ≡ true = eq-eqb _ _ (ap (λ (v : NodeId). v.0) e) in let f : true ≡ false = sym yes ∙ other in cc);
         next = facts.next ∙ ap (λ fl. (flow_in r.flows fl).at.have + 1) same;
         free = both_there r flow m.src m.dst facts.ends;
       }
@@ -227,7 +231,8 @@ module _ (C : Type 0) (s d : NodeId) (bs bd : ℕ) (S : List Message) (c : ℕ) 
   told_other body never z = elim (cases_Bool (u.0 == d.0)) [
     | inl t ↦
         let dst : (flow_said body).dst ≡ d = sym z ∙ same_node u d (eqb-true _ _ t) in
-        let src : ((flow_said body).src.0 == s.0) ≡ false = ne_eqb _ _ (λ e. never (ap (λ (v : NodeId). flow_of v (flow_said body).dst) (same_node (flow_said body).src s e) ∙ ap (flow_of s) dst)) in
+        let src : ((flow_said body).src.0 == s.0) ≡ false =
+        ne_eqb _ _ (λ e. never (ap (λ (v : NodeId). flow_of v (flow_said body).dst) (same_node (flow_said body).src s e) ∙ ap (flow_of s) dst)) in
         rw (t, src) refl
     | inr t ↦ rw t refl
   ]
@@ -251,7 +256,8 @@ module _ (C : Type 0) (s d : NodeId) (bs bd : ℕ) (S : List Message) (c : ℕ) 
         | inl e ↦
             let ud : u ≡ d = at_dst ∙ ap (λ (x : Flow). x.dst) e in
             let both : flow_of m.src m.dst ≡ flow_of s d = sym said ∙ e in
-            let told : told_here u s d es ≡ (m.seq, m.payload) ∷ [] = told_mine o.body e ud ∙ ap (λ n. (n, payload_of o.body) ∷ []) number ∙ ap (λ p. (m.seq, p) ∷ []) payload in
+            let told : told_here u s d es ≡ (m.seq, m.payload) ∷ [] =
+            told_mine o.body e ud ∙ ap (λ n. (n, payload_of o.body) ∷ []) number ∙ ap (λ p. (m.seq, p) ∷ []) payload in
             let there : C → IsIn S m.seq m.payload = λ k. vouched.message k m got.is (ap (λ (x : Flow). x.src) both) (ap (λ (x : Flow). x.dst) both)
             (boots.0 ∙ ap (λ (x : Flow). held_boot lives x.src) both ∙ holding.src) (boots.1 ∙ ap (λ (x : Flow). held_boot lives x.dst) both ∙ holding.dst) in
             let free : is_over r.removed (flow_of s d) ≡ false = subst (λ fl. is_over r.removed fl ≡ false) both got.free in
@@ -260,8 +266,10 @@ module _ (C : Type 0) (s d : NodeId) (bs bd : ℕ) (S : List Message) (c : ℕ) 
             let received_at : FlowAt C s d S (D ++ (m.seq, m.payload) ∷ []) c u (received f (payload_of o.body)) =
             subst (λ (v : NodeId). FlowAt C s d S (D ++ (m.seq, m.payload) ∷ []) c v (received f (payload_of o.body))) (sym ud)
             (subst (λ (p : List ℕ). FlowAt C s d S (D ++ (m.seq, m.payload) ∷ []) c d (received f p)) (sym payload)
-            (flow_received C s d S D c f m.seq m.payload not_s (λ k. subst (λ q. IsIn S q m.payload) next (there k)) (subst (λ (v : NodeId). FlowAt C s d S D c v f) ud mine))) in
-            let after = with_flow_is C s d S D S (D ++ (m.seq, m.payload) ∷ []) c c u r flow (received f (payload_of o.body)) (found_ends r.flows flow) h (λ z. seated C s d S (D ++ (m.seq, m.payload) ∷ []) c u r (received f (payload_of o.body)) free received_at) (λ never. absurd (never e)) in
+            (flow_received C s d S D c f m.seq m.payload not_s (λ k. subst (λ q. IsIn S q m.payload) next (there k))
+            (subst (λ (v : NodeId). FlowAt C s d S D c v f) ud mine))) in
+            let after = with_flow_is C s d S D S (D ++ (m.seq, m.payload) ∷ []) c c u r flow (received f (payload_of o.body)) (found_ends r.flows flow) h
+            (λ z. seated C s d S (D ++ (m.seq, m.payload) ∷ []) c u r (received f (payload_of o.body)) free received_at) (λ never. absurd (never e)) in
             let length_is : m.seq ≡ length D + 1 = next ∙ ap (λ n. n + 1) (mine.have_end ud) in
             record {
               rel = subst (λ t. RelIs C s d S (D ++ t) c u r2) (sym told) after;
@@ -270,7 +278,8 @@ module _ (C : Type 0) (s d : NodeId) (bs bd : ℕ) (S : List Message) (c : ℕ) 
             }
         | inr never ↦
             let none : D ++ told_here u s d es ≡ D = ap (λ t. D ++ t) (told_other o.body never at_dst) ∙ append-nil D in
-            let after = with_flow_is C s d S D S D c c u r flow (received f (payload_of o.body)) (found_ends r.flows flow) h (λ e. absurd (never e)) (λ z. h.flow) in
+            let after = with_flow_is C s d S D S D c c u r flow (received f (payload_of o.body)) (found_ends r.flows flow) h (λ e. absurd (never e))
+            (λ z. h.flow) in
             record {
               rel = subst (λ X. RelIs C s d S X c u r2) (sym none) after;
               prefix = subst (λ X. C → IsPrefix X S) (sym none) prefix;
@@ -296,7 +305,9 @@ module _ (C : Type 0) (s d : NodeId) (bs bd : ℕ) (S : List Message) (c : ℕ) 
       let both : flow_of m.src m.dst ≡ flow_of s d = sym said ∙ e in
       let src : m.src ≡ s = ap (λ (x : Flow). x.src) both in
       let dst : m.dst ≡ d = ap (λ (x : Flow). x.dst) both in
-      let not_d : u ≡ d → ⊥ = λ z. absurd (let yes : is_to r flow ≡ true = eq-eqb _ _ (ap (λ (v : NodeId). v.0) (h.me ∙ z ∙ sym dst ∙ ap (λ (x : Flow). x.dst) (sym said))) in let g : true ≡ false = sym yes ∙ elsewhere in cc) in
+      let not_d : u ≡ d → ⊥ =
+      λ z. absurd (let yes : is_to r flow ≡ true = eq-eqb _ _ (ap (λ (v : NodeId). v.0) (h.me ∙ z ∙ sym dst ∙ ap (λ (x : Flow). x.dst) (sym said))) in
+      let g : true ≡ false = sym yes ∙ elsewhere in cc) in
       let there : C → IsIn S m.seq m.payload =
       λ k. vouched.message k m got.is src dst (boots.0 ∙ ap (held_boot lives) src ∙ holding.src) (boots.1 ∙ ap (held_boot lives) dst ∙ holding.dst) in
       let free : is_over r.removed (flow_of s d) ≡ false = subst (λ fl. is_over r.removed fl ≡ false) both got.free in
@@ -337,10 +348,13 @@ module _ (C : Type 0) (s d : NodeId) (bs bd : ℕ) (S : List Message) (c : ℕ) 
 
   pub one_handled : (D : List Message) (arts : Arts) (at : Arrival) (p : Parts) (piece : Piece) → NoStart piece → Holding s d bs bd p.lives
       → NewKeep (Vouched C s d bs bd S c) (handle arts at p piece).answered
-      → RelIs C s d S D c u p.rel → (C → IsPrefix D S) → c ≤ length D → Handles C s d S D c u (handle arts at p piece).parts.rel (handle arts at p piece).effects
+      → RelIs C s d S D c u p.rel → (C → IsPrefix D S) → c ≤ length D
+      → Handles C s d S D c u (handle arts at p piece).parts.rel (handle arts at p piece).effects
   one_handled D arts at p (WeightPiece o) none holding new h prefix low =
-      chosen D (items.Weight (weight_answer (is_signed arts at.fixed o) (offer_to at.fixed.me p.weights o.body))) (record p { weights = held p.weights o }) p (weight_effects o.body)
-      (λ t. still D p.rel p.rel (weight_effects o.body) (quiet_weight o.body) refl refl refl h prefix low) (still D p.rel p.rel [] quiet_none refl refl refl h prefix low)
+      chosen D (items.Weight (weight_answer (is_signed arts at.fixed o) (offer_to at.fixed.me p.weights o.body))) (record p { weights = held p.weights o }) p
+      (weight_effects o.body)
+      (λ t. still D p.rel p.rel (weight_effects o.body) (quiet_weight o.body) refl refl refl h prefix low)
+      (still D p.rel p.rel [] quiet_none refl refl refl h prefix low)
   one_handled D arts at p (PrioAckPiece number) none holding new h prefix low = still D p.rel p.rel _
       (quiet_acked p.prio at.from.0 number) refl refl refl h prefix low
   one_handled D arts at p (PrioPiece number o) none holding new h prefix low =
@@ -349,17 +363,23 @@ module _ (C : Type 0) (s d : NodeId) (bs bd : ℕ) (S : List Message) (c : ℕ) 
       subst (λ r. Handles C s d S D c u r (cond (is_new (items.Prio answer)) (prio_effects p.prio o (Some at.from)) []))
       (sym (heard_rel answer at.from number (cond (is_new (items.Prio answer)) admitted p)))
       (chosen D (items.Prio answer) admitted p (prio_effects p.prio o (Some at.from))
-      (λ t. still D p.rel p.rel _ (quiet_prio p.prio o (Some at.from)) refl refl refl h prefix low) (still D p.rel p.rel [] quiet_none refl refl refl h prefix low))
+      (λ t. still D p.rel p.rel _ (quiet_prio p.prio o (Some at.from)) refl refl refl h prefix low)
+      (still D p.rel p.rel [] quiet_none refl refl refl h prefix low))
   one_handled D arts at p (ReportPiece flow sboot dboot base have) none holding new h prefix low =
-      let same = reported_flows (flow_in p.rel.flows flow).active p.rel (with_peer p.rel at.from (told_peer (peer_in p.rel.peers at.from) flow base have)) refl refl refl in
-      cond_either (λ (q : Parts). Handles C s d S D c u q.rel []) (are_held p.lives flow sboot dboot) (record p { rel = reported p.rel at.from flow base have }) p
-      (still D p.rel (reported p.rel at.from flow base have) [] quiet_none same.0 same.1 same.2 h prefix low) (still D p.rel p.rel [] quiet_none refl refl refl h prefix low)
+      let same = reported_flows (flow_in p.rel.flows flow).active p.rel (with_peer p.rel at.from (told_peer (peer_in p.rel.peers at.from) flow base have)) refl
+      refl refl in
+      cond_either (λ (q : Parts). Handles C s d S D c u q.rel []) (are_held p.lives flow sboot dboot) (record p { rel = reported p.rel at.from flow base have })
+      p
+      (still D p.rel (reported p.rel at.from flow base have) [] quiet_none same.0 same.1 same.2 h prefix low)
+      (still D p.rel p.rel [] quiet_none refl refl refl h prefix low)
   one_handled D arts at p (AckPiece flow o) none holding new h prefix low =
-      chosen D (items.Ack (ack_answer (is_signed arts at.fixed o) (is_dated p.lives o.body) (judge_ack_of p.rel flow o.body))) (record p { rel = admit_ack p.rel o }) p []
+      chosen D (items.Ack (ack_answer (is_signed arts at.fixed o) (is_dated p.lives o.body) (judge_ack_of p.rel flow o.body)))
+      (record p { rel = admit_ack p.rel o }) p []
       (λ t. let is = judged.new_ack _ _ _ t in ack_taken D p.lives p.rel flow o holding is.2 is.1 (new.0 t) h prefix low)
       (still D p.rel p.rel [] quiet_none refl refl refl h prefix low)
   one_handled D arts at p (RelPiece flow o) none holding new h prefix low =
-      chosen D (items.Rel (rel_answer (is_signed arts at.fixed o) (is_dated p.lives o.body) (judge_rel_of p.rel flow o.body))) (record p { rel = admit_rel p.rel o }) p (rel_effects p.rel o)
+      chosen D (items.Rel (rel_answer (is_signed arts at.fixed o) (is_dated p.lives o.body) (judge_rel_of p.rel flow o.body)))
+      (record p { rel = admit_rel p.rel o }) p (rel_effects p.rel o)
       (λ t. let is = judged.new_rel _ _ _ t in rel_taken D p.lives p.rel flow o holding is.2 is.1 (new.0 t) h prefix low)
       (still D p.rel p.rel [] quiet_none refl refl refl h prefix low)
   one_handled D arts at p (EpochPiece o) none holding new h prefix low = absurd none

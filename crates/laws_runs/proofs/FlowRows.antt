@@ -57,6 +57,7 @@ has_row nodes s d different from to =
       | inr other ↦ let e : (dst.0 == src.0) ≡ false = ne_eqb dst.0 src.0 other in rw e refl
     ]
 
+-- of two nodes that are known there is a row
 pub row_of_keys : (nodes : List NodeId) (s d : NodeId) (fs : List FlowState) → (s ≡ d → ⊥) → is_one_of nodes s ≡ true → is_one_of nodes d ≡ true
     → map ends fs ≡ pairs_of nodes
     → list_any (is_flow (flow_of s d)) fs ≡ true

@@ -175,7 +175,9 @@ step_of arts x es js old e j new m t is s d correct different before h =
     let w = ready x old e in
     let there = signs_ready arts x es js old e t.keys t.signs in
     let unforged = subst (λ (y : Turn arts x old e j new). forged_in arts x es js old e j new y ≡ None) is t.unforged in
-    let nothing = unforged_both (has_forged_tag arts x w m.node m.input) (forged_object arts x es js m.output.answered) (forged_document arts es m.output.adopted) unforged in
+    let nothing =
+    unforged_both (has_forged_tag arts x w m.node m.input) (forged_object arts x es js m.output.answered) (forged_document arts es m.output.adopted)
+    unforged in
     let ready_h = readied_on arts x s d es js before old e h in
     stepped arts x s d different t.fits t.reads correct es js before w ready_h j m.node e (next_frame w e) m.input m.output m.after m.reaches
     (input_fits arts x es w m.node e m.input t.fits t.reads there.bytes t.range.fields m.reaches) m.step m.journal (there.nodes (acting e) m.node m.is_there)

@@ -117,6 +117,11 @@ module _ (C : Type 0) (s d : NodeId) (bs bd : ℕ) (S D : List Message) (c : ℕ
                   let there = flow ∙ ap (λ (t : Bool). cond t (no_flow (flow_of s d)) (flow_in p.rel.flows (flow_of s d)))
                   (no_end_at v s d (λ z. not_s (ap (λ (w : NodeId). w.0) z)) (λ z. not_d (ap (λ (w : NodeId). w.0) z))) in
                   Same stays (done.others d (λ same. not_d (sym same)) ∙ holding.dst)
-                  (record { me = h.me; row = any_less v (flow_of s d) p.rel.flows ∙ h.row; flow = subst (FlowAt C s d S D c (seat_in s d u p.rel)) (sym there) h.flow })
+                  (record {
+                    me = h.me;
+                    row = any_less v (flow_of s d) p.rel.flows ∙ h.row;
+                    flow =
+                        subst (FlowAt C s d S D c (seat_in s d u p.rel)) (sym there) h.flow;
+                  })
             ]
       ]

@@ -50,7 +50,8 @@ pub record Stepped (arts : Arts) (C : Type 0) (s d : NodeId) (bs bd : ℕ) (S T 
   pub low : max c (acked_here arts bs bd u s d es) ≤ length (D ++ told_here u s d es)
   pub no_t : (u ≡ s → ⊥) → T ≡ []
   pub numbers : C → AreNumbered (length S) T
-  pub messages : C → u ≡ s → (m : Rel) → IsTrue (arts.is_good (bodies.Rel m)) → m.src ≡ s → m.dst ≡ d → is_among (arts.spell (bodies.Rel m)) (flat_map signed_by es) ≡ true
+  pub messages : C → u ≡ s → (m : Rel) → IsTrue (arts.is_good (bodies.Rel m)) → m.src ≡ s → m.dst ≡ d
+      → is_among (arts.spell (bodies.Rel m)) (flat_map signed_by es) ≡ true
       → (m.sboot ≡ bs) × (m.dboot ≡ bd) × IsIn (S ++ T) m.seq m.payload
   -- under other boots nothing was acknowledged
   pub elsewhere : (x y : ℕ) → ((x ≡ bs) × (y ≡ bd) → ⊥) → acked_here arts x y u s d es ≡ 0
@@ -69,7 +70,8 @@ dboot_said _ = 0
 
 module _ (arts : Arts) (reads : ReadsBack arts) (C : Type 0) (s d : NodeId) (bs bd : ℕ) (S D : List Message) (c : ℕ) (u : NodeId) (different : s ≡ d → ⊥) where
   calm : (es : List Effect) (r : RelState) → told_here u s d es ≡ [] → NoneAcked arts u s d es
-      → (C → u ≡ s → (m : Rel) → IsTrue (arts.is_good (bodies.Rel m)) → m.src ≡ s → m.dst ≡ d → is_among (arts.spell (bodies.Rel m)) (flat_map signed_by es) ≡ true → ⊥)
+      → (C → u ≡ s → (m : Rel) → IsTrue (arts.is_good (bodies.Rel m)) → m.src ≡ s → m.dst ≡ d
+      → is_among (arts.spell (bodies.Rel m)) (flat_map signed_by es) ≡ true → ⊥)
       → RelIs C s d S D c u r → (C → IsPrefix D S) → c ≤ length D → Stepped arts C s d bs bd S [] D c u es r
   calm es r none zeros no_message h prefix low =
       let zero = zeros.under bs bd in
@@ -94,7 +96,8 @@ module _ (arts : Arts) (reads : ReadsBack arts) (C : Type 0) (s d : NodeId) (bs 
 
   pub silent : (es : List Effect) (r : RelState) → Quiet es → RelIs C s d S D c u r → (C → IsPrefix D S) → c ≤ length D
       → Stepped arts C s d bs bd S [] D c u es r
-  silent es r quiet h prefix low = calm es r (told_quiet u s d es quiet) (acked_none arts u s d es quiet.no_signature) (no_signature es quiet.no_signature) h prefix low
+  silent es r quiet h prefix low =
+      calm es r (told_quiet u s d es quiet) (acked_none arts u s d es quiet.no_signature) (no_signature es quiet.no_signature) h prefix low
 
   -- another kind of message was signed
   abbrev pub IsOther : Body → Type 0
@@ -120,11 +123,13 @@ module _ (arts : Arts) (reads : ReadsBack arts) (C : Type 0) (s d : NodeId) (bs 
   other_is_no_rel (bodies.Kack w) m is e = cc
   other_is_no_rel (bodies.Epoch w) m is e = cc
 
-  pub signed_other : (body : Body) (es : List Effect) (r : RelState) → IsOther body → IsTrue (arts.is_good body) → Quiet es → RelIs C s d S D c u r → (C → IsPrefix D S) → c ≤ length D
+  pub signed_other : (body : Body) (es : List Effect) (r : RelState) → IsOther body → IsTrue (arts.is_good body) → Quiet es → RelIs C s d S D c u r
+      → (C → IsPrefix D S) → c ≤ length D
       → Stepped arts C s d bs bd S [] D c u (Signed (arts.spell body) ∷ es) r
   signed_other body es r other good quiet h prefix low =
       let one : flat_map signed_by (Signed (arts.spell body) ∷ es) ≡ arts.spell body ∷ [] = ap (λ t. arts.spell body ∷ t) quiet.no_signature in
-      let none : told_here u s d (Signed (arts.spell body) ∷ es) ≡ [] = elim (cases_Bool (u.0 == d.0)) [ inl t ↦ rw t (quiet.no_delivery s) | inr t ↦ rw t refl ] in
+      let none : told_here u s d (Signed (arts.spell body) ∷ es) ≡ [] =
+      elim (cases_Bool (u.0 == d.0)) [ inl t ↦ rw t (quiet.no_delivery s) | inr t ↦ rw t refl ] in
       calm (Signed (arts.spell body) ∷ es) r none (acked_other arts reads u s d (Signed (arts.spell body) ∷ es) body good (other_is_no_ack body other) one)
       (λ k z m good_m src dst among.
       let there : is_among (arts.spell (bodies.Rel m)) (arts.spell body ∷ []) ≡ true = subst (λ xs. is_among (arts.spell (bodies.Rel m)) xs ≡ true) one among in
@@ -164,20 +169,24 @@ module _ (arts : Arts) (reads : ReadsBack arts) (C : Type 0) (s d : NodeId) (bs 
       (us, rw (eq-eqb u.0 s.0 (ap (λ (v : NodeId). v.0) us), eq-eqb dst.0 d.0 (ap (λ (v : NodeId). v.0) dd)) refl) in
       let others : (flow ≡ flow_of s d → ⊥) → T ≡ [] =
       λ never. elim (cases_eq u.0 s.0) [
-        | inl x ↦ rw (eq-eqb u.0 s.0 x, ne_eqb dst.0 d.0 (λ y. never (ap (λ v. flow_of v dst) (me ∙ same_node u s x) ∙ ap (flow_of s) (same_node dst d y)))) refl
+        | inl x ↦ rw (eq-eqb u.0 s.0 x, ne_eqb dst.0 d.0 (λ y. never (ap (λ v. flow_of v dst) (me ∙ same_node u s x) ∙ ap (flow_of s) (same_node dst d y))))
+            refl
         | inr x ↦ rw (ne_eqb u.0 s.0 x) refl
       ] in
       let after = with_flow_is C s d S D (S ++ T) (D ++ []) c c u r flow (pushed f o) (found_ends r.flows flow) h
       (λ e.
       let is = mine e in
       let on : is_over r.removed (flow_of s d) ≡ false = subst (λ fl. is_over r.removed fl ≡ false) e free in
-      let here : FlowAt C s d S D c s f = subst (λ v. FlowAt C s d S D c v f) is.0 (subst (λ fl. FlowAt C s d S D c u (flow_in r.flows fl)) (sym e) (live C s d S D c u r on h)) in
+      let here : FlowAt C s d S D c s f =
+      subst (λ v. FlowAt C s d S D c v f) is.0 (subst (λ fl. FlowAt C s d S D c u (flow_in r.flows fl)) (sym e) (live C s d S D c u r on h)) in
       seated C s d (S ++ T) (D ++ []) c u r (pushed f o) on (subst (λ X. FlowAt C s d (S ++ X) (D ++ []) c u (pushed f o)) (sym is.1)
       (subst (λ v. FlowAt C s d (S ++ m ∷ []) (D ++ []) c v (pushed f o)) (sym is.0) (flow_sent C s d S D c f o m different here))))
-      (λ never. flow_grown C s d S T D [] c c (seat_in s d u r) (flow_in r.flows (flow_of s d)) (λ z. others never) (λ z. refl) (omega arith) (λ z. refl) h.flow) in
+      (λ never. flow_grown C s d S T D [] c c (seat_in s d u r) (flow_in r.flows (flow_of s d)) (λ z. others never) (λ z. refl) (omega arith) (λ z. refl)
+      h.flow) in
       record {
         rel = subst (λ q. RelIs C s d (S ++ T) (D ++ told_here u s d es) q u r2) (sym same_c) (subst (λ X. RelIs C s d (S ++ T) X c u r2) (sym same_d) after);
-        prefix = subst (λ X. C → IsPrefix X (S ++ T)) (sym (same_d ∙ append-nil D)) (λ y. ((prefix y).0 ++ T, ap (λ t. t ++ T) (prefix y).1 ∙ append_assoc D (prefix y).0 T));
+        prefix = subst (λ X. C → IsPrefix X (S ++ T)) (sym (same_d ∙ append-nil D))
+            (λ y. ((prefix y).0 ++ T, ap (λ t. t ++ T) (prefix y).1 ∙ append_assoc D (prefix y).0 T));
         low = subst (λ (X : List Message). max c (acked_here arts bs bd u s d es) ≤ length X) (sym (same_d ∙ append-nil D)) (omega (arith, zero, low));
         no_t = λ never. rw (ne_eqb u.0 s.0 (λ e. never (same_node u s e))) refl;
         numbers = λ y. elim (cases_flow flow (flow_of s d)) [
@@ -231,8 +240,10 @@ module _ (arts : Arts) (reads : ReadsBack arts) (C : Type 0) (s d : NodeId) (bs 
         | inl t ↦ rw t (flat_map-append (delivered_by s) es (Signed (arts.spell (bodies.Ack ack)) ∷ []) ∙ ap (λ t. t ++ []) (quiet.no_delivery s))
         | inr t ↦ rw t refl
       ] in
-      let no_rel : C → u ≡ s → (m : Rel) → IsTrue (arts.is_good (bodies.Rel m)) → m.src ≡ s → m.dst ≡ d → is_among (arts.spell (bodies.Rel m)) (flat_map signed_by all) ≡ true → ⊥ =
-      λ y z m good_m src dst among. elim (among_cons (arts.spell (bodies.Rel m)) (arts.spell (bodies.Ack ack)) [] (subst (λ xs. is_among (arts.spell (bodies.Rel m)) xs ≡ true) one among)) [
+      let no_rel : C → u ≡ s → (m : Rel) → IsTrue (arts.is_good (bodies.Rel m)) → m.src ≡ s → m.dst ≡ d
+      → is_among (arts.spell (bodies.Rel m)) (flat_map signed_by all) ≡ true → ⊥ =
+      λ y z m good_m src dst among. elim
+      (among_cons (arts.spell (bodies.Rel m)) (arts.spell (bodies.Ack ack)) [] (subst (λ xs. is_among (arts.spell (bodies.Rel m)) xs ≡ true) one among)) [
         | inl e ↦ let same : bodies.Ack ack ≡ bodies.Rel m = no_other_is_spelled_so arts reads (bodies.Ack ack) (bodies.Rel m) good good_m e in cc
         | inr g ↦ let x : false ≡ true = g in cc
       ] in
@@ -257,7 +268,8 @@ module _ (arts : Arts) (reads : ReadsBack arts) (C : Type 0) (s d : NodeId) (bs 
             let ever : acked_ever arts u s d all ≡ ack.seq =
             (acked_one arts reads bs bd u s d all (bodies.Ack ack) good one ud).1 ∙ rw (same_src, same_dst) (omega arith) in
             let have : ack.seq ≡ f.at.have = seq ∙ ap (λ fl. (flow_in r.flows fl).at.have) (sym said) in
-            let here : FlowAt C s d S D c d f = subst (λ v. FlowAt C s d S D c v f) ud (subst (λ fl. FlowAt C s d S D c u (flow_in r.flows fl)) (sym e) (live C s d S D c u r on h)) in
+            let here : FlowAt C s d S D c d f =
+            subst (λ v. FlowAt C s d S D c v f) ud (subst (λ fl. FlowAt C s d S D c u (flow_in r.flows fl)) (sym e) (live C s d S D c u r on h)) in
             let end = here.have_end refl in
             let c2 : max c (acked_here arts bs bd u s d all) ≡ f.at.have = omega (arith, number, have, low, end) in
             let not_s : d ≡ s → ⊥ = λ z. different (sym z) in
@@ -268,7 +280,8 @@ module _ (arts : Arts) (reads : ReadsBack arts) (C : Type 0) (s d : NodeId) (bs 
             record {
               rel = subst (λ X. RelIs C s d (S ++ []) X (max c (acked_here arts bs bd u s d all)) u (settled r o)) (sym (ap (λ t. D ++ t) none ∙ append-nil D))
                   (subst (λ X. RelIs C s d X D (max c (acked_here arts bs bd u s d all)) u (settled r o)) (sym (append-nil S)) done);
-              prefix = subst (λ X. C → IsPrefix X (S ++ [])) (sym (ap (λ t. D ++ t) none ∙ append-nil D)) (subst (λ X. C → IsPrefix D X) (sym (append-nil S)) prefix);
+              prefix = subst (λ X. C → IsPrefix X (S ++ [])) (sym (ap (λ t. D ++ t) none ∙ append-nil D))
+                  (subst (λ X. C → IsPrefix D X) (sym (append-nil S)) prefix);
               low = subst (λ (X : List Message). max c (acked_here arts bs bd u s d all) ≤ length X) (sym (ap (λ t. D ++ t) none ∙ append-nil D))
                   (omega (arith, c2, end));
               no_t = λ never. refl;
@@ -282,7 +295,8 @@ module _ (arts : Arts) (reads : ReadsBack arts) (C : Type 0) (s d : NodeId) (bs 
             let zeros : NoneAcked arts u s d all = elim (cases_eq u.0 d.0) [
               | inl z ↦
                   let ud = same_node u d z in
-                  let not_src : eqb ack.src.0 s.0 ≡ false = ne_eqb _ _ (λ x. never (said ∙ ap (λ v. flow_of v ack.dst) (same_node ack.src s x) ∙ ap (flow_of s) (mine ∙ ud))) in
+                  let not_src : eqb ack.src.0 s.0 ≡ false =
+                  ne_eqb _ _ (λ x. never (said ∙ ap (λ v. flow_of v ack.dst) (same_node ack.src s x) ∙ ap (flow_of s) (mine ∙ ud))) in
                   record {
                     under = λ x y. (acked_one arts reads x y u s d all (bodies.Ack ack) good one ud).0 ∙ rw not_src refl;
                     ever = (acked_one arts reads 0 0 u s d all (bodies.Ack ack) good one ud).1 ∙ rw not_src refl;
@@ -307,7 +321,8 @@ module _ (arts : Arts) (reads : ReadsBack arts) (C : Type 0) (s d : NodeId) (bs 
           go None e = absurd (let f : None ≡ Some raw = rw e at is_due in cc)
           go (Some place) e = let x = with_flow_is C s d S D S D c c2 u r (flow_said o.body) (concluded (flow_in r.flows (flow_said o.body)) o)
               (found_ends r.flows (flow_said o.body)) h
-              (λ e. seated C s d S D c2 u r (concluded (flow_in r.flows (flow_said o.body)) o) (subst (λ fl. is_over r.removed fl ≡ false) e free) (when e)) other in
+              (λ e. seated C s d S D c2 u r (concluded (flow_in r.flows (flow_said o.body)) o) (subst (λ fl. is_over r.removed fl ≡ false) e free) (when e))
+              other in
               record { me = x.me; row = x.row; flow = x.flow }
 
   -- ---- a client takes
@@ -317,7 +332,8 @@ module _ (arts : Arts) (reads : ReadsBack arts) (C : Type 0) (s d : NodeId) (bs 
       let flow = flow_to_me r src in
       let f = flow_in r.flows flow in
       with_flow_is C s d S D S D c c u r flow (after_take f) (found_ends r.flows flow) h
-      (λ e. same_at C s d S D c (seat_in s d u r) f (after_take f) refl (subst (λ fl. FlowAt C s d S D c (seat_in s d u r) (flow_in r.flows fl)) (sym e) h.flow)) (λ never. h.flow)
+      (λ e. same_at C s d S D c (seat_in s d u r) f (after_take f) refl
+      (subst (λ fl. FlowAt C s d S D c (seat_in s d u r) (flow_in r.flows fl)) (sym e) h.flow)) (λ never. h.flow)
 
   pub served_step : (r : RelState) (v : NodeId) → RelIs C s d S D c u r → RelIs C s d S D c u (served r v)
   served_step r v h = go (next_place r v)

@@ -78,7 +78,8 @@ pub record FlowsHold (arts : Arts) (x : Setting) (s d : NodeId) (es : List Event
 
 -- ---- what is new is vouched for
 
-pub new_both : (P Q R : Kept → Type 0) → ((o : Kept) → P o → Q o → R o) → (answered : List (Kept × Item)) → NewKeep P answered → NewKeep Q answered → NewKeep R answered
+pub new_both : (P Q R : Kept → Type 0) → ((o : Kept) → P o → Q o → R o) → (answered : List (Kept × Item)) → NewKeep P answered → NewKeep Q answered
+    → NewKeep R answered
 new_both P Q R join [] one two = tt
 new_both P Q R join (a ∷ others) one two = (λ new. join a.0 (one.0 new) (two.0 new), new_both P Q R join others one.1 two.1)
 
@@ -129,13 +130,20 @@ vouched arts reads x s d es js past w bs bd d_correct h o known good one_path = 
 -- ---- one event
 
 -- what a step tells of a client's message
-not_accepted : (s d from to : NodeId) (payload : List ℕ) (refused : SendRefused) (reply : Reply) → refused_word refused ≡ Some reply → accepted_in s d (events.Rel from to payload) reply ≡ []
-not_accepted s d from to payload (refusals.Full base have) reply e = let is : replies.Full base have ≡ reply = cc in subst (λ r. accepted_in s d (events.Rel from to payload) r ≡ []) is refl
-not_accepted s d from to payload (refusals.Expired now) reply e = let is : replies.Expired now ≡ reply = cc in subst (λ r. accepted_in s d (events.Rel from to payload) r ≡ []) is refl
-not_accepted s d from to payload (refusals.NoPaths found) reply e = let is : replies.NoPaths found ≡ reply = cc in subst (λ r. accepted_in s d (events.Rel from to payload) r ≡ []) is refl
-not_accepted s d from to payload (refusals.Low least) reply e = let is : replies.Low least ≡ reply = cc in subst (λ r. accepted_in s d (events.Rel from to payload) r ≡ []) is refl
-not_accepted s d from to payload (refusals.Spent index) reply e = let is : replies.Spent index ≡ reply = cc in subst (λ r. accepted_in s d (events.Rel from to payload) r ≡ []) is refl
-not_accepted s d from to payload refusals.BadEnd reply e = let is : replies.BadEnd ≡ reply = cc in subst (λ r. accepted_in s d (events.Rel from to payload) r ≡ []) is refl
+not_accepted : (s d from to : NodeId) (payload : List ℕ) (refused : SendRefused) (reply : Reply) → refused_word refused ≡ Some reply
+    → accepted_in s d (events.Rel from to payload) reply ≡ []
+not_accepted s d from to payload (refusals.Full base have) reply e = let is : replies.Full base have ≡ reply = cc in
+    subst (λ r. accepted_in s d (events.Rel from to payload) r ≡ []) is refl
+not_accepted s d from to payload (refusals.Expired now) reply e = let is : replies.Expired now ≡ reply = cc in
+    subst (λ r. accepted_in s d (events.Rel from to payload) r ≡ []) is refl
+not_accepted s d from to payload (refusals.NoPaths found) reply e = let is : replies.NoPaths found ≡ reply = cc in
+    subst (λ r. accepted_in s d (events.Rel from to payload) r ≡ []) is refl
+not_accepted s d from to payload (refusals.Low least) reply e = let is : replies.Low least ≡ reply = cc in
+    subst (λ r. accepted_in s d (events.Rel from to payload) r ≡ []) is refl
+not_accepted s d from to payload (refusals.Spent index) reply e = let is : replies.Spent index ≡ reply = cc in
+    subst (λ r. accepted_in s d (events.Rel from to payload) r ≡ []) is refl
+not_accepted s d from to payload refusals.BadEnd reply e = let is : replies.BadEnd ≡ reply = cc in
+    subst (λ r. accepted_in s d (events.Rel from to payload) r ≡ []) is refl
 not_accepted s d from to payload (refusals.NotReserved bound) reply e = absurd (cc)
 not_accepted s d from to payload refusals.Memory reply e = absurd (cc)
 
@@ -149,11 +157,13 @@ accepted_is arts x s d from to number payload n output j None says e =
 accepted_is arts x s d from to number payload n output j (Some refused) says e =
     not_accepted s d from to payload refused j.reply (sym (ap (λ (o : Output). reply_word x number o.reply) e) ∙ says.reply)
 
-pub came_bytes : (u : NodeId) (f : List ℕ → List ℕ) (o : Option (List ℕ)) (i : Input) → option_map (λ bytes. steps.Datagram u (f bytes)) o ≡ Some i → (bytes : List ℕ) × (i ≡ steps.Datagram u bytes)
+pub came_bytes : (u : NodeId) (f : List ℕ → List ℕ) (o : Option (List ℕ)) (i : Input) → option_map (λ bytes. steps.Datagram u (f bytes)) o ≡ Some i
+    → (bytes : List ℕ) × (i ≡ steps.Datagram u bytes)
 came_bytes u f None i e = absurd (cc)
 came_bytes u f (Some bytes) i e = (f bytes, let g : Some (steps.Datagram u (f bytes)) ≡ Some i = e in cc)
 
-pub crafted_bytes : (t : Bool) (c : NodeId) (bytes : List ℕ) (i : Input) → cond t (Some (steps.Datagram c bytes)) None ≡ Some i → (bs : List ℕ) × (i ≡ steps.Datagram c bs)
+pub crafted_bytes : (t : Bool) (c : NodeId) (bytes : List ℕ) (i : Input) → cond t (Some (steps.Datagram c bytes)) None ≡ Some i
+    → (bs : List ℕ) × (i ≡ steps.Datagram c bs)
 crafted_bytes true c bytes i e = (bytes, cc)
 crafted_bytes false c bytes i e = absurd (cc)
 

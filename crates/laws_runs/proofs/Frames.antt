@@ -42,14 +42,17 @@ gives arts n v made None e = cc
 gives arts n v made (Some why) e = absurd cc
 
 -- one event more
-made_after : (arts : Arts) (x : Setting) (es' : List Event) (js' : List Entry) (old w : World) (e : Event) (j : Entry) → SettingFits arts x → Carries x.topology.format arts
-    → Clean arts x es' js' old → InRange x es' e → EachFrame (IsMadeFrame arts x) old.directions → Turn arts x old e j w → EachFrame (IsMadeFrame arts x) w.directions
+made_after : (arts : Arts) (x : Setting) (es' : List Event) (js' : List Entry) (old w : World) (e : Event) (j : Entry) → SettingFits arts x
+    → Carries x.topology.format arts
+    → Clean arts x es' js' old → InRange x es' e → EachFrame (IsMadeFrame arts x) old.directions → Turn arts x old e j w
+    → EachFrame (IsMadeFrame arts x) w.directions
 made_after arts x es' js' old w e j fits carries run range was turn u v place bytes at = go turn
   where
     there : World
     there = ready x old e
 
-    made_by : (n : NodeState) (output : Output) (a b : NodeId) (made : List ℕ) → AreFields x es' (events.Poll a b) → NodeIs x (Good arts x es' js') a n → output ≡ steps.poll_output arts n b
+    made_by : (n : NodeState) (output : Output) (a b : NodeId) (made : List ℕ) → AreFields x es' (events.Poll a b) → NodeIs x (Good arts x es' js') a n
+        → output ≡ steps.poll_output arts n b
         → output.reply ≡ steps.Frame made → IsMadeFrame arts x a b made
     made_by n output a b made within is out reply = record {
       node = n;
@@ -63,7 +66,8 @@ made_after arts x es' js' old w e j fits carries run range was turn u v place by
     moved m a b made poll reply =
         let is = (signs_there arts x es' js' old e fits carries run).nodes (acting e) m.node m.is_there in
         let reaches = subst (λ (y : Event). input_of arts x there m.node y ≡ Some m.input) poll m.reaches in
-        made_by m.node m.output a b made (subst (AreFields x es') poll range.fields) (subst (λ (y : Event). NodeIs x (Good arts x es' js') (acting y) m.node) poll is)
+        made_by m.node m.output a b made (subst (AreFields x es') poll range.fields)
+        (subst (λ (y : Event). NodeIs x (Good arts x es' js') (acting y) m.node) poll is)
         (polled arts x es' there m.node a b m.input m.output m.after made reaches m.step reply) reply
 
     stays : (ds : List Direction) → w.directions ≡ ds → EachFrame (IsMadeFrame arts x) ds → IsMadeFrame arts x u v bytes
@@ -75,11 +79,13 @@ made_after arts x es' js' old w e j fits carries run range was turn u v place by
     life (Stops c is stop) =
         stays (ready x old (events.Stop c)).directions (ap (λ (y : World). y.directions) stop.world)
         (subst (EachFrame (IsMadeFrame arts x)) (sym (ready_frames x old (events.Stop c))) was)
-    life (Nobody other d) = stays (directions_missed old.directions e) (ap (λ (y : World). y.directions) d.world) (frames_missed (IsMadeFrame arts x) old.directions e was)
+    life (Nobody other d) =
+        stays (directions_missed old.directions e) (ap (λ (y : World). y.directions) d.world) (frames_missed (IsMadeFrame arts x) old.directions e was)
 
     go : Turn arts x old e j w → IsMadeFrame arts x u v bytes
     go (Moves m) = stays (directions_after there.directions e m.output.reply) (ap (λ (y : World). y.directions) m.world)
-        (frames_after (IsMadeFrame arts x) there.directions e m.output.reply (moved m) (subst (EachFrame (IsMadeFrame arts x)) (sym (ready_frames x old e)) was))
+        (frames_after (IsMadeFrame arts x) there.directions e m.output.reply (moved m)
+        (subst (EachFrame (IsMadeFrame arts x)) (sym (ready_frames x old e)) was))
     go (Stays s) = stays old.directions (ap (λ (y : World). y.directions) s.world) was
     go (Lives on l) = life (life_case arts x old e j w l)
 

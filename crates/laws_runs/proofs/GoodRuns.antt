@@ -69,7 +69,9 @@ no_effects arts x es js w fits reads (Turned {es = es'} {js = js'} {old = old} {
         ∙ here_is u (λ y. y ∷ []) e j m.output.effects m.journal.effects
         ∙ elim (cases_Bool ((acting e).0 == u.0)) [
           | inl t ↦
-              let right : is_correct x u ≡ true = subst (λ (v : NodeId). is_correct x v ≡ true) (same_node (acting e) u (eqb-true (acting e).0 u.0 t)) (are.nodes (acting e) m.node m.is_there).correct in
+              let right : is_correct x u ≡ true =
+              subst (λ (v : NodeId). is_correct x v ≡ true) (same_node (acting e) u (eqb-true (acting e).0 u.0 t))
+              (are.nodes (acting e) m.node m.is_there).correct in
               absurd (let f : true ≡ false = sym right ∙ wrong in cc)
           | inr t ↦ rw t refl
         ]
@@ -103,6 +105,7 @@ in_bounds arts x es js w fits reads run u place = elim (cases_Bool (is_correct x
 
 -- ---- all promises
 
+-- a run without forgery is good in every state
 pub is_good : (arts : Arts) (x : Setting) (es : List Event) (js : List Entry) (w : World) → StaysUp arts x → Carries x.topology.format arts
     → Clean arts x es js w → IsGood x es js
 is_good arts x es js w fits reads run = record {

@@ -51,6 +51,7 @@ use Rattle.laws_runs.proofs.Tables.{same_node}
 
 -- ---- pieces, and their objects
 
+-- what all pieces keep holds of all objects among them
 pub all_of : (P : Kept → Type 0) (pieces : List Piece) → AllKeep P pieces → All P (objects_in pieces)
 all_of P [] h = All-nil P
 all_of P (piece ∷ pieces) h = All-append P (objects_of piece) (objects_in pieces) (one piece h.0) (all_of P pieces h.1)
@@ -64,6 +65,7 @@ all_of P (piece ∷ pieces) h = All-append P (objects_of piece) (objects_in piec
     one (RelPiece flow o) h = All-cons P o [] h (All-nil P)
     one (EpochPiece o) h = All-cons P o [] h (All-nil P)
 
+-- what holds of all objects among pieces all of these keep
 pub of_all : (P : Kept → Type 0) (pieces : List Piece) → All P (objects_in pieces) → AllKeep P pieces
 of_all P [] h = tt
 of_all P (WeightPiece o ∷ pieces) h = (All-head P o (objects_in pieces) h, of_all P pieces (All-tail P o (objects_in pieces) h))
@@ -118,7 +120,9 @@ new_known arts x es js (a ∷ others) e = elim (cases_Bool (is_forged arts x es 
 ]
 
 pub good_new : (arts : Arts) (x : Setting) (es : List Event) (js : List Entry) (answered : List (Kept × Item)) → NewKeep (Known arts x es js) answered
-    → NewKeep (λ o. IsTrue (is_signed arts (record { me = record { 0 = 0 }; boot = 0; topology = x.topology; document = []; signature_len = 0; admin = []; epochs = false }) o)) answered
+    → NewKeep (λ o. IsTrue
+    (is_signed arts (record { me = record { 0 = 0 }; boot = 0; topology = x.topology; document = []; signature_len = 0; admin = []; epochs = false }) o))
+    answered
     → NewKeep IsOfBytes answered → NewKeep (λ o. IsTrue (arts.is_good o.body)) answered → NewKeep (Good arts x es js) answered
 good_new arts x es js [] one two three four = tt
 good_new arts x es js (a ∷ others) one two three four =
@@ -136,7 +140,8 @@ known_more arts x es js e j even o h = λ correct.
     subst (λ these. is_among (arts.spell o.body) these ≡ true) (sym (told_more (told_at (signer_of o.body) signed_by) es js e j even))
     (among_left (arts.spell o.body) (signed es js (signer_of o.body)) _ (h correct))
 
-pub good_more : (arts : Arts) (x : Setting) (es : List Event) (js : List Entry) (e : Event) (j : Entry) → length es ≡ length js → (o : Kept) → Good arts x es js o
+pub good_more : (arts : Arts) (x : Setting) (es : List Event) (js : List Entry) (e : Event) (j : Entry) → length es ≡ length js → (o : Kept)
+    → Good arts x es js o
     → Good arts x (es ++ e ∷ []) (js ++ j ∷ []) o
 good_more arts x es js e j even o h = record { known = known_more arts x es js e j even o h.known; right = h.right; bytes = h.bytes; good = h.good }
 
@@ -154,14 +159,16 @@ own_known arts x es js w new e j m even me body own =
     let who : signer_of body ≡ acting e = own.mine ∙ me in
     let here : eqb (acting e).0 (signer_of body).0 ≡ true = eq-eqb _ _ (ap (λ (u : NodeId). u.0) (sym who)) in
     let all : is_among (arts.spell body) (flat_map signed_by j.effects) ≡ true =
-    subst (λ es2. is_among (arts.spell body) (flat_map signed_by es2) ≡ true) (sym m.journal.effects) (signs_it m.output.effects own.before own.after (arts.spell body) own.told) in
+    subst (λ es2. is_among (arts.spell body) (flat_map signed_by es2) ≡ true) (sym m.journal.effects)
+    (signs_it m.output.effects own.before own.after (arts.spell body) own.told) in
     subst (λ these. is_among (arts.spell body) these ≡ true) (sym (told_more (told_at (signer_of body) signed_by) es js e j even))
     (among_right (arts.spell body) (signed es js (signer_of body)) _ (rw here all))
 
 -- ---- the arts fit each node
 
 -- in each life, and with any indexes
-pub fit_in : (arts : Arts) (x : Setting) (u : NodeId) (boot : ℕ) (t : Signer) → t.seed ≡ x.seed u.0 → t.total ≡ x.total → ArtsFit arts (fixed_of x u) (first_signer x u)
+pub fit_in : (arts : Arts) (x : Setting) (u : NodeId) (boot : ℕ) (t : Signer) → t.seed ≡ x.seed u.0 → t.total ≡ x.total
+    → ArtsFit arts (fixed_of x u) (first_signer x u)
     → ArtsFit arts (fixed_at x u boot) t
 fit_in arts x u boot t seed total h = record {
   long = rw seed h.long;
@@ -175,7 +182,8 @@ fit_in arts x u boot t seed total h = record {
   carried = h.carried;
 }
 
-pub arts_fit : (arts : Arts) (x : Setting) (P : Kept → Type 0) (u : NodeId) (n : NodeState) → SettingFits arts x → NodeIs x P u n → ArtsFit arts n.fixed n.signer
+pub arts_fit : (arts : Arts) (x : Setting) (P : Kept → Type 0) (u : NodeId) (n : NodeState) → SettingFits arts x → NodeIs x P u n
+    → ArtsFit arts n.fixed n.signer
 arts_fit arts x P u n fits is =
     subst (λ (f : Fixed). ArtsFit arts f n.signer) (sym is.fixed)
     (fit_in arts x u n.fixed.boot n.signer is.seed is.total (fits.each u is.correct))
@@ -209,7 +217,8 @@ plain_start x u n at = go x.epochs refl at
     go true on e = absurd cc
     go false off e = (off, e)
 
-pub starts : (arts : Arts) (x : Setting) (P : Kept → Type 0) → SettingFits arts x → (u : NodeId) (n : NodeState) → node_in (at_start x).nodes u ≡ Some n → NodeIs x P u n
+pub starts : (arts : Arts) (x : Setting) (P : Kept → Type 0) → SettingFits arts x → (u : NodeId) (n : NodeState) → node_in (at_start x).nodes u ≡ Some n
+    → NodeIs x P u n
 starts arts x P fits u n e =
     let at = plain_start x u n e in
     let is = started x (nodes_of x.topology) u n at.1 in
@@ -224,7 +233,8 @@ starts arts x P fits u n e =
       total = refl;
       shape = shapes_begin (fixed_of x u) (first_signer x u) (link_keys x u) x.buffer x.store;
       holds = boot_holds P (fixed_of x u) (first_signer x u) (link_keys x u) x.buffer x.store (record {
-        me = in_range x.topology.format (nodes_of x.topology) u (nodes_hold x.topology.format x.topology.height 0 x.topology.nodes fits.topology.ranges.nodes) among;
+        me = in_range x.topology.format (nodes_of x.topology) u (nodes_hold x.topology.format x.topology.height 0 x.topology.nodes fits.topology.ranges.nodes)
+            among;
         boot = omega arith;
         topology = fits.topology;
         short = fits.short;

@@ -358,7 +358,9 @@ pub turns_keep_boots : TurnsKeepBoots
 turns_keep_boots arts x es js old e j new fits reads keys signs range (Moves m) unforged h =
     let v = ready x old e in
     let there = signs_ready arts x es js old e keys signs in
-    let nothing = unforged_both (has_forged_tag arts x v m.node m.input) (forged_object arts x es js m.output.answered) (forged_document arts es m.output.adopted) unforged in
+    let nothing =
+    unforged_both (has_forged_tag arts x v m.node m.input) (forged_object arts x es js m.output.answered) (forged_document arts es m.output.adopted)
+    unforged in
     let after = turns_keep_signs arts x es js old e j new fits reads keys signs range (Moves m) unforged in
     boots_moved arts x es js signs.entries e j v new fits reads there (boots_ready arts x es js old e h) m
     (input_fits arts x es v m.node e m.input fits reads there.bytes range.fields m.reaches) nothing.1

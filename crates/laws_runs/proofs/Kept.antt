@@ -37,7 +37,8 @@ good arts x es js o h =
 -- the same sizes are read off the node
 pub read_off : (x : Setting) (P : Kept → Type 0) (u : NodeId) (n : NodeState) → NodeHolds (sizes_at x P u) n → NodeHolds (sizes_of P n) n
 read_off x P u n h =
-    subst (λ (k : Sizes). NodeHolds k n) (same h.fixed.me h.fixed.format h.fixed.nodes h.fixed.edges h.fixed.signature_len h.parts.rel.bound h.parts.prio.capacity) h
+    subst (λ (k : Sizes). NodeHolds k n)
+    (same h.fixed.me h.fixed.format h.fixed.nodes h.fixed.edges h.fixed.signature_len h.parts.rel.bound h.parts.prio.capacity) h
   where
     same : n.fixed.me ≡ u → n.fixed.topology.format ≡ x.topology.format → nodes_of n.fixed.topology ≡ nodes_of x.topology
         → n.fixed.topology.edges ≡ x.topology.edges → n.fixed.signature_len ≡ x.signature_len
@@ -56,5 +57,6 @@ what_is_kept_was_signed arts x es js w fits reads run =
       kept = λ u n at.
           let is = h.nodes u n at in
           read_off x Q u n (node_weaker (sizes_at x (Good arts x es js) u) Q (good arts x es js) n is.holds);
-      sent = λ u v k bytes s at read. all_of Q (pieces_of s) (all_good arts x es js (pieces_of s) (of_all (Good arts x es js) (pieces_of s) (h.frames u v k bytes s at read)));
+      sent = λ u v k bytes s at read. all_of Q (pieces_of s)
+          (all_good arts x es js (pieces_of s) (of_all (Good arts x es js) (pieces_of s) (h.frames u v k bytes s at read)));
     }

@@ -1,5 +1,6 @@
 -- In a run with epochs each node that runs is started, and has the boot and the bound of its key file.
-use Rattle.std.proofs.Common.{◌≡◌, ◌≤◌, ◌+◌, ◌-◌, ℕ, zero, suc, Bool, true, false, cond, eqb, List, [], ◌∷◌, ◌++◌, length, map, replicate, Option, Some, None, refl, sym, ap, subst, ◌∙◌, inl, inr, arith}
+use Rattle.std.proofs.Common.{◌≡◌, ◌≤◌, ◌+◌, ◌-◌, ℕ, zero, suc, Bool, true, false, cond, eqb, List, [], ◌∷◌, ◌++◌, length, map, replicate, Option, Some, None}
+use Rattle.std.proofs.Common.{refl, sym, ap, subst, ◌∙◌, inl, inr, arith}
 use Rattle.std.specs.Prelude.{◌==◌, ◌||◌, not, IsTrue, slice_index_or}
 use Rattle.std.specs.List.{list_any}
 use Rattle.std.proofs.lemmas.Bool.{cases_Bool, eq-eqb, eqb-true, ne_eqb}
@@ -44,11 +45,13 @@ within u (n ∷ nodes) there = elim (cases_Bool (eqb n.id.0 u.0)) [
   | inr t ↦ let rest = within u nodes (rw t at there) in omega (arith, rest)
 ]
 
+-- a correct node has a key file
 pub has_file : (arts : Arts) (x : Setting) (es : List Event) (w : World) (u : NodeId) → SettingFits arts x → IsTrue (is_correct x u) → KeysStand x es w
     → IsOneOf w.keys u
 has_file arts x es w u fits correct h =
     let among = (both (is_node x u) (not (is_one_of x.bad u)) correct).0 in
-    let node = in_range x.topology.format (nodes_of x.topology) u (nodes_hold x.topology.format x.topology.height 0 x.topology.nodes fits.topology.ranges.nodes) among in
+    let node = in_range x.topology.format (nodes_of x.topology) u (nodes_hold x.topology.format x.topology.height 0 x.topology.nodes fits.topology.ranges.nodes)
+    among in
     let least = node.0 in
     let most = within u x.topology.nodes among in
     let many = h.many in
@@ -115,7 +118,8 @@ ready_keys x es w e h = go x.epochs refl (node_in w.nodes (acting e)) refl
         record {
           many = many ∙ h.many;
           numbers = λ u. any_numbers (AreNumbers x.total (length es + 1)) w.keys b.fixed.me u new one
-              (reserved_numbers x.total (length es) (numbers_at w.keys b.fixed.me) (h.numbers b.fixed.me)) (later x.total (length es) (numbers_at w.keys u) (h.numbers u));
+              (reserved_numbers x.total (length es) (numbers_at w.keys b.fixed.me) (h.numbers b.fixed.me))
+              (later x.total (length es) (numbers_at w.keys u) (h.numbers u));
           nodes = λ also u n there. elim (node_put u b.fixed.me (extended b (next_bound x.total (numbers_at w.keys b.fixed.me))) n w.nodes refl there) [
             | inl it ↦
                 let same : u.0 ≡ b.fixed.me.0 = ap (λ (v : NodeId). v.0) it.0 in
@@ -150,6 +154,7 @@ ready_keys x es w e h = go x.epochs refl (node_in w.nodes (acting e)) refl
     go true on None at = as_it_was x es w h
     go true on (Some b) at = short b on at (is_short b)
 
+-- after reserves each node still runs once
 pub ready_once : (x : Setting) (es : List Event) (w : World) (e : Event) → x.epochs ≡ true → KeysStand x es w → AreOnce (ready x w e).nodes
 ready_once x es w e on h = (ready_keys x es w e h).once on
 
@@ -297,7 +302,13 @@ exhausted_stands x es w u h =
       files = λ on. record {
         nodes = λ v n at.
             let was = (h.files on).nodes v n at in
-            record { there = was.there; started = more_started es (events.Start u) v.0 ∙ rw was.started (either (eqb u.0 v.0)); boot = was.boot; bound = was.bound };
+            record {
+              there = was.there;
+              started = more_started es (events.Start u) v.0 ∙ rw was.started (either (eqb u.0 v.0));
+              boot = was.boot;
+              bound =
+                  was.bound;
+            };
         once = (h.files on).once;
       };
     }
@@ -327,6 +338,7 @@ stop_stands x es v new u h world =
 
 -- ---- a turn
 
+-- a node that may start hasn't been started
 pub started_before : (x : Setting) (es : List Event) (u : NodeId) → x.epochs ≡ true → may_act x.epochs es (events.Start u) ≡ true → is_started es u.0 ≡ false
 started_before x es u on may = go (is_started es u.0) (rw on at may)
   where
@@ -350,7 +362,8 @@ life_stands arts x es old new e j fits range on h (Starts_now u is start) =
     subst (λ (f : Event). KeysStand x (es ++ f ∷ []) new) (sym is)
     (start_stands arts x es old new u j fits there.fields.0 (started_before x es u on there.may) h start)
 life_stands arts x es old new e j fits range on h (Exhausts u is none) =
-    subst (λ (f : Event). KeysStand x (es ++ f ∷ []) new) (sym is) (subst (KeysStand x (es ++ events.Start u ∷ [])) (sym none.world) (exhausted_stands x es old u h))
+    subst (λ (f : Event). KeysStand x (es ++ f ∷ []) new) (sym is)
+    (subst (KeysStand x (es ++ events.Start u ∷ [])) (sym none.world) (exhausted_stands x es old u h))
 life_stands arts x es old new e j fits range on h (Stops u is stop) =
     subst (λ (f : Event). KeysStand x (es ++ f ∷ []) new) (sym is)
     (stop_stands x es (ready x old (events.Stop u)) new u (ready_keys x es old (events.Stop u) h) stop.world)

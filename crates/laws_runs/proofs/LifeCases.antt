@@ -9,12 +9,14 @@ use Rattle.sp_journal.specs.declared.entry.Entry.{Entry}
 use Rattle.sp_schedule_events.specs.declared.event.Event.{Event}
 use Rattle.sp_schedule_events.specs.declared.event.Event.TheVariants as events
 
+-- the cases of an event of lives
 pub data LifeCase (arts : Arts) (x : Setting) (old : World) (e : Event) (j : Entry) (new : World) : Type 0 where
   Starts_now : (u : NodeId) → e ≡ events.Start u → IsStart arts x old u j new → LifeCase arts x old e j new
   Exhausts : (u : NodeId) → e ≡ events.Start u → IsExhausted x old u j new → LifeCase arts x old e j new
   Stops : (u : NodeId) → e ≡ events.Stop u → IsStop x old u j new → LifeCase arts x old e j new
   Nobody : IsOther e → IsDown old e j new → LifeCase arts x old e j new
 
+-- an event of lives is one of its cases
 pub life_case : (arts : Arts) (x : Setting) (old : World) (e : Event) (j : Entry) (new : World) → Life arts x old e j new → LifeCase arts x old e j new
 life_case arts x old (events.Start u) j new (inl start) = Starts_now u refl start
 life_case arts x old (events.Start u) j new (inr none) = Exhausts u refl none

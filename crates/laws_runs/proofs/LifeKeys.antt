@@ -1,6 +1,7 @@
 -- Over each run, with or without epochs, the one-time indexes of a node rise over all its lives, and so do its boots. A step signs with the next index, and a
 -- start takes the indexes from the bound of the key file on.
-use Rattle.std.proofs.Common.{◌≡◌, ◌<◌, ◌≤◌, ℕ, ◌+◌, ◌-◌, ◌==◌, Bool, true, false, cond, List, [], ◌∷◌, ◌++◌, Some, None, refl, sym, ap, subst, ◌∙◌, inl, inr, arith}
+use Rattle.std.proofs.Common.{◌≡◌, ◌<◌, ◌≤◌, ℕ, ◌+◌, ◌-◌, ◌==◌, Bool, true, false, cond, List, [], ◌∷◌, ◌++◌, Some, None, refl, sym, ap, subst, ◌∙◌, inl, inr}
+use Rattle.std.proofs.Common.{arith}
 use Rattle.std.specs.Prelude.{◌⊎◌}
 use Rattle.std.specs.List.{AllPairs, flat_map, list_any}
 use Rattle.std.proofs.lemmas.Bool.{eq-eqb, eqb-true}
@@ -38,7 +39,8 @@ use Rattle.laws_runs.proofs.Signed.{signs}
 use Rattle.laws_runs.proofs.Started.{craft_other, moves_other}
 use Rattle.laws_runs.proofs.StepIndexes.{Uses, Uses_none, Uses_one, step_uses}
 use Rattle.laws_runs.proofs.Tables.{node_is, node_put, same_node}
-use Rattle.laws_runs.proofs.KeyPasts.{PastHolds, UpTo, as_before, below_more, boot_one, in_turn, keys_go_on, more_bound, no_boot, past_goes_on, past_holds, ready_goes_on, sign_one, told_none, up_to_more}
+use Rattle.laws_runs.proofs.KeyPasts.{PastHolds, UpTo, as_before, below_more, boot_one, in_turn, keys_go_on, more_bound, no_boot, past_goes_on, past_holds}
+use Rattle.laws_runs.proofs.KeyPasts.{ready_goes_on, sign_one, told_none, up_to_more}
 
 -- ---- a node moves
 

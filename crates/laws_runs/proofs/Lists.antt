@@ -20,7 +20,8 @@ use Rattle.sp_schedule_events.specs.declared.event.Event.{Event}
 pub told_more : {X : Type 0} (tells : Event × Entry → List X) (es : List Event) (js : List Entry) (e : Event) (j : Entry) → length es ≡ length js
     → told tells (es ++ e ∷ []) (js ++ j ∷ []) ≡ told tells es js ++ tells (e, j)
 told_more tells es js e j even =
-    ap (flat_map tells) (zip-push es js e j even) ∙ flat_map-append tells (zip es js) ((e, j) ∷ []) ∙ ap (λ t. told tells es js ++ t) (append-nil (tells (e, j)))
+    ap (flat_map tells) (zip-push es js e j even) ∙ flat_map-append tells (zip es js) ((e, j) ∷ [])
+    ∙ ap (λ t. told tells es js ++ t) (append-nil (tells (e, j)))
 
 -- what an event tells at a node is what its effects tell
 pub here_is : {X : Type 0} (v : NodeId) (tells : Effect → List X) (e : Event) (j : Entry) (es : List Effect) → j.effects ≡ es
@@ -41,6 +42,7 @@ nothing_told v tells es js e j same none =
 
 -- ---- two tests
 
+-- where two together are so, each is
 pub both : (x y : Bool) → (x && y) ≡ true → (x ≡ true) × (y ≡ true)
 both true true e = (refl, refl)
 both true false e = absurd cc
@@ -48,10 +50,12 @@ both false y e = absurd cc
 
 -- ---- strings of bytes
 
+-- a list of bytes is told as the same as itself
 pub same_bytes : (xs : List ℕ) → pointwise nat_eq xs xs ≡ true
 same_bytes [] = refl
 same_bytes (x ∷ xs) = rw (eq-eqb x x refl, same_bytes xs) refl
 
+-- lists of bytes that are told as the same are equal
 pub are_same : (xs ys : List ℕ) → pointwise nat_eq xs ys ≡ true → xs ≡ ys
 are_same [] [] e = refl
 are_same [] (y ∷ ys) e = absurd cc

@@ -12,6 +12,7 @@ pub record SameLife (old new : NodeState) : Type 0 where
   pub bound : new.signer.bound ≡ old.signer.bound
   pub total : new.signer.total ≡ old.signer.total
 
+-- a step stays within its node's life
 pub step_stays : (arts : Arts) (n : NodeState) (input : Input) (output : Output) (new : NodeState) → NodeStep arts n input output new → SameLife n new
 step_stays arts n input output new s =
     let shape = shapes_stay arts n input output new s in

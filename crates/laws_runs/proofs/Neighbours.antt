@@ -1,5 +1,6 @@
 -- The links of a node, in every state: one for each edge at it, with that edge's key.
-use Rattle.std.proofs.Common.{◌≡◌, ◌<◌, ℕ, suc, ◌+◌, ◌==◌, ◌&&◌, ◌||◌, Bool, true, false, cond, eqb, not, nat_lt, List, [], ◌∷◌, ◌++◌, length, map, zip, Option, Some, None, refl, sym, ap, ◌∙◌, inl, inr, arith}
+use Rattle.std.proofs.Common.{◌≡◌, ◌<◌, ℕ, suc, ◌+◌, ◌==◌, ◌&&◌, ◌||◌, Bool, true, false, cond, eqb, not, nat_lt, List, [], ◌∷◌, ◌++◌, length, map, zip, Option}
+use Rattle.std.proofs.Common.{Some, None, refl, sym, ap, ◌∙◌, inl, inr, arith}
 use Rattle.std.specs.List.{list_any, position, position_or_len}
 use Rattle.std.proofs.lemmas.Bool.{cases_Bool, eqb-true}
 use Rattle.std.proofs.lemmas.Bool.Decides.{nat_tests}
@@ -74,7 +75,8 @@ any_link : (v : NodeId) (ls : List Link) → list_any (is_link v) ls ≡ list_an
 any_link v [] = refl
 any_link v (l ∷ ls) = ap (λ t. (l.peer.0 == v.0) || t) (any_link v ls)
 
-first_key : (v : NodeId) (none : Link) (ls : List Link) → (first_where (is_link v) none ls).key ≡ (first_where (is_of v) (link_shape none) (map link_shape ls)).key
+first_key : (v : NodeId) (none : Link) (ls : List Link)
+    → (first_where (is_link v) none ls).key ≡ (first_where (is_of v) (link_shape none) (map link_shape ls)).key
 first_key v none [] = refl
 first_key v none (l ∷ ls) = by (l.peer.0 == v.0) (first_key v none ls)
   where
@@ -99,7 +101,8 @@ start_any x f u v place (e ∷ edges) = go (other_end u.0 e) (end_joins u v e) (
   where
     go : (o : Option NodeId) → joins u.0 v.0 e ≡ leads v o
         → list_any (is_of v) (start_links x f (neighbours_from u.0 (place + 1) edges)) ≡ list_any (joins u.0 v.0) edges
-        → list_any (is_of v) (start_links x f (neighbour place o ++ neighbours_from u.0 (place + 1) edges)) ≡ (joins u.0 v.0 e || list_any (joins u.0 v.0) edges)
+        → list_any (is_of v) (start_links x f (neighbour place o ++ neighbours_from u.0 (place + 1) edges))
+        ≡ (joins u.0 v.0 e || list_any (joins u.0 v.0) edges)
     go None is rest = rest ∙ ap (λ t. t || list_any (joins u.0 v.0) edges) (sym is)
     go (Some w) is rest = ap (λ t. (w.0 == v.0) || t) rest ∙ ap (λ t. t || list_any (joins u.0 v.0) edges) (sym is)
 
@@ -116,8 +119,10 @@ start_key x f none u v place (e ∷ edges) some = go (other_end u.0 e) (end_join
     on false is = rw is (omega arith)
 
     go : (o : Option NodeId) → joins u.0 v.0 e ≡ leads v o
-        → (list_any (joins u.0 v.0) edges ≡ true → (first_where (is_of v) none (start_links x f (neighbours_from u.0 (place + 1) edges))).key ≡ x.link_key (place + 1 + later))
-        → (first_where (is_of v) none (start_links x f (neighbour place o ++ neighbours_from u.0 (place + 1) edges))).key ≡ x.link_key (place + position_or_len (joins u.0 v.0) (e ∷ edges))
+        → (list_any (joins u.0 v.0) edges ≡ true
+        → (first_where (is_of v) none (start_links x f (neighbours_from u.0 (place + 1) edges))).key ≡ x.link_key (place + 1 + later))
+        → (first_where (is_of v) none (start_links x f (neighbour place o ++ neighbours_from u.0 (place + 1) edges))).key
+        ≡ x.link_key (place + position_or_len (joins u.0 v.0) (e ∷ edges))
     go None is rest = rest (rw is at some) ∙ ap x.link_key (sym (on false is))
     go (Some w) is rest = elim (cases_Bool (eqb w.0 v.0)) [
       | inl t ↦ rw t (ap x.link_key (sym (on true (is ∙ t))))

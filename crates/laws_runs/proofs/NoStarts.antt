@@ -32,6 +32,7 @@ abbrev pub NoStarts : List Piece → Type 0
 NoStarts [] = Unit {0}
 NoStarts (piece ∷ pieces) = NoStart piece × NoStarts pieces
 
+-- pieces of which none says of a start say of none
 pub none_map : {X : Type 0} (f : X → Piece) → ((x : X) → NoStart (f x)) → (xs : List X) → NoStarts (map f xs)
 none_map f each [] = tt
 none_map f each (x ∷ xs) = (each x, none_map f each xs)
@@ -132,6 +133,7 @@ greeted_as_it_was : (epochs risen : Bool) (v : NodeId) (p : Parts) → epochs �
 greeted_as_it_was true risen v p plain = absurd (cc)
 greeted_as_it_was false risen v p plain = refl
 
+-- without epochs a datagram tells no start
 pub met_as_it_was : (arts : Arts) (n : NodeState) (v : NodeId) (bytes : List ℕ) → n.fixed.epochs ≡ false → parts_met arts n v bytes ≡ n.parts
 met_as_it_was arts n v bytes plain = greeted_as_it_was n.fixed.epochs (has_risen (link_in n v) (link_after arts n v bytes)) v n.parts plain
 

@@ -71,7 +71,8 @@ module _ (u : NodeId) where
 
   -- ---- arrivals
 
-  chosen : (answer : Item) (new old : Parts) (es : List Effect) → (is_new answer ≡ true → Keeps new es) → old.rel.me ≡ u → Keeps (cond (is_new answer) new old) (cond (is_new answer) es [])
+  chosen : (answer : Item) (new old : Parts) (es : List Effect) → (is_new answer ≡ true → Keeps new es) → old.rel.me ≡ u
+      → Keeps (cond (is_new answer) new old) (cond (is_new answer) es [])
   chosen answer new old es here stays = elim (cases_Bool (is_new answer)) [
     | inl t ↦ rw t (here t)
     | inr t ↦ rw t (stays, refl)
@@ -119,25 +120,34 @@ module _ (u : NodeId) where
   piece_keeps : (arts : Arts) (at : Arrival) (p : Parts) (piece : Piece) → NoStart piece → p.rel.me ≡ u
       → Keeps (handle arts at p piece).parts (handle arts at p piece).effects
   piece_keeps arts at p (WeightPiece o) none me =
-      chosen (items.Weight (weight_answer (is_signed arts at.fixed o) (offer_to at.fixed.me p.weights o.body))) (record p { weights = held p.weights o }) p (weight_effects o.body)
+      chosen (items.Weight (weight_answer (is_signed arts at.fixed o) (offer_to at.fixed.me p.weights o.body))) (record p { weights = held p.weights o }) p
+      (weight_effects o.body)
       (λ t. (me, (quiet_weight o.body).no_delivery u)) me
   piece_keeps arts at p (PrioAckPiece n) none me = (me, (quiet_acked p.prio at.from.0 n).no_delivery u)
   piece_keeps arts at p (PrioPiece n o) none me =
       let answer = prio_answer (is_signed arts at.fixed o) (is_dated p.lives o.body) (judge_prio p.prio o.body at.now) in
       let admitted = record p { prio = admit_prio p.prio o (Some at.from) } in
-      let done = chosen (items.Prio answer) admitted p (prio_effects p.prio o (Some at.from)) (λ t. (me, (quiet_prio p.prio o (Some at.from)).no_delivery u)) me in
+      let done = chosen (items.Prio answer) admitted p (prio_effects p.prio o (Some at.from)) (λ t. (me, (quiet_prio p.prio o (Some at.from)).no_delivery u))
+      me in
       (heard_me answer at.from n (cond (is_new (items.Prio answer)) admitted p) ∙ done.0, done.1)
   piece_keeps arts at p (ReportPiece flow sboot dboot base have) none me =
       let reports = either_me (flow_in p.rel.flows flow).active p.rel (with_peer p.rel at.from (told (peer_in p.rel.peers at.from) flow base have)) refl in
       (where_me (are_held p.lives flow sboot dboot) (record p { rel = reported p.rel at.from flow base have }) p reports ∙ me, refl)
   piece_keeps arts at p (AckPiece flow o) none me =
-      chosen (items.Ack (ack_answer (is_signed arts at.fixed o) (is_dated p.lives o.body) (judge_ack_of p.rel flow o.body))) (record p { rel = admit_ack p.rel o }) p [] (λ t. (me, refl)) me
+      chosen (items.Ack (ack_answer (is_signed arts at.fixed o) (is_dated p.lives o.body) (judge_ack_of p.rel flow o.body)))
+      (record p { rel = admit_ack p.rel o }) p [] (λ t. (me, refl)) me
   piece_keeps arts at p (RelPiece flow o) none me =
-      chosen (items.Rel (rel_answer (is_signed arts at.fixed o) (is_dated p.lives o.body) (judge_rel_of p.rel flow o.body))) (record p { rel = admit_rel p.rel o }) p (rel_effects p.rel o)
-      (λ t. (me, delivery_unheard (is_to p.rel (flow_said o.body)) o.body (other_source p.rel flow o.body me (judged.new_rel (is_signed arts at.fixed o) (is_dated p.lives o.body) (judge_rel_of p.rel flow o.body) t).1))) me
+      chosen (items.Rel (rel_answer (is_signed arts at.fixed o) (is_dated p.lives o.body) (judge_rel_of p.rel flow o.body)))
+      (record p { rel = admit_rel p.rel o }) p (rel_effects p.rel o)
+      (λ t. (
+        me,
+        delivery_unheard (is_to p.rel (flow_said o.body)) o.body
+            (other_source p.rel flow o.body me (judged.new_rel (is_signed arts at.fixed o) (is_dated p.lives o.body) (judge_rel_of p.rel flow o.body) t).1),
+      )) me
   piece_keeps arts at p (EpochPiece o) none me = absurd none
 
-  all_keep : (arts : Arts) (at : Arrival) (p : Parts) (pieces : List Piece) → NoStarts pieces → p.rel.me ≡ u → Keeps (handle_all arts at p pieces).parts (handle_all arts at p pieces).effects
+  all_keep : (arts : Arts) (at : Arrival) (p : Parts) (pieces : List Piece) → NoStarts pieces → p.rel.me ≡ u
+      → Keeps (handle_all arts at p pieces).parts (handle_all arts at p pieces).effects
   all_keep arts at p [] none me = (me, refl)
   all_keep arts at p (piece ∷ pieces) none me =
       let first = handle arts at p piece in
@@ -161,7 +171,8 @@ module _ (u : NodeId) where
   acks arts (Some a) (Some r) = refl
   acks arts (Some a) None = refl
 
-  step_unheard : (arts : Arts) (old new : NodeState) (input : Input) (output : Output) → NodeStep arts old input output new → old.fixed.epochs ≡ false → old.parts.rel.me ≡ u → Unheard output.effects
+  step_unheard : (arts : Arts) (old new : NodeState) (input : Input) (output : Output) → NodeStep arts old input output new → old.fixed.epochs ≡ false
+      → old.parts.rel.me ≡ u → Unheard output.effects
   step_unheard arts old new (steps.Poll v) output step plain me =
       rw step.0 (called (call_refusal old v) (steps.replied (steps.Frame (frame_to arts old v))) refl)
   step_unheard arts old new (steps.Datagram v bytes) output step plain me =
@@ -173,12 +184,14 @@ module _ (u : NodeId) where
   step_unheard arts old new (steps.Tick now) output step plain me =
       rw step.0 (none_both (expired_effects old.parts.prio (time_after old now)) (ack_effects arts (due_now old) (signer_refusal old.signer))
       ((quiet_expired old.parts.prio (time_after old now)).no_delivery u) (acks arts (due_now old) (signer_refusal old.signer)))
-  step_unheard arts old new (steps.SendRel d payload) output step plain me = rw step.0 (sent (rel_refusal old d) (rel_number old d) (rel_sent arts old d payload) refl)
+  step_unheard arts old new (steps.SendRel d payload) output step plain me =
+      rw step.0 (sent (rel_refusal old d) (rel_number old d) (rel_sent arts old d payload) refl)
   step_unheard arts old new (steps.SendPrio m) output step plain me =
       rw step.output_is (sent (send_prio_refusal old m step.choice) old.parts.prio.next (prio_sent arts old m step.choice)
       ((quiet_prio old.parts.prio (own_prio arts old m step.choice) None).no_delivery u))
   step_unheard arts old new (steps.SetWeight v weight) output step plain me =
-      rw step.0 (sent (weight_refusal old v weight) (weight_number old v) (weight_sent arts old v weight) ((quiet_weight (weight_body old v weight)).no_delivery u))
+      rw step.0 (sent (weight_refusal old v weight) (weight_number old v) (weight_sent arts old v weight)
+      ((quiet_weight (weight_body old v weight)).no_delivery u))
   step_unheard arts old new (steps.TakeRel v) output step plain me = rw step.0 refl
   step_unheard arts old new (steps.Publish document) output step plain me = rw step.0 ((quiet_publish arts old document).no_delivery u)
   step_unheard arts old new steps.TakePrio output step plain me = rw step.0 ((quiet_gone 0 Taken (oldest old.parts.prio.inbox)).no_delivery u)

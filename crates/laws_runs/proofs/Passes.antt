@@ -100,7 +100,8 @@ pass_unforged arts x es js w new u v number j fits reads h m =
     let me : m.node.fixed.me ≡ v = ap (λ (f : Fixed). f.me) is.fixed in
     let moves : NodeStep arts m.node (steps.Datagram u it.bytes) m.output m.after = subst (λ i. NodeStep arts m.node i m.output m.after) it.is m.step in
     let pieces = in_good P m.node.fixed (sections_in arts m.node.fixed it.bytes)
-    (λ s read. of_all P (pieces_of s) (h.frames u v it.place it.bytes s it.there (ap (λ (f : Fixed). arts.sections f.signature_len it.bytes) (sym is.fixed) ∙ read))) in
+    (λ s read. of_all P (pieces_of s)
+    (h.frames u v it.place it.bytes s it.there (ap (λ (f : Fixed). arts.sections f.signature_len it.bytes) (sym is.fixed) ∙ read))) in
     let news : NewKeep P m.output.answered =
     subst (λ (o : Output). NewKeep P o.answered) (sym moves.0) (called_good P (arrived arts m.node u it.bytes) (call_refusal m.node u)
     (pieces_new P arts (arrival_at m.node u) (parts_met arts m.node u it.bytes) (pieces_at arts m.node u it.bytes)
@@ -112,7 +113,9 @@ pass_unforged arts x es js w new u v number j fits reads h m =
     (λ s read. h.documents u v it.place it.bytes s it.there (ap (λ (f : Fixed). arts.sections f.signature_len it.bytes) (sym is.fixed) ∙ read))) in
     let tag : has_forged_tag arts x w m.node m.input ≡ false =
     ap (has_forged_tag arts x w m.node) it.is
-    ∙ all_three (is_correct x u) (is_tagged (reply_at arts m.node u it.bytes)) (is_made it.bytes (frames_in w.directions u m.node.fixed.me)) (λ correct tagged. subst (λ (y : NodeId). is_made it.bytes (frames_in w.directions u y) ≡ true) (sym me) (made_get it.bytes (frames_in w.directions u v) it.place it.there)) in
+    ∙ all_three (is_correct x u) (is_tagged (reply_at arts m.node u it.bytes)) (is_made it.bytes (frames_in w.directions u m.node.fixed.me))
+    (λ correct tagged. subst (λ (y : NodeId). is_made it.bytes (frames_in w.directions u y) ≡ true) (sym me)
+    (made_get it.bytes (frames_in w.directions u v) it.place it.there)) in
     neither_both _ _ _ tag (nothing_new arts x es js m.output.answered news)
     (ap (λ (o : Output). forged_document arts es o.adopted) moves.0 ∙ call_forges arts es (call_refusal m.node u) (arrived arts m.node u it.bytes) untouched)
 
@@ -130,7 +133,8 @@ no_call None o e = e
 no_call (Some refused) o e = refl
 
 -- a step by a client, a clock or a poll, or the administrator's hand
-quiet : (arts : Arts) (x : Setting) (es : List Event) (js : List Entry) (w : World) (n : NodeState) (i : Input) (output : Output) (after : NodeState) → NodeStep arts n i output after
+quiet : (arts : Arts) (x : Setting) (es : List Event) (js : List Entry) (w : World) (n : NodeState) (i : Input) (output : Output) (after : NodeState)
+    → NodeStep arts n i output after
     → ((u : NodeId) (bytes : List ℕ) → i ≡ steps.Datagram u bytes → ⊥) → forged arts x es js w n i output ≡ None
 quiet arts x es js w n (steps.Poll v) output after s other =
     neither_both false _ _ refl (none_answered arts x es js _ (ap (λ (o : Output). o.answered) s.0 ∙ no_call (call_refusal n v) _ refl))
@@ -161,8 +165,10 @@ quiet arts x es js w n (steps.Publish document) output after s other =
 never : (o : Option What) (what : What) → o ≡ None → o ≡ Some what → ⊥
 never o what e f = cc
 
-calm : (arts : Arts) (x : Setting) (es : List Event) (js : List Entry) (w new : World) (e : Event) (j : Entry) (m : Move arts x w e j new) (what : What) (i : Input)
-    → input_of arts x w m.node e ≡ Some i → ((u : NodeId) (bytes : List ℕ) → i ≡ steps.Datagram u bytes → ⊥) → forged arts x es js w m.node m.input m.output ≡ Some what → ⊥
+calm : (arts : Arts) (x : Setting) (es : List Event) (js : List Entry) (w new : World) (e : Event) (j : Entry) (m : Move arts x w e j new) (what : What)
+    (i : Input)
+    → input_of arts x w m.node e ≡ Some i → ((u : NodeId) (bytes : List ℕ) → i ≡ steps.Datagram u bytes → ⊥)
+    → forged arts x es js w m.node m.input m.output ≡ Some what → ⊥
 calm arts x es js w new e j m what i reaches other is =
     let both : Some m.input ≡ Some i = sym m.reaches ∙ reaches in
     let same : m.input ≡ i = cc in
@@ -171,7 +177,8 @@ calm arts x es js w new e j m what i reaches other is =
 by_move : (arts : Arts) (x : Setting) (es : List Event) (js : List Entry) (w new : World) (e : Event) (j : Entry) → SettingFits arts x
     → Carries x.topology.format arts → Signs arts x es js w
     → (m : Move arts x w e j new) (what : What) → forged arts x es js w m.node m.input m.output ≡ Some what → IsHostile e
-by_move arts x es js w new (events.Pass u v number) j fits reads run m what is = never _ what (pass_unforged arts x es js w new u v number j fits reads run m) is
+by_move arts x es js w new (events.Pass u v number) j fits reads run m what is =
+    never _ what (pass_unforged arts x es js w new u v number j fits reads run m) is
 by_move arts x es js w new (events.Rel s d p) j fits reads run m what is = calm arts x es js w new _ j m what _ refl (λ u b f. cc) is
 by_move arts x es js w new (events.Prio s d a b c p) j fits reads run m what is = calm arts x es js w new _ j m what _ refl (λ u b f. cc) is
 by_move arts x es js w new (events.Take d s) j fits reads run m what is = calm arts x es js w new _ j m what _ refl (λ u b f. cc) is

@@ -26,6 +26,7 @@ use Rattle.laws_runs.proofs.Signed.{even}
 
 -- ---- one event more
 
+-- what the past tells, with one more event
 pub past_more : {X : Type 0} (f : Happened → List X) (before : List Happened) (h : Happened) → flat_map f (before ++ h ∷ []) ≡ flat_map f before ++ f h
 past_more f before h = flat_map-append f before (h ∷ []) ∙ ap (λ t. flat_map f before ++ t) (append-nil (f h))
 

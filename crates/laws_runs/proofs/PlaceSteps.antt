@@ -260,7 +260,8 @@ module _ (capacity format : ℕ) where
       (λ place other. gone_away place 0 whys.Taken (oldest p.inbox) other) h
 
   -- another version of the topology
-  pub closed_turns : (p : PrioState) (least : List ℕ) (gone : List NodeId) → PlacesAre capacity p → Turns capacity p (prio.closed_effects p least gone) (prio.closed p least gone)
+  pub closed_turns : (p : PrioState) (least : List ℕ) (gone : List NodeId) → PlacesAre capacity p
+      → Turns capacity p (prio.closed_effects p least gone) (prio.closed p least gone)
   closed_turns p least gone h =
       all_turn capacity p (prio.closed p least gone) (rows.closed least gone) (rows.closed_effects least gone)
       (λ q s. record {
@@ -272,7 +273,9 @@ module _ (capacity format : ℕ) where
 
   ending_away : (gone : List NodeId) (flows : List FlowState) → AllAway (flat_map (rel.ended_effect gone) flows)
   ending_away gone [] = λ place. tt
-  ending_away gone (f ∷ flows) = λ place. away_both place (rel.ended_effect gone f) (flat_map (rel.ended_effect gone) flows) (one (f.active && rel.is_over gone (ends f)) place) (ending_away gone flows place)
+  ending_away gone (f ∷ flows) =
+      λ place. away_both place (rel.ended_effect gone f) (flat_map (rel.ended_effect gone) flows) (one (f.active && rel.is_over gone (ends f)) place)
+      (ending_away gone flows place)
     where
       one : (t : Bool) → AllAway (cond t (effects.Ended (ends f) ∷ []) [])
       one true = λ place. (Ends_flow, tt)

@@ -43,7 +43,8 @@ IsClean x p = Clean toys x p.events p.journal p.world
 -- one event more, where it goes on
 module _ (x : Setting) (off : x.epochs ≡ false) (p : Played) (e : Event) (h : IsClean x p) (range : InRange x p.events e) where
   of_words : (n : NodeState) (i : Input) → node_in p.world.nodes (acting e) ≡ Some n → input_of toys x p.world n e ≡ Some i → IsPlain i
-      → (o : Option Reply) (what : Option What) → reply_word x (next_frame p.world e) (output_of n i).reply ≡ o → forged toys x p.events p.journal p.world n i (output_of n i) ≡ what
+      → (o : Option Reply) (what : Option What) → reply_word x (next_frame p.world e) (output_of n i).reply ≡ o
+      → forged toys x p.events p.journal p.world n i (output_of n i) ≡ what
       → (after_words x p e n i o what).goes_on ≡ true → IsClean x (after_words x p e n i o what)
   of_words n i there reaches plain None what words is on = absurd (let wrong : false ≡ true = on in cc)
   of_words n i there reaches plain (Some reply) (Some what) words is on = absurd (let wrong : false ≡ true = on in cc)
@@ -92,7 +93,8 @@ plain_input x es w n (events.Tick a b) i none is = just _ i tt is
 plain_input x es w n (events.Weight a b c) i none is = just _ i tt is
 plain_input x es w n (events.Poll a b) i none is = just _ i tt is
 plain_input x es w n (events.Pass a b c) i none is = from_frame (steps.Datagram a) (λ bytes. tt) (frame_in w.directions a b c) i is
-plain_input x es w n (events.Flip a b c d f) i none is = from_frame (λ bytes. steps.Datagram a (flipped d f bytes)) (λ bytes. tt) (frame_in w.directions a b c) i is
+plain_input x es w n (events.Flip a b c d f) i none is =
+    from_frame (λ bytes. steps.Datagram a (flipped d f bytes)) (λ bytes. tt) (frame_in w.directions a b c) i is
 plain_input x es w n (events.Publish u weights) i none is = just _ i tt is
 plain_input x es w n (events.CraftDocument c v key version weights) i none is = go (may_sign x w.crafted key) is
   where
@@ -122,10 +124,13 @@ off_stays : (x : Setting) (p : Played) (es : List Event) → p.goes_on ≡ false
 off_stays x p [] off = off
 off_stays x p (e ∷ es) off = off_stays x (one_more x p.goes_on p e) es (ap (λ b. (one_more x b p e).goes_on) off ∙ off)
 
-events_go : (x : Setting) (p : Played) (e : Event) → p.goes_on ≡ true → (one_more x p.goes_on p e).goes_on ≡ true → (one_more x p.goes_on p e).events ≡ p.events ++ e ∷ []
-events_go x p e was on = ap (λ b. (one_more x b p e).events) was ∙ by_node (node_in p.world.nodes (acting e)) (sym (ap (λ b. (one_more x b p e).goes_on) was) ∙ on)
+events_go : (x : Setting) (p : Played) (e : Event) → p.goes_on ≡ true → (one_more x p.goes_on p e).goes_on ≡ true
+    → (one_more x p.goes_on p e).events ≡ p.events ++ e ∷ []
+events_go x p e was on =
+    ap (λ b. (one_more x b p e).events) was ∙ by_node (node_in p.world.nodes (acting e)) (sym (ap (λ b. (one_more x b p e).goes_on) was) ∙ on)
   where
-    by_words : (n : NodeState) (i : Input) (o : Option Reply) (what : Option What) → (after_words x p e n i o what).goes_on ≡ true → (after_words x p e n i o what).events ≡ p.events ++ e ∷ []
+    by_words : (n : NodeState) (i : Input) (o : Option Reply) (what : Option What) → (after_words x p e n i o what).goes_on ≡ true
+        → (after_words x p e n i o what).events ≡ p.events ++ e ∷ []
     by_words n i None what on = absurd (let wrong : false ≡ true = on in cc)
     by_words n i (Some reply) (Some what) on = absurd (let wrong : false ≡ true = on in cc)
     by_words n i (Some reply) None on = refl

@@ -118,7 +118,8 @@ mute_version n t =
     let gone = removed_of (nodes_of t) t.edges in
     let h =
     mute_append (prio.closed_effects n.parts.prio least gone) (rel.closed_effects n.parts.rel gone)
-    (mute_flat (rows.closed_effects least gone) (λ q. mute_leaving Withdrawn q.peer (filter (rows.leaves (is_shut least q.edge) gone) q.store.entries)) n.parts.prio.peers)
+    (mute_flat (rows.closed_effects least gone) (λ q. mute_leaving Withdrawn q.peer (filter (rows.leaves (is_shut least q.edge) gone) q.store.entries))
+    n.parts.prio.peers)
     (mute_flat (rel.ended_effect gone) (λ f. mute_over (f.active && rel.is_over gone (ends f)) f) n.parts.rel.flows) in
     record { none = λ s. h.none s }
 

@@ -148,8 +148,8 @@ module _ (arts : Arts) (x : Setting) (s d : NodeId) (fits : SettingFits arts x) 
   abbrev b : ℕ
   b = held_boot m.node.parts.lives d
 
-  abbrev D : ℕ → ℕ → List Message
-  D p q = prio_delivered_under happened s p d q
+  abbrev told_before : ℕ → ℕ → List Message
+  told_before p q = prio_delivered_under happened s p d q
 
   abbrev S : ℕ → List Message
   S p = prio_sent_under happened s p d
@@ -163,8 +163,8 @@ module _ (arts : Arts) (x : Setting) (s d : NodeId) (fits : SettingFits arts x) 
   abbrev happened2 : List Happened
   happened2 = happened ++ record { event = e; entry = j; mover = Some m.node } ∷ []
 
-  abbrev D2 : ℕ → ℕ → List Message
-  D2 p q = prio_delivered_under happened2 s p d q
+  abbrev told_after : ℕ → ℕ → List Message
+  told_after p q = prio_delivered_under happened2 s p d q
 
   abbrev P : Kept → Type 0
   P = Good arts x es js
@@ -191,16 +191,16 @@ module _ (arts : Arts) (x : Setting) (s d : NodeId) (fits : SettingFits arts x) 
         subst (λ (p : ℕ). Contains (S p) (c.seq, c.payload)) boot sent;
   }
 
-  came : u ≡ d → PrioCame C s d a (S a) (numbers (D a b)) m.after.parts.lives m.after.parts.prio m.output.effects
+  came : u ≡ d → PrioCame C s d a (S a) (numbers (told_before a b)) m.after.parts.lives m.after.parts.prio m.output.effects
   came z =
-      step_came C s d a (S a) (numbers (D a b)) arts m.node m.output m.after refl (h.node m.node (there z)) m.input m.step
+      step_came C s d a (S a) (numbers (told_before a b)) arts m.node m.output m.after refl (h.node m.node (there z)) m.input m.step
       (new_both (Known arts x es js) (λ o. IsTrue (arts.is_good o.body)) (VouchedPrio C s d a (S a)) vouched m.output.answered
       (new_known arts x es js m.output.answered unforged)
       (new_have (λ o. IsTrue (arts.is_good o.body)) arts m.node m.input m.output m.after carries.goods reach m.step)) (me ∙ z)
 
   -- ---- the lists after it
 
-  delivered_is : (p q : ℕ) → D2 p q ≡ D p q ++ cond (holds m.node s p d q) E []
+  delivered_is : (p q : ℕ) → told_after p q ≡ told_before p q ++ cond (holds m.node s p d q) E []
   delivered_is p q =
       past_more (λ (y : Happened). told_under s p d q (told_at d (prio_by s) (y.event, y.entry)) y.mover) happened
       (record { event = e; entry = j; mover = Some m.node })
@@ -216,17 +216,17 @@ module _ (arts : Arts) (x : Setting) (s d : NodeId) (fits : SettingFits arts x) 
   away_is : (u ≡ d → ⊥) → E ≡ []
   away_is never = let t : (u.0 == d.0) ≡ false = ne_eqb u.0 d.0 (λ z. never (same_node u d z)) in rw t refl
 
-  told_here : u ≡ d → D2 a b ≡ D a b ++ flat_map (prio_by s) m.output.effects
-  told_here z = delivered_is a b ∙ ap (λ t. D a b ++ cond t E []) (holds_own m.node s d) ∙ ap (λ t. D a b ++ t) (here_is z)
+  told_here : u ≡ d → told_after a b ≡ told_before a b ++ flat_map (prio_by s) m.output.effects
+  told_here z = delivered_is a b ∙ ap (λ t. told_before a b ++ cond t E []) (holds_own m.node s d) ∙ ap (λ t. told_before a b ++ t) (here_is z)
 
-  told_else : (p q : ℕ) → ((p ≡ a) × (q ≡ b) → ⊥) → D2 p q ≡ D p q
-  told_else p q never = delivered_is p q ∙ ap (λ t. D p q ++ cond t E []) (holds_no_other m.node s d p q never) ∙ append-nil (D p q)
+  told_else : (p q : ℕ) → ((p ≡ a) × (q ≡ b) → ⊥) → told_after p q ≡ told_before p q
+  told_else p q never = delivered_is p q ∙ ap (λ t. told_before p q ++ cond t E []) (holds_no_other m.node s d p q never) ∙ append-nil (told_before p q)
 
-  told_away : (u ≡ d → ⊥) → (p q : ℕ) → D2 p q ≡ D p q
-  told_away never p q = delivered_is p q ∙ ap (λ t. D p q ++ t) (none_either (holds m.node s p d q) E (away_is never)) ∙ append-nil (D p q)
+  told_away : (u ≡ d → ⊥) → (p q : ℕ) → told_after p q ≡ told_before p q
+  told_away never p q = delivered_is p q ∙ ap (λ t. told_before p q ++ t) (none_either (holds m.node s p d q) E (away_is never)) ∙ append-nil (told_before p q)
 
-  numbers_here : u ≡ d → numbers (D2 a b) ≡ numbers (D a b) ++ prio_numbers s m.output.effects
-  numbers_here z = ap numbers (told_here z) ∙ map-append (λ (y : Message). y.0) (D a b) (flat_map (prio_by s) m.output.effects)
+  numbers_here : u ≡ d → numbers (told_after a b) ≡ numbers (told_before a b) ++ prio_numbers s m.output.effects
+  numbers_here z = ap numbers (told_here z) ∙ map-append (λ (y : Message). y.0) (told_before a b) (flat_map (prio_by s) m.output.effects)
 
   cases_u : (u ≡ d) ⊎ (u ≡ d → ⊥)
   cases_u = elim (cases_eq u.0 d.0) [
@@ -237,8 +237,8 @@ module _ (arts : Arts) (x : Setting) (s d : NodeId) (fits : SettingFits arts x) 
   -- ---- d itself acted
 
   record Told_on : Type 0 where
-    at : PrioIs s d (numbers (D2 (held_boot m.after.parts.lives s) (held_boot m.after.parts.lives d))) m.after.parts.prio
-    fresh : (p : ℕ) → held_boot m.after.parts.lives s < p → D2 p (held_boot m.after.parts.lives d) ≡ []
+    at : PrioIs s d (numbers (told_after (held_boot m.after.parts.lives s) (held_boot m.after.parts.lives d))) m.after.parts.prio
+    fresh : (p : ℕ) → held_boot m.after.parts.lives s < p → told_after p (held_boot m.after.parts.lives d) ≡ []
 
   own_same : u ≡ d → held_boot m.after.parts.lives d ≡ b
   own_same z =
@@ -248,21 +248,21 @@ module _ (arts : Arts) (x : Setting) (s d : NodeId) (fits : SettingFits arts x) 
   told_on : u ≡ d → Told_on
   told_on z = go (came z).ends
     where
-      go : PrioEnds s d a (numbers (D a b) ++ prio_numbers s m.output.effects) m.after.parts.lives m.after.parts.prio → Told_on
+      go : PrioEnds s d a (numbers (told_before a b) ++ prio_numbers s m.output.effects) m.after.parts.lives m.after.parts.prio → Told_on
       go (Same_life same r) = record {
-        at = subst (λ q. PrioIs s d (numbers (D2 (held_boot m.after.parts.lives s) q)) m.after.parts.prio) (sym (own_same z))
-            (subst (λ p. PrioIs s d (numbers (D2 p b)) m.after.parts.prio) (sym same)
+        at = subst (λ q. PrioIs s d (numbers (told_after (held_boot m.after.parts.lives s) q)) m.after.parts.prio) (sym (own_same z))
+            (subst (λ p. PrioIs s d (numbers (told_after p b)) m.after.parts.prio) (sym same)
             (subst (λ ns. PrioIs s d ns m.after.parts.prio) (sym (numbers_here z)) r));
-        fresh = λ p up. subst (λ q. D2 p q ≡ []) (sym (own_same z))
+        fresh = λ p up. subst (λ q. told_after p q ≡ []) (sym (own_same z))
             (let above : a < p = omega (arith, same, up) in told_else p b (λ y. let f = y.0 in absurd (omega (arith, above, f)))
             ∙ h.fresh m.node (there z) p above);
       }
       go (Next_life rose r) = record {
-        at = subst (λ q. PrioIs s d (numbers (D2 (held_boot m.after.parts.lives s) q)) m.after.parts.prio) (sym (own_same z))
+        at = subst (λ q. PrioIs s d (numbers (told_after (held_boot m.after.parts.lives s) q)) m.after.parts.prio) (sym (own_same z))
             (let none = told_else (held_boot m.after.parts.lives s) b (λ y. let f = y.0 in absurd (omega (arith, rose, f)))
             ∙ h.fresh m.node (there z) (held_boot m.after.parts.lives s) rose in
             subst (λ (ms : List Message). PrioIs s d (numbers ms) m.after.parts.prio) (sym none) r);
-        fresh = λ p up. subst (λ q. D2 p q ≡ []) (sym (own_same z))
+        fresh = λ p up. subst (λ q. told_after p q ≡ []) (sym (own_same z))
             (let above : a < p = omega (arith, rose, up) in told_else p b (λ y. let f = y.0 in absurd (omega (arith, above, f)))
             ∙ h.fresh m.node (there z) p above);
       }
@@ -320,18 +320,20 @@ module _ (arts : Arts) (x : Setting) (s d : NodeId) (fits : SettingFits arts x) 
   found : (k : NodeState) → node_in new.nodes d ≡ Some k → ((d ≡ u) × (k ≡ m.after)) ⊎ ((d ≡ u → ⊥) × (node_in w.nodes d ≡ Some k))
   found k at = node_put d u m.after k w.nodes after_me (subst (λ (y : World). node_in y.nodes d ≡ Some k) m.world at)
 
-  all_sent : C → (p q : ℕ) → All (Contains (S p ++ cond (a == p) T [])) (D2 p q)
+  all_sent : C → (p q : ℕ) → All (Contains (S p ++ cond (a == p) T [])) (told_after p q)
   all_sent k p q = elim cases_u [
-    | inr away ↦ subst (All (Contains (S p ++ cond (a == p) T []))) (sym (told_away away p q)) (all_more (D p q) (S p) (cond (a == p) T []) (h.authentic k p q))
+    | inr away ↦ subst (All (Contains (S p ++ cond (a == p) T []))) (sym (told_away away p q))
+        (all_more (told_before p q) (S p) (cond (a == p) T []) (h.authentic k p q))
     | inl z ↦ elim (same_boots p q a b) [
       | inr never ↦
-          subst (All (Contains (S p ++ cond (a == p) T []))) (sym (told_else p q never)) (all_more (D p q) (S p) (cond (a == p) T []) (h.authentic k p q))
+          subst (All (Contains (S p ++ cond (a == p) T []))) (sym (told_else p q never))
+          (all_more (told_before p q) (S p) (cond (a == p) T []) (h.authentic k p q))
       | inl both ↦
-          let here : All (Contains (S a)) (D2 a b) =
+          let here : All (Contains (S a)) (told_after a b) =
           subst (All (Contains (S a))) (sym (told_here z))
-          (All-append (Contains (S a)) (D a b) (flat_map (prio_by s) m.output.effects) (h.authentic k a b) ((came z).sent k)) in
-          subst (λ y. All (Contains (S y ++ cond (a == y) T [])) (D2 y q)) (sym both.0)
-          (subst (λ y. All (Contains (S a ++ cond (a == a) T [])) (D2 a y)) (sym both.1) (all_more (D2 a b) (S a) (cond (a == a) T []) here))
+          (All-append (Contains (S a)) (told_before a b) (flat_map (prio_by s) m.output.effects) (h.authentic k a b) ((came z).sent k)) in
+          subst (λ y. All (Contains (S y ++ cond (a == y) T [])) (told_after y q)) (sym both.0)
+          (subst (λ y. All (Contains (S a ++ cond (a == a) T [])) (told_after a y)) (sym both.1) (all_more (told_after a b) (S a) (cond (a == a) T []) here))
     ]
   ]
 
@@ -339,7 +341,7 @@ module _ (arts : Arts) (x : Setting) (s d : NodeId) (fits : SettingFits arts x) 
   prio_moved = record {
     node = λ k at. elim (found k at) [
       | inl it ↦
-          subst (λ (y : NodeState). PrioIs s d (numbers (D2 (held_boot y.parts.lives s) (held_boot y.parts.lives d))) y.parts.prio) (sym it.1)
+          subst (λ (y : NodeState). PrioIs s d (numbers (told_after (held_boot y.parts.lives s) (held_boot y.parts.lives d))) y.parts.prio) (sym it.1)
           (told_on (sym it.0)).at
       | inr other ↦
           subst (λ (ms : List Message). PrioIs s d (numbers ms) k.parts.prio)
@@ -347,7 +349,7 @@ module _ (arts : Arts) (x : Setting) (s d : NodeId) (fits : SettingFits arts x) 
     ];
     fresh = λ k at p up. elim (found k at) [
       | inl it ↦
-          subst (λ (y : NodeState). held_boot y.parts.lives s < p → D2 p (held_boot y.parts.lives d) ≡ []) (sym it.1) ((told_on (sym it.0)).fresh p) up
+          subst (λ (y : NodeState). held_boot y.parts.lives s < p → told_after p (held_boot y.parts.lives d) ≡ []) (sym it.1) ((told_on (sym it.0)).fresh p) up
       | inr other ↦ told_away (λ z. other.0 (sym z)) p (held_boot k.parts.lives d) ∙ h.fresh k other.1 p up
     ];
     unborn = λ p q up.
@@ -363,11 +365,11 @@ module _ (arts : Arts) (x : Setting) (s d : NodeId) (fits : SettingFits arts x) 
       | inl z ↦ elim (same_boots p q a b) [
         | inr never ↦ subst (λ ms. AreOnce (numbers ms)) (sym (told_else p q never)) (h.once p q)
         | inl both ↦
-            subst (λ y. AreOnce (numbers (D2 y q))) (sym both.0)
-            (subst (λ y. AreOnce (numbers (D2 a y))) (sym both.1) (subst AreOnce (sym (numbers_here z)) (came z).once))
+            subst (λ y. AreOnce (numbers (told_after y q))) (sym both.0)
+            (subst (λ y. AreOnce (numbers (told_after a y))) (sym both.1) (subst AreOnce (sym (numbers_here z)) (came z).once))
       ]
     ];
-    authentic = λ k p q. subst (λ (ms : List Message). All (Contains ms) (D2 p q)) (sym (sent_is p)) (all_sent k p q);
+    authentic = λ k p q. subst (λ (ms : List Message). All (Contains ms) (told_after p q)) (sym (sent_is p)) (all_sent k p q);
     messages = λ k c good src dst among. subst (λ (ms : List Message). Contains ms (c.seq, c.payload)) (sym (sent_is c.sboot))
         (elim (signed_is (arts.spell (bodies.Prio c)) among) [
           | inl old ↦ Contains-append_left (S c.sboot) (cond (a == c.sboot) T []) (c.seq, c.payload) (h.messages k c good src dst old)

@@ -255,7 +255,8 @@ module _ (C : Type 0) (s d : NodeId) (boot : ℕ) (S : List Message) (told : Lis
           let p = n.parts.prio in
           let o = own_prio arts n m step.choice in
           let other : (m.dst.0 == n.fixed.me.0) ≡ false =
-          first_false (m.dst.0 == n.fixed.me.0) (not (prio.is_there n.parts.prio m.dst.0)) (not (prio.is_there n.parts.prio n.fixed.me.0)) (is_unmet n m.dst) _ _
+          first_false (m.dst.0 == n.fixed.me.0) (not (prio.is_there n.parts.prio m.dst.0)) (not (prio.is_there n.parts.prio n.fixed.me.0)) (is_unmet n m.dst) _
+          _
           (either (prio_refusal n m) (no_paths step.choice) free).0 in
           let away : is_here p o.body ≡ false = ap (λ k. m.dst.0 == k) (h.me ∙ ap (λ (v : NodeId). v.0) (sym me)) ∙ other in
           let mute : Mute (prio_told arts n m step.choice) = mute_signed (arts.spell o.body) (prio_effects p o None) (mute_own p o away) in

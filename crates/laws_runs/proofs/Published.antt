@@ -107,6 +107,7 @@ frame_is : (bytes : List ℕ) (o : Option (List ℕ)) → is_frame bytes o ≡ t
 frame_is bytes None e = absurd (let wrong : false ≡ true = e in cc)
 frame_is bytes (Some frame) e = ap Some (are_same frame bytes e)
 
+-- what is published has its place among the events
 pub placed : (es : List Event) (version : ℕ) (weights : List ℕ) → is_published es version weights ≡ true → IsPlaced es version weights
 placed es version weights e =
     let parts = both (nat_le 2 version) (is_frame weights (slice_get (lists_in es) (version - 2))) e in
@@ -132,6 +133,7 @@ still_placed es more version weights e =
       there = ap (λ (lists : List (List ℕ)). slice_get lists p.place) (lists_more es more) ∙ get_left (lists_in es) (lists_in more) p.place weights p.there;
     })
 
+-- what is published stays so
 pub still_published : (x : Setting) (es more : List Event) (version : ℕ) (weights : List ℕ) → IsPublished x es version weights
     → IsPublished x (es ++ more) version weights
 still_published x es more version weights (inl first) = inl first
@@ -215,6 +217,7 @@ joined_same u e here = let t : (e.weight == 0) ≡ false = ne_eqb _ _ (λ z. ome
     and_true true = refl
     and_true false = refl
 
+-- where all edges are open no node is removed
 pub none_removed : (u : ℕ) (edges : List Edge) → All IsOpen edges → is_removed edges u ≡ false
 none_removed u edges here = ap (λ (t : Bool). list_any (is_end u) edges && not t) (same edges here) ∙ both_never (list_any (is_end u) edges)
   where

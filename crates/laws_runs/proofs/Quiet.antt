@@ -90,7 +90,8 @@ pub quiet_prio : (p : PrioState) (o : Kept) (came : Option NodeId) → Quiet (pr
 quiet_prio p o came =
     quiet_either (prio.is_here p o.body) (prio.delivered o.body ++ rows.put_effects 0 p.inbox o) (flat_map (rows.given_effects o came) p.peers)
     (quiet_append (prio.delivered o.body) (rows.put_effects 0 p.inbox o) (quiet_delivered o.body) (quiet_put 0 p.inbox o))
-    (quiet_flat (rows.given_effects o came) (λ q. quiet_either (rows.goes_to o.body came q) (rows.put_effects q.peer q.store o) [] (quiet_put q.peer q.store o) quiet_none) p.peers)
+    (quiet_flat (rows.given_effects o came)
+    (λ q. quiet_either (rows.goes_to o.body came q) (rows.put_effects q.peer q.store o) [] (quiet_put q.peer q.store o) quiet_none) p.peers)
 
 quiet_left : (place : ℕ) (s : Store) (pairs : List (ℕ × ℕ)) → Quiet (rows.left_effects place s pairs)
 quiet_left place s [] = quiet_none
@@ -128,7 +129,8 @@ quiet_over false f = quiet_none
 quiet_closed : (p : Parts) (least : List ℕ) (gone : List NodeId) → Quiet (closed_effects p least gone)
 quiet_closed p least gone =
     quiet_append (prio.closed_effects p.prio least gone) (rel.closed_effects p.rel gone)
-    (quiet_flat (rows.closed_effects least gone) (λ q. quiet_leaving Withdrawn q.peer (filter (rows.leaves (is_shut least q.edge) gone) q.store.entries)) p.prio.peers)
+    (quiet_flat (rows.closed_effects least gone) (λ q. quiet_leaving Withdrawn q.peer (filter (rows.leaves (is_shut least q.edge) gone) q.store.entries))
+    p.prio.peers)
     (quiet_flat (rel.ended_effect gone) (λ f. quiet_over (f.active && rel.is_over gone (ends f)) f) p.rel.flows)
 
 quiet_version : (n : NodeState) (t : Topology) → Quiet (version_effects n t)

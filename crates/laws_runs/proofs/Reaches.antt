@@ -38,6 +38,7 @@ pub record Came (ds : List Direction) (u v : NodeId) (number : ℕ) (take : List
   pub is : input ≡ take bytes
   pub there : slice_get (frames_in ds u v) place ≡ Some (Some bytes)
 
+-- a frame that reaches a node came in its direction
 pub came : (ds : List Direction) (u v : NodeId) (number : ℕ) (take : List ℕ → Input) (input : Input) → option_map take (frame_in ds u v number) ≡ Some input
     → Came ds u v number take input
 came ds u v zero take input e = absurd cc

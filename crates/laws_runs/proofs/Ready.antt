@@ -48,31 +48,38 @@ beside x w e = go x.epochs (node_in w.nodes (acting e))
     go true None = record { directions = refl; crafted = refl; published = refl }
     go true (Some b) = short b (is_short b)
 
+-- reserves make no frame
 pub ready_frames : (x : Setting) (w : World) (e : Event) → (ready x w e).directions ≡ w.directions
 ready_frames x w e = (beside x w e).directions
 
+-- reserves craft nothing
 pub ready_crafts : (x : Setting) (w : World) (e : Event) → (ready x w e).crafted ≡ w.crafted
 ready_crafts x w e = (beside x w e).crafted
 
+-- reserves publish nothing
 pub ready_published : (x : Setting) (w : World) (e : Event) → (ready x w e).published ≡ w.published
 ready_published x w e = (beside x w e).published
 
 -- and what is crafted makes no difference
-pub ready_with : (x : Setting) (w : World) (e : Event) (crafted : List Crafted) → ready x (record w { crafted = crafted }) e ≡ record (ready x w e) { crafted = crafted }
+pub ready_with : (x : Setting) (w : World) (e : Event) (crafted : List Crafted)
+    → ready x (record w { crafted = crafted }) e ≡ record (ready x w e) { crafted = crafted }
 ready_with x w e crafted = go x.epochs (node_in w.nodes (acting e))
   where
-    short : (b : NodeState) (t : Bool) → cond t (reserved x (record w { crafted = crafted }) b) (record w { crafted = crafted }) ≡ record (cond t (reserved x w b) w) { crafted = crafted }
+    short : (b : NodeState) (t : Bool)
+        → cond t (reserved x (record w { crafted = crafted }) b) (record w { crafted = crafted }) ≡ record (cond t (reserved x w b) w) { crafted = crafted }
     short b true = refl
     short b false = refl
 
     go : (on : Bool) (found : Option NodeState)
-        → cond on (reserved_if x (record w { crafted = crafted }) found) (record w { crafted = crafted }) ≡ record (cond on (reserved_if x w found) w) { crafted = crafted }
+        → cond on (reserved_if x (record w { crafted = crafted }) found) (record w { crafted = crafted })
+        ≡ record (cond on (reserved_if x w found) w) { crafted = crafted }
     go false found = refl
     go true None = refl
     go true (Some b) = short b (is_short b)
 
 -- ---- the same nodes run
 
+-- the same nodes run after reserves
 pub ready_any : (x : Setting) (w : World) (e : Event) (u : NodeId) → list_any (is_me u) (ready x w e).nodes ≡ list_any (is_me u) w.nodes
 ready_any x w e u = go x.epochs (node_in w.nodes (acting e))
   where
@@ -87,6 +94,7 @@ ready_any x w e u = go x.epochs (node_in w.nodes (acting e))
 
 -- ---- each node is as before, or has more indexes
 
+-- what a reserve makes of a node
 pub data Readied (x : Setting) (w : World) (b n : NodeState) : Type 0 where
   As_was : n ≡ b → Readied x w b n
   Extended : x.epochs ≡ true → is_short b ≡ true → n ≡ extended b (next_bound x.total (numbers_at w.keys b.fixed.me)) → Readied x w b n
@@ -96,6 +104,7 @@ pub record WasThere (x : Setting) (w : World) (u : NodeId) (n : NodeState) : Typ
   pub is_there : node_in w.nodes u ≡ Some before
   pub readied : Readied x w before n
 
+-- a node that runs after reserves ran before them
 pub was_there : (x : Setting) (w : World) (e : Event) (u : NodeId) (n : NodeState) → node_in (ready x w e).nodes u ≡ Some n → WasThere x w u n
 was_there x w e u n at = go x.epochs refl (node_in w.nodes (acting e)) refl at
   where
@@ -140,6 +149,7 @@ same_boot (m ∷ ks) zero (suc k) n e = refl
 same_boot (m ∷ ks) (suc i) zero n e = refl
 same_boot (m ∷ ks) (suc i) (suc k) n e = same_boot ks i k n e
 
+-- reserves change no boot
 pub ready_boots : (x : Setting) (w : World) (e : Event) (v : NodeId) → (numbers_at (ready x w e).keys v).boot ≡ (numbers_at w.keys v).boot
 ready_boots x w e v = go x.epochs (node_in w.nodes (acting e))
   where
@@ -161,7 +171,8 @@ reserve_more x es w u b h on at =
     let most = (h.numbers u).bound in
     (omega (arith, same, most), omega arith)
 
-extended_is : (x : Setting) (P : Kept → Type 0) (u : NodeId) (n : NodeState) (upto : ℕ) → x.epochs ≡ true → n.signer.bound ≤ upto → upto ≤ x.total → NodeIs x P u n
+extended_is : (x : Setting) (P : Kept → Type 0) (u : NodeId) (n : NodeState) (upto : ℕ) → x.epochs ≡ true → n.signer.bound ≤ upto → upto ≤ x.total
+    → NodeIs x P u n
     → NodeIs x P u (extended n upto)
 extended_is x P u n upto on above within is = record {
   correct = is.correct;
@@ -188,6 +199,7 @@ extended_is x P u n upto on above within is = record {
   plain = λ off. absurd (let wrong : false ≡ true = sym off ∙ on in cc);
 }
 
+-- a node is what it was after a reserve, but for its bound
 pub readied_is : (x : Setting) (P : Kept → Type 0) (es : List Event) (w : World) (u : NodeId) (b n : NodeState) → KeysStand x es w → node_in w.nodes u ≡ Some b
     → Readied x w b n → NodeIs x P u b → NodeIs x P u n
 readied_is x P es w u b n h at (As_was same) is = subst (NodeIs x P u) (sym same) is
@@ -235,7 +247,8 @@ ready_left arts x P es w e n h nodes at = go x.epochs refl (node_in w.nodes (act
               let mine = ap (λ (v : NodeId). (numbers_at w.keys v).bound) me in
               let low = own.holds.signer.index in
               let total = own.total in
-              let below : b.signer.bound < b.signer.total = grind (arith, nat_tests, (right_true (nat_lt (b.signer.bound - b.signer.index) LEAST_LEFT) (nat_lt b.signer.bound b.signer.total) few)) in
+              let below : b.signer.bound < b.signer.total =
+              grind (arith, nat_tests, (right_true (nat_lt (b.signer.bound - b.signer.index) LEAST_LEFT) (nat_lt b.signer.bound b.signer.total) few)) in
               subst (λ (m : NodeState). HasLeft m.signer) (sym it.1) (inr (omega (arith, low, bound, mine, total, below)))
           | inr other ↦ absurd (other.0 (sym me))
         ]

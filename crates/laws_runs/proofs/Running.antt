@@ -12,6 +12,7 @@ use Rattle.laws_runs.proofs.Tables.{same_node}
 
 -- ---- found, and there
 
+-- a node that is found runs
 pub found_there : (u : NodeId) (n : NodeState) (nodes : List NodeState) → node_in nodes u ≡ Some n → list_any (is_me u) nodes ≡ true
 found_there u n [] at = absurd cc
 found_there u n (m ∷ nodes) at = elim (cases_Bool (is_me u m)) [
@@ -19,6 +20,7 @@ found_there u n (m ∷ nodes) at = elim (cases_Bool (is_me u m)) [
   | inr t ↦ rw t (found_there u n nodes (rw t at at))
 ]
 
+-- a node that runs is found
 pub there_found : (u : NodeId) (nodes : List NodeState) → list_any (is_me u) nodes ≡ true → (n : NodeState) × (node_in nodes u ≡ Some n)
 there_found u [] there = absurd (let e : false ≡ true = there in cc)
 there_found u (m ∷ nodes) there = elim (cases_Bool (is_me u m)) [
@@ -28,6 +30,7 @@ there_found u (m ∷ nodes) there = elim (cases_Bool (is_me u m)) [
 
 -- ---- one more
 
+-- a node that is found with one more was found before, or is that one
 pub more_found : (u : NodeId) (n new : NodeState) (nodes : List NodeState) → node_in (nodes ++ new ∷ []) u ≡ Some n
     → (node_in nodes u ≡ Some n) ⊎ ((u ≡ new.fixed.me) × (n ≡ new))
 more_found u n new [] at = elim (cases_Bool (is_me u new)) [
@@ -59,7 +62,9 @@ more_once new (m ∷ nodes) once none = elim (cases_Bool (is_me new.fixed.me m))
 
 -- ---- one goes on
 
-pub with_any : (u a : NodeId) (after : NodeState) (nodes : List NodeState) → after.fixed.me ≡ a → list_any (is_me u) (with_node nodes a after) ≡ list_any (is_me u) nodes
+-- the same nodes run after one of them changed
+pub with_any : (u a : NodeId) (after : NodeState) (nodes : List NodeState) → after.fixed.me ≡ a
+    → list_any (is_me u) (with_node nodes a after) ≡ list_any (is_me u) nodes
 with_any u a after [] me = refl
 with_any u a after (m ∷ nodes) me = elim (cases_Bool (is_me a m)) [
   | inl t ↦
@@ -103,7 +108,9 @@ without_found u v n (m ∷ nodes) at once = elim (cases_Bool (is_me v m)) [
   ]
 ]
 
-pub without_left : (u v : NodeId) (n : NodeState) (nodes : List NodeState) → node_in (without_node nodes v) u ≡ Some n → AreOnce nodes → node_in nodes u ≡ Some n
+-- a node that is left after another one stopped ran before
+pub without_left : (u v : NodeId) (n : NodeState) (nodes : List NodeState) → node_in (without_node nodes v) u ≡ Some n → AreOnce nodes
+    → node_in nodes u ≡ Some n
 without_left u v n nodes at once = (without_found u v n nodes at once).0
 
 without_any : (u v : NodeId) (nodes : List NodeState) → list_any (is_me u) nodes ≡ false → list_any (is_me u) (without_node nodes v) ≡ false

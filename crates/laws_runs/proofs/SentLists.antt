@@ -67,7 +67,8 @@ module _ (arts : Arts) (x : Setting) (s d : NodeId) (es : List Event) (js : List
       go (bodies.Kack m) body is names = absurd is
       go (bodies.Epoch m) body is names = absurd is
 
-  list_sent : (u : NodeId) (flow : Flow) (after : ℕ) (os : List Kept) → flow ≡ flow_of s d → AreMessages flow after os → All (Fits (sizes_at x (Good arts x es js) u)) os
+  list_sent : (u : NodeId) (flow : Flow) (after : ℕ) (os : List Kept) → flow ≡ flow_of s d → AreMessages flow after os
+      → All (Fits (sizes_at x (Good arts x es js) u)) os
       → All (λ m. IsRel m.body) os → All (λ m. NamesHeld lives flow m.body) os → AreSent S after os
   list_sent u flow after [] same are all plain names = tt
   list_sent u flow after (o ∷ os) same are all plain names =
@@ -84,7 +85,8 @@ pub lists_sent : (arts : Arts) (x : Setting) (s d : NodeId) (es : List Event) (j
 lists_sent arts x s d es js past w fits h correct from to u n is =
     let k = sizes_at x (Good arts x es js) u in
     let nodes = nodes_hold x.topology.format x.topology.height 0 x.topology.nodes fits.topology.ranges.nodes in
-    let row = read k n.signer.index n.parts.rel.flows (flow_of s d) (in_range x.topology.format (nodes_of x.topology) s nodes from) (in_range x.topology.format (nodes_of x.topology) d nodes to)
+    let row = read k n.signer.index n.parts.rel.flows (flow_of s d) (in_range x.topology.format (nodes_of x.topology) s nodes from)
+    (in_range x.topology.format (nodes_of x.topology) d nodes to)
     is.holds.parts.rel.flows in
     let f = flow_at n s d in
     list_sent arts x s d es js past w h correct n.parts.lives u (ends f) f.at.base f.at.list

@@ -75,6 +75,7 @@ use Rattle.laws_runs.proofs.Goods.{own_known, arts_fit, plain_start, started, st
 
 -- ---- one event
 
+-- a journal has as many entries as there were events
 pub even : (arts : Arts) (x : Setting) (es : List Event) (js : List Entry) (w : World) → Clean arts x es js w → length es ≡ length js
 even arts x es js w Starts = refl
 even arts x es js w (Turned {es = es'} {js = js'} {old = old} {e = e} {j = j} run range turn unforged) =
@@ -102,8 +103,10 @@ new_have P arts n (steps.Datagram v bytes) output after reads are s =
     go : (r : Option NodeRefused) → NewKeep P (refused_call r (arrived arts n v bytes)).answered
     go (Some refused) = tt
     go None = pieces_new P arts (arrival_at n v) (parts_met arts n v bytes) pieces
-        (where_keep P (reply_at arts n v bytes) (pieces_in n.fixed (sections_in arts n.fixed bytes)) (sections_have P arts n.fixed bytes (sections_in arts n.fixed bytes) reads are refl))
-new_have P arts n (steps.Poll v) output after reads are s = none_new _ output.answered (ap (λ (o : Output). o.answered) s.0 ∙ none_called _ (call_refusal n v) refl)
+        (where_keep P (reply_at arts n v bytes) (pieces_in n.fixed (sections_in arts n.fixed bytes))
+        (sections_have P arts n.fixed bytes (sections_in arts n.fixed bytes) reads are refl))
+new_have P arts n (steps.Poll v) output after reads are s =
+    none_new _ output.answered (ap (λ (o : Output). o.answered) s.0 ∙ none_called _ (call_refusal n v) refl)
 new_have P arts n (steps.Tick now) output after reads are s = none_new _ output.answered (ap (λ (o : Output). o.answered) s.0)
 new_have P arts n (steps.SendRel dst payload) output after reads are s =
     none_new _ output.answered (ap (λ (o : Output). o.answered) s.0 ∙ none_sent _ (rel_refusal n dst) refl)
@@ -135,7 +138,10 @@ acted arts x es js w new e j m fits carries reach asked same unforged is =
     let owns : OwnKeep arts Q m.node m.input m.output.effects = λ body own. record {
       known = λ correct. own_known arts x es js w new e j m same me body own;
       right = subst (λ (f : Fixed). IsTrue (is_signed arts f (signed_now arts m.node body))) is.fixed (own_is_signed arts m.node body fit own.left own.mine);
-      bytes = (subst AreBytes (sym own.payload) asked, carries.signatures m.node.fixed.topology.height m.node.signer.seed m.node.signer.index (arts.spell body));
+      bytes = (
+        subst AreBytes (sym own.payload) asked,
+        carries.signatures m.node.fixed.topology.height m.node.signer.seed m.node.signer.index (arts.spell body),
+      );
       good = fit.own body own.fields own.about;
     } in
     record {
@@ -144,9 +150,11 @@ acted arts x es js w new e j m fits carries reach asked same unforged is =
       seed = stays.seed ∙ is.seed;
       total = stays.total ∙ is.total;
       shape = shapes_stay arts m.node m.input m.output m.after m.step ∙ is.shape
-          ∙ ap₂ (λ (f : Fixed) (bound : ℕ). shape_at_start (fixed_at x (acting e) f.boot) (signer_from x (acting e) 0 bound) (link_keys x (acting e)) x.buffer x.store)
+          ∙ ap₂ (λ (f : Fixed) (bound : ℕ). shape_at_start (fixed_at x (acting e) f.boot) (signer_from x (acting e) 0 bound) (link_keys x (acting e)) x.buffer
+          x.store)
           (sym stays.fixed) (sym stays.bound);
-      holds = step_holds (sizes_at x Q (acting e)) arts m.node m.input m.output m.after fit reach news owns m.step (node_weaker (sizes_at x P (acting e)) Q more m.node is.holds);
+      holds = step_holds (sizes_at x Q (acting e)) arts m.node m.input m.output m.after fit reach news owns m.step
+          (node_weaker (sizes_at x P (acting e)) Q more m.node is.holds);
       acks = step_ack arts m.node m.input m.output m.after m.step is.obeys is.acks;
       obeys = step_obeys arts m.node m.input m.output m.after (sized (sizes_at x P (acting e)) m.node is.holds) m.step is.obeys;
       dated = step_dated arts m.node m.input m.output m.after m.step is.dated;
@@ -162,7 +170,8 @@ acted arts x es js w new e j m fits carries reach asked same unforged is =
     }
 
 -- what stands in a frame
-pub contents_keep : (P : Kept → Type 0) (n : NodeState) (v : NodeId) → AllKeep P (pieces_of (contents_to n.fixed n.parts v)) → AllKeep P (pieces_of (contents_at n v))
+pub contents_keep : (P : Kept → Type 0) (n : NodeState) (v : NodeId) → AllKeep P (pieces_of (contents_to n.fixed n.parts v))
+    → AllKeep P (pieces_of (contents_at n v))
 contents_keep P n v h =
     cond_either (λ (c : Contents). AllKeep P (pieces_of c)) (is_behind n v) (with_document n.live.document)
     (cond (is_shut_to n v) no_contents (contents_to n.fixed n.parts v)) (tt, tt)
@@ -204,7 +213,8 @@ frame_back arts x P good n u v reads is =
     let c = contents_at n v in
     let format : n.fixed.topology.format ≡ x.topology.format = ap (λ (f : Fixed). f.topology.format) is.fixed in
     let kept : AllKeep P (pieces_of c) = contents_keep P n v (contents_kept (sizes_at x P u) n v is.holds) in
-    let goods : HasGoodMessages arts c = all_of (λ o. IsTrue (arts.is_good o.body)) (pieces_of c) (all_less P (λ o. IsTrue (arts.is_good o.body)) good (pieces_of c) kept) in
+    let goods : HasGoodMessages arts c =
+    all_of (λ o. IsTrue (arts.is_good o.body)) (pieces_of c) (all_less P (λ o. IsTrue (arts.is_good o.body)) good (pieces_of c) kept) in
     ap (λ (f : Fixed). arts.sections f.signature_len (frame_to arts n v)) (sym is.fixed)
     ∙ reads.back n.fixed.signature_len (head_to n v) c (link_in n v).key format
     (subst (λ (f : ℕ). IsContentsIn f n.fixed.signature_len c) format (frame_fits (sizes_at x P u) n v is.holds)) goods
@@ -292,7 +302,8 @@ frames_missed F ds (events.Start a) old u v k bytes at = old u v k bytes at
 frames_missed F ds (events.Stop a) old u v k bytes at = old u v k bytes at
 
 -- a frame that a poll gave is the node's
-pub polled : (arts : Arts) (x : Setting) (es : List Event) (w : World) (n : NodeState) (a b : NodeId) (input : Input) (output : Output) (after : NodeState) (made : List ℕ)
+pub polled : (arts : Arts) (x : Setting) (es : List Event) (w : World) (n : NodeState) (a b : NodeId) (input : Input) (output : Output) (after : NodeState)
+    (made : List ℕ)
     → input_of arts x w n (events.Poll a b) ≡ Some input → NodeStep arts n input output after → output.reply ≡ steps.Frame made
     → output ≡ poll_output arts n b
 polled arts x es w n a b input output after made reaches step reply =
@@ -380,13 +391,15 @@ brings_more : (arts : Arts) (x : Setting) (es : List Event) (e : Event) (o : Opt
 brings_more arts x es e None h = tt
 brings_more arts x es e (Some bytes) h = still_brings arts x es e bytes h
 
+-- a node of a run is of its setting
 pub of_setting : (x : Setting) (P : Kept → Type 0) (u : NodeId) (n : NodeState) → NodeIs x P u n
     → (n.fixed.topology ≡ x.topology) × (n.fixed.admin ≡ x.admin) × (length n.live.weights ≡ length x.topology.edges)
 of_setting x P u n is = (ap (λ (f : Fixed). f.topology) is.fixed, ap (λ (f : Fixed). f.admin) is.fixed, is.holds.live.count)
 
 -- a node moves in the world in which it acts
 pub moves_keep : (arts : Arts) (x : Setting) (es : List Event) (js : List Entry) (old : World) (e : Event) (j : Entry) (new : World) → SettingFits arts x
-    → Carries x.topology.format arts → Signs arts x es js old → AreFields x es e → (m : Move arts x old e j new) → forged arts x es js old m.node m.input m.output ≡ None
+    → Carries x.topology.format arts → Signs arts x es js old → AreFields x es e → (m : Move arts x old e j new)
+    → forged arts x es js old m.node m.input m.output ≡ None
     → Signs arts x (es ++ e ∷ []) (js ++ j ∷ []) new
 moves_keep arts x es' js' old e j new fits reads h range m unforged =
     let reach = input_fits arts x es' old m.node e m.input fits reads h.bytes range m.reaches in
@@ -405,15 +418,20 @@ moves_keep arts x es' js' old e j new fits reads h range m unforged =
         | inl here ↦ subst (NodeIs x Q u) (sym here.1) (subst (λ (v : NodeId). NodeIs x Q v m.after) (sym here.0) done)
         | inr other ↦ node_more x P Q u n more (h.nodes u n other.1)
       ];
-      frames = λ u v k bytes s at read. all_of Q (pieces_of s) (frames_after (λ (u v : NodeId) (bs : List ℕ). (s : Contents) → arts.sections x.signature_len bs ≡ Ok s → AllKeep Q (pieces_of s)) old.directions e m.output.reply
+      frames = λ u v k bytes s at read. all_of Q (pieces_of s)
+          (frames_after (λ (u v : NodeId) (bs : List ℕ). (s : Contents) → arts.sections x.signature_len bs ≡ Ok s → AllKeep Q (pieces_of s)) old.directions e
+          m.output.reply
           (λ a b made poll reply s read. all_less P Q more (pieces_of s)
           (polled_frame arts x P (λ o is_it. is_it.good) m.node (acting e) b m.output made s reads is
-          (polled arts x es' old m.node a b m.input m.output m.after made (subst (λ (y : Event). input_of arts x old m.node y ≡ Some m.input) poll m.reaches) m.step reply) reply read))
+          (polled arts x es' old m.node a b m.input m.output m.after made (subst (λ (y : Event). input_of arts x old m.node y ≡ Some m.input) poll m.reaches)
+          m.step reply) reply read))
           (λ u v k bs at s read. all_less P Q more (pieces_of s) (of_all P (pieces_of s) (h.frames u v k bs s at read))) u v k bytes at s read);
       bytes = frames_after (λ (u v : NodeId) (bs : List ℕ). AreBytes bs) old.directions e m.output.reply
           (λ a b made poll reply. made_bytes x.topology.format arts m.node b m.output made reads is.holds.live.document.0
-          (all_less P IsOfBytes (λ o good. good.bytes) (pieces_of (contents_to m.node.fixed m.node.parts b)) (contents_kept (sizes_at x P (acting e)) m.node b is.holds))
-          (polled arts x es' old m.node a b m.input m.output m.after made (subst (λ (y : Event). input_of arts x old m.node y ≡ Some m.input) poll m.reaches) m.step reply) reply)
+          (all_less P IsOfBytes (λ o good. good.bytes) (pieces_of (contents_to m.node.fixed m.node.parts b))
+          (contents_kept (sizes_at x P (acting e)) m.node b is.holds))
+          (polled arts x es' old m.node a b m.input m.output m.after made (subst (λ (y : Event). input_of arts x old m.node y ≡ Some m.input) poll m.reaches)
+          m.step reply) reply)
           h.bytes;
       documents = λ u v k bytes s at read. frames_after
           (λ (u v : NodeId) (bs : List ℕ). (s : Contents) → arts.sections x.signature_len bs ≡ Ok s → IfSome s.document (Brings arts x (es' ++ e ∷ [])))
@@ -455,7 +473,8 @@ stay_keep arts x es js old e j new h range last nodes frames =
         | inr new ↦ new.0
       ];
       frames = λ u v k bytes c at read. all_of Q (pieces_of c) (all_less P Q more (pieces_of c)
-          (of_all P (pieces_of c) (frames (λ (a b : NodeId) (bs : List ℕ). (s : Contents) → arts.sections x.signature_len bs ≡ Ok s → All P (objects_in (pieces_of s)))
+          (of_all P (pieces_of c)
+          (frames (λ (a b : NodeId) (bs : List ℕ). (s : Contents) → arts.sections x.signature_len bs ≡ Ok s → All P (objects_in (pieces_of s)))
           (λ a b i bs there s is. h.frames a b i bs s there is) u v k bytes at c read)));
       bytes = frames (λ a b bs. AreBytes bs) h.bytes;
       documents = λ u v k bytes c at read.
@@ -487,7 +506,8 @@ life_keeps : (arts : Arts) (x : Setting) (es : List Event) (js : List Entry) (ol
 life_keeps arts x es js old e j new fits reads on keys h range (Starts_now u is start) =
     subst (λ (f : Event). Signs arts x (es ++ f ∷ []) (js ++ j ∷ []) new) (sym is)
     (stay_keep arts x es js old (events.Start u) j new h (subst (AreFields x es) is range.fields) (ap (λ (w : World). w.published) start.world)
-    (λ v n at. elim (more_found v n (node_at_start arts x u (next_start x old u)) old.nodes (subst (λ (w : World). node_in w.nodes v ≡ Some n) start.world at)) [
+    (λ v n at. elim (more_found v n (node_at_start arts x u (next_start x old u)) old.nodes
+    (subst (λ (w : World). node_in w.nodes v ≡ Some n) start.world at)) [
       | inl was ↦ inl was
       | inr it ↦ inr (
         start_is arts x es js old new u j fits reads on keys h.entries (subst (InRange x es) is range) start v n it,
@@ -524,11 +544,13 @@ turns_keep_signs arts x es js old e j new fits reads keys h range (Stays s) unfo
 turns_keep_signs arts x es js old e j new fits reads keys h range (Lives on life) unforged =
     life_keeps arts x es js old e j new fits reads on keys h range (life_case arts x old e j new life)
 
+-- in every state of a run without forgery the claims of signed objects hold
 pub signs : (arts : Arts) (x : Setting) (es : List Event) (js : List Entry) (w : World) → SettingFits arts x → Carries x.topology.format arts
     → Clean arts x es js w → Signs arts x es js w
 signs arts x es js w fits reads Starts = signs_begin arts x fits
 signs arts x es js w fits reads (Turned {es = es'} {js = js'} {old = old} {e = e} {j = j} run range turn unforged) =
-    turns_keep_signs arts x es' js' old e j w fits reads (key_files_stand arts x es' js' old fits run) (signs arts x es' js' old fits reads run) range turn unforged
+    turns_keep_signs arts x es' js' old e j w fits reads (key_files_stand arts x es' js' old fits run) (signs arts x es' js' old fits reads run) range turn
+    unforged
 
 -- the same in the world in which a node acts
 pub signs_there : (arts : Arts) (x : Setting) (es : List Event) (js : List Entry) (w : World) (e : Event) → SettingFits arts x → Carries x.topology.format arts

@@ -82,6 +82,7 @@ last_in : (f : Fixed) (r : Result Contents SectionRefused) → StartLast (pieces
 last_in f (Ok s) = beside StartLast s.document (pieces_of (heeded f s)) tt (last_of (heeded f s))
 last_in f (Err refused) = tt
 
+-- an Epoch object is the last piece that is handled
 pub last_where : (reply : LinkReply) (f : Fixed) (r : Result Contents SectionRefused) → StartLast (pieces_where reply (pieces_in f r))
 last_where links.Fresh f r = last_in f r
 last_where links.TooLong f r = tt
@@ -143,6 +144,7 @@ new_start_is starts.Old e = absurd (cc)
 new_start_is starts.BadEnd e = absurd (cc)
 new_start_is starts.BadSig e = absurd (cc)
 
+-- where an Epoch object is new, its boot follows the one that was held
 pub start_follows : (arts : Arts) (at : Arrival) (p : Parts) (o : Kept)
     → is_new (items.Epoch (epoch_answer (is_signed arts at.fixed o) (judge_epoch at.fixed.me p.lives o.body))) ≡ true
     → Follows (origin_said o.body) (boot_said o.body) p (met p o)
@@ -225,7 +227,8 @@ module _ (arts : Arts) (v : NodeId) (most : ℕ) where
           let same = greeted_lives n.fixed.epochs (rises arts n u bytes) u n.parts in
           let met : held_boot (parts_met arts n u bytes).lives v ≤ most = subst (λ (lives : List Life). held_boot lives v ≤ most) (sym same) low in
           let first = all_below (arrival_at n u) (parts_met arts n u bytes) (pieces_at arts n u bytes) new met in
-          subst Below (sym e) (reading arts (before_document arts n u bytes) (document_at arts n u bytes) (λ m told. Below m) first (λ document d is reads by. first))
+          subst Below (sym e)
+          (reading arts (before_document arts n u bytes) (document_at arts n u bytes) (λ m told. Below m) first (λ document d is reads by. first))
       go (Some refused) new e = subst Below (sym e) low
   step_below n (steps.Tick now) output after step new low =
       subst Below (sym step.1) (settled_below (at_time n now) (due_now n) (signer_refusal n.signer) low)

@@ -42,11 +42,13 @@ pub held_both : (p : ℕ) (st : Shelf) (xs ys : List Effect) → shelf_by p st (
 held_both p st [] ys = refl
 held_both p st (e ∷ xs) ys = held_both p (shelf_after p st e) xs ys
 
-pub shares_both : (capacity p : ℕ) (st : Shelf) (xs ys : List Effect) → Steps capacity p st xs → Steps capacity p (shelf_by p st xs) ys → Steps capacity p st (xs ++ ys)
+pub shares_both : (capacity p : ℕ) (st : Shelf) (xs ys : List Effect) → Steps capacity p st xs → Steps capacity p (shelf_by p st xs) ys
+    → Steps capacity p st (xs ++ ys)
 shares_both capacity p st [] ys one two = two
 shares_both capacity p st (e ∷ xs) ys one two = (one.0, shares_both capacity p (shelf_after p st e) xs ys one.1 two)
 
-pub leads_on : (capacity p : ℕ) (st mid after : Shelf) (xs ys : List Effect) → Leads capacity p st xs mid → Leads capacity p mid ys after → Leads capacity p st (xs ++ ys) after
+pub leads_on : (capacity p : ℕ) (st mid after : Shelf) (xs ys : List Effect) → Leads capacity p st xs mid → Leads capacity p mid ys after
+    → Leads capacity p st (xs ++ ys) after
 leads_on capacity p st mid after xs ys one two = record {
   held = held_both p st xs ys ∙ ap (λ h. shelf_by p h ys) one.held ∙ two.held;
   shares = shares_both capacity p st xs ys one.shares (subst (λ h. Steps capacity p h ys) (sym one.held) two.shares);
@@ -122,10 +124,13 @@ less_shelf id st = record { top = st.top; held = less_held id st.held }
 gone_here : (capacity p : ℕ) (st : Shelf) (id : ℕ) (why : Why) → id ≤ st.top → (why ≡ whys.Evicted → IsShare capacity st.held id)
     → Leads capacity p st (effects.Gone p id why ∷ []) (less_shelf id st)
 unfolding less_shelf
-gone_here capacity p st id whys.Evicted given share = let t : (p == p) ≡ true = eq-eqb p p refl in record { held = rw t refl; shares = ((λ same. given, λ same. share refl), tt) }
-gone_here capacity p st id whys.Expired given share = let t : (p == p) ≡ true = eq-eqb p p refl in record { held = rw t refl; shares = ((λ same. given, tt), tt) }
+gone_here capacity p st id whys.Evicted given share = let t : (p == p) ≡ true = eq-eqb p p refl in
+    record { held = rw t refl; shares = ((λ same. given, λ same. share refl), tt) }
+gone_here capacity p st id whys.Expired given share = let t : (p == p) ≡ true = eq-eqb p p refl in
+    record { held = rw t refl; shares = ((λ same. given, tt), tt) }
 gone_here capacity p st id whys.Acked given share = let t : (p == p) ≡ true = eq-eqb p p refl in record { held = rw t refl; shares = ((λ same. given, tt), tt) }
-gone_here capacity p st id whys.Withdrawn given share = let t : (p == p) ≡ true = eq-eqb p p refl in record { held = rw t refl; shares = ((λ same. given, tt), tt) }
+gone_here capacity p st id whys.Withdrawn given share = let t : (p == p) ≡ true = eq-eqb p p refl in
+    record { held = rw t refl; shares = ((λ same. given, tt), tt) }
 gone_here capacity p st id whys.Taken given share = let t : (p == p) ≡ true = eq-eqb p p refl in record { held = rw t refl; shares = ((λ same. given, tt), tt) }
 
 -- the shelf of these entries
@@ -136,7 +141,8 @@ stored_here : (capacity p top id : ℕ) (o : Kept) (es : List Entry) → top < i
     → Leads capacity p (shelf_of top es) (rows.stored p id o.body) (shelf_of id (es ++ (record { id = id; kept = o }) ∷ []))
 stored_here capacity p top id o es above is = go o.body refl is
   where
-    go : (body : Body) → o.body ≡ body → IsPrio body → Leads capacity p (shelf_of top es) (rows.stored p id body) (shelf_of id (es ++ (record { id = id; kept = o }) ∷ []))
+    go : (body : Body) → o.body ≡ body → IsPrio body
+        → Leads capacity p (shelf_of top es) (rows.stored p id body) (shelf_of id (es ++ (record { id = id; kept = o }) ∷ []))
     go (bodies.Prio b) same is =
         let t : (p == p) ≡ true = eq-eqb p p refl in
         let new : as_held (record { id = id; kept = o }) ≡ record { id = id; src = b.src.0; seq = b.seq; prio = b.prio } =
@@ -155,7 +161,8 @@ stored_here capacity p top id o es above is = go o.body refl is
     go (bodies.Epoch b) same is = absurd is
 
 pub record PutFacts (capacity p : ℕ) (s : Store) (o : Kept) (gone : Option Entry) : Type 0 where
-  pub leads : Leads capacity p (shelf s) (rows.stored p (s.last + 1) o.body ++ rows.gone p whys.Evicted gone) (shelf_of (s.last + 1) (without gone (arriving s o)))
+  pub leads : Leads capacity p (shelf s) (rows.stored p (s.last + 1) o.body ++ rows.gone p whys.Evicted gone)
+      (shelf_of (s.last + 1) (without gone (arriving s o)))
   pub after : StoreIs capacity (record { capacity = s.capacity; last = s.last + 1; entries = without gone (arriving s o) })
 
 -- one that is there has a given id
@@ -166,16 +173,19 @@ given_id (e ∷ es) id last some all = elim (cases_Bool (e.id == id)) [
   | inr t ↦ given_id es id last (rw t at some) (All-tail (λ (x : Entry). x.id ≤ last) e es all)
 ]
 
-pub put_here : (capacity p : ℕ) (s : Store) (o : Kept) → IsPrio o.body → said (λ r. r.src.0) o.body < IDS → StoreIs capacity s → PutFacts capacity p s o (evicted s o)
+pub put_here : (capacity p : ℕ) (s : Store) (o : Kept) → IsPrio o.body → said (λ r. r.src.0) o.body < IDS → StoreIs capacity s
+    → PutFacts capacity p s o (evicted s o)
 unfolding less_shelf
 put_here capacity p s o is small h =
     let new : Entry = record { id = s.last + 1; kept = o } in
     let all = arriving s o in
     let grown : length all ≡ length s.entries + 1 = length-append s.entries (new ∷ []) in
-    let below : All (λ e. e.id < s.last + 1) s.entries = all_weaker (λ (e : Entry). e.id ≤ s.last) (λ (e : Entry). e.id < s.last + 1) s.entries (λ e le. omega (arith, le)) h.last in
+    let below : All (λ e. e.id < s.last + 1) s.entries =
+    all_weaker (λ (e : Entry). e.id ≤ s.last) (λ (e : Entry). e.id < s.last + 1) s.entries (λ e le. omega (arith, le)) h.last in
     let rising : Rising 0 all = rising_push 0 s.entries new below (omega arith) h.rising in
     let last : All (λ e. e.id ≤ s.last + 1) all =
-    all_push (λ (e : Entry). e.id ≤ s.last + 1) s.entries new (all_weaker (λ (e : Entry). e.id ≤ s.last) (λ (e : Entry). e.id ≤ s.last + 1) s.entries (λ e le. omega (arith, le)) h.last) (omega arith) in
+    all_push (λ (e : Entry). e.id ≤ s.last + 1) s.entries new
+    (all_weaker (λ (e : Entry). e.id ≤ s.last) (λ (e : Entry). e.id ≤ s.last + 1) s.entries (λ e le. omega (arith, le)) h.last) (omega arith) in
     let sources_small : All (λ e. source e < IDS) all = all_push (λ (e : Entry). source e < IDS) s.entries new h.small small in
     let stored = stored_here capacity p s.last (s.last + 1) o s.entries (omega arith) is in
     let goes = one_goes s.entries new small in
@@ -185,9 +195,12 @@ put_here capacity p s o is small h =
     let over : s.capacity < length all = grind (arith, nat_tests, full) in
     let many : length all ≡ capacity + 1 = omega (arith, over, grown, h.few, h.capacity_is) in
     subst (PutFacts capacity p s o) (sym goes.is) (record {
-      leads = leads_on capacity p (shelf s) (shelf_of (s.last + 1) all) (shelf_of (s.last + 1) (less_first (has_id v.id) all)) (rows.stored p (s.last + 1) o.body) (effects.Gone p v.id whys.Evicted ∷ []) stored
-          (subst (λ (hs : List Held). Leads capacity p (shelf_of (s.last + 1) all) (effects.Gone p v.id whys.Evicted ∷ []) (record { top = s.last + 1; held = hs })) (less_one_held v.id 0 all rising)
-          (gone_here capacity p (shelf_of (s.last + 1) all) v.id whys.Evicted (given_id all v.id (s.last + 1) goes.there last) (λ why. is_share capacity all v rising sources_small many goes.is)));
+      leads = leads_on capacity p (shelf s) (shelf_of (s.last + 1) all) (shelf_of (s.last + 1) (less_first (has_id v.id) all))
+          (rows.stored p (s.last + 1) o.body) (effects.Gone p v.id whys.Evicted ∷ []) stored
+          (subst (λ (hs : List Held). Leads capacity p (shelf_of (s.last + 1) all) (effects.Gone p v.id whys.Evicted ∷ [])
+          (record { top = s.last + 1; held = hs })) (less_one_held v.id 0 all rising)
+          (gone_here capacity p (shelf_of (s.last + 1) all) v.id whys.Evicted (given_id all v.id (s.last + 1) goes.there last)
+          (λ why. is_share capacity all v rising sources_small many goes.is)));
       after = record {
         capacity_is = h.capacity_is;
         rising = rising_less 0 (has_id v.id) all rising;
@@ -197,7 +210,8 @@ put_here capacity p s o is small h =
       };
     }))
     (λ free. record {
-      leads = leads_on capacity p (shelf s) (shelf_of (s.last + 1) all) (shelf_of (s.last + 1) all) (rows.stored p (s.last + 1) o.body) [] stored (leads_nowhere capacity p (shelf_of (s.last + 1) all));
+      leads = leads_on capacity p (shelf s) (shelf_of (s.last + 1) all) (shelf_of (s.last + 1) all) (rows.stored p (s.last + 1) o.body) [] stored
+          (leads_nowhere capacity p (shelf_of (s.last + 1) all));
       after = record { capacity_is = h.capacity_is; rising = rising; last = last; few = grind (arith, nat_tests, free); small = sources_small };
     })
 
@@ -226,17 +240,20 @@ found_given id last (y ∷ es) x e all = elim (cases_Bool (y.id == id)) [
   | inr t ↦ found_given id last es x (rw t at e) (All-tail (λ (z : Entry). z.id ≤ last) y es all)
 ]
 
-pub removed_leads : (capacity p : ℕ) (s : Store) (id : ℕ) → StoreIs capacity s → Leads capacity p (shelf s) (rows.gone p whys.Acked (entry_in s id)) (shelf (removed s id))
+pub removed_leads : (capacity p : ℕ) (s : Store) (id : ℕ) → StoreIs capacity s
+    → Leads capacity p (shelf s) (rows.gone p whys.Acked (entry_in s id)) (shelf (removed s id))
 unfolding less_shelf
 removed_leads capacity p s id h = go (entry_in s id) refl
   where
     go : (o : Option Entry) → entry_in s id ≡ o → Leads capacity p (shelf s) (rows.gone p whys.Acked o) (shelf (removed s id))
-    go None is = subst (λ (es : List Entry). Leads capacity p (shelf s) [] (shelf_of s.last es)) (sym (none_less id s.entries is)) (leads_nowhere capacity p (shelf s))
+    go None is =
+        subst (λ (es : List Entry). Leads capacity p (shelf s) [] (shelf_of s.last es)) (sym (none_less id s.entries is)) (leads_nowhere capacity p (shelf s))
     go (Some x) is =
         let same : x.id ≡ id = found_id id s.entries x is in
         let given : id ≤ s.last = subst (λ n. n ≤ s.last) same (found_given id s.last s.entries x is h.last) in
         subst (λ n. Leads capacity p (shelf s) (effects.Gone p n whys.Acked ∷ []) (shelf (removed s id))) (sym same)
-        (subst (λ (hs : List Held). Leads capacity p (shelf s) (effects.Gone p id whys.Acked ∷ []) (record { top = s.last; held = hs })) (less_one_held id 0 s.entries h.rising)
+        (subst (λ (hs : List Held). Leads capacity p (shelf s) (effects.Gone p id whys.Acked ∷ []) (record { top = s.last; held = hs }))
+        (less_one_held id 0 s.entries h.rising)
         (gone_here capacity p (shelf s) id whys.Acked given (λ why. absurd (cc))))
 
 pub removed_is : (capacity : ℕ) (s : Store) (id : ℕ) → StoreIs capacity s → StoreIs capacity (removed s id)
@@ -314,10 +331,12 @@ filter_held b test (e ∷ es) rising = go (test e) (filter_held e.id test es ris
     itself = let same : (e.id == e.id) ≡ true = eq-eqb e.id e.id refl in rw same (keeps_all e.id e.id es (omega arith) rising.1)
 
     go : (t : Bool) → less_all (all_held es) (filter test es) ≡ all_held (filter (λ x. not (test x)) es)
-        → less_all (all_held (e ∷ es)) (cond t (e ∷ filter test es) (filter test es)) ≡ all_held (cond (not t) (e ∷ filter (λ x. not (test x)) es) (filter (λ x. not (test x)) es))
+        → less_all (all_held (e ∷ es)) (cond t (e ∷ filter test es) (filter test es))
+        ≡ all_held (cond (not t) (e ∷ filter (λ x. not (test x)) es) (filter (λ x. not (test x)) es))
     go true rest = ap (λ h. less_all h (filter test es)) itself ∙ rest
     go false rest =
-        stays_first (as_held e) (all_held es) (filter test es) (all_filter (λ (g : Entry). e.id < g.id) test es (above_all e.id es rising.1)) ∙ ap (λ hs. as_held e ∷ hs) rest
+        stays_first (as_held e) (all_held es) (filter test es) (all_filter (λ (g : Entry). e.id < g.id) test es (above_all e.id es rising.1))
+        ∙ ap (λ hs. as_held e ∷ hs) rest
 
 all_leave : (why : Why) → (why ≡ whys.Evicted → ⊥) → (capacity p : ℕ) (st : Shelf) (gs : List Entry) → All (λ g. g.id ≤ st.top) gs
     → Leads capacity p st (leaving_by why p gs) (record { top = st.top; held = less_all st.held gs })
@@ -325,7 +344,8 @@ unfolding less_shelf
 all_leave why never capacity p st [] all = leads_nowhere capacity p st
 all_leave why never capacity p st (g ∷ gs) all =
     let first = gone_here capacity p st g.id why (All-head (λ (x : Entry). x.id ≤ st.top) g gs all) (λ is. absurd (never is)) in
-    leads_on capacity p st (less_shelf g.id st) (record { top = st.top; held = less_all st.held (g ∷ gs) }) (effects.Gone p g.id why ∷ []) (leaving_by why p gs) first
+    leads_on capacity p st (less_shelf g.id st) (record { top = st.top; held = less_all st.held (g ∷ gs) }) (effects.Gone p g.id why ∷ []) (leaving_by why p gs)
+    first
     (all_leave why never capacity p (less_shelf g.id st) gs (All-tail (λ (x : Entry). x.id ≤ st.top) g gs all))
 
 -- entries that pass leave for a reason that isn't an eviction
@@ -335,7 +355,8 @@ less_by test s = record s { entries = filter (λ e. not (test e)) s.entries }
 pub left_by_leads : (why : Why) → (why ≡ whys.Evicted → ⊥) → (capacity p : ℕ) (s : Store) (test : Entry → Bool) → StoreIs capacity s
     → Leads capacity p (shelf s) (leaving_by why p (filter test s.entries)) (shelf (less_by test s))
 left_by_leads why never capacity p s test h =
-    subst (λ (hs : List Held). Leads capacity p (shelf s) (leaving_by why p (filter test s.entries)) (record { top = s.last; held = hs })) (filter_held 0 test s.entries h.rising)
+    subst (λ (hs : List Held). Leads capacity p (shelf s) (leaving_by why p (filter test s.entries)) (record { top = s.last; held = hs }))
+    (filter_held 0 test s.entries h.rising)
     (all_leave why never capacity p (shelf s) (filter test s.entries) (all_filter (λ (e : Entry). e.id ≤ s.last) test s.entries h.last))
 
 pub left_by_is : (capacity : ℕ) (s : Store) (test : Entry → Bool) → StoreIs capacity s → StoreIs capacity (less_by test s)
@@ -351,10 +372,13 @@ pub left_by_away : (why : Why) (p place : ℕ) (es : List Entry) → (place ≡ 
 left_by_away why p place [] other = tt
 left_by_away why p place (e ∷ es) other = (Leaves other, left_by_away why p place es other)
 
-pub expired_leads : (capacity p : ℕ) (s : Store) (now : ℕ) → StoreIs capacity s → Leads capacity p (shelf s) (rows.expired_effects p s now) (shelf (less_expired s now))
+pub expired_leads : (capacity p : ℕ) (s : Store) (now : ℕ) → StoreIs capacity s
+    → Leads capacity p (shelf s) (rows.expired_effects p s now) (shelf (less_expired s now))
 expired_leads capacity p s now h =
-    subst (λ (hs : List Held). Leads capacity p (shelf s) (rows.expired_effects p s now) (record { top = s.last; held = hs })) (filter_held 0 (is_expired now) s.entries h.rising)
-    (all_leave whys.Expired (λ is. absurd (cc)) capacity p (shelf s) (filter (is_expired now) s.entries) (all_filter (λ (e : Entry). e.id ≤ s.last) (is_expired now) s.entries h.last))
+    subst (λ (hs : List Held). Leads capacity p (shelf s) (rows.expired_effects p s now) (record { top = s.last; held = hs }))
+    (filter_held 0 (is_expired now) s.entries h.rising)
+    (all_leave whys.Expired (λ is. absurd (cc)) capacity p (shelf s) (filter (is_expired now) s.entries)
+    (all_filter (λ (e : Entry). e.id ≤ s.last) (is_expired now) s.entries h.last))
 
 pub expired_is : (capacity : ℕ) (s : Store) (now : ℕ) → StoreIs capacity s → StoreIs capacity (less_expired s now)
 expired_is capacity s now h = record {

@@ -33,14 +33,17 @@ found_passes p y (x ∷ xs) e = elim (cases_Bool (p x)) [
   | inr t ↦ found_passes p y xs (rw t at e)
 ]
 
+-- nodes of one number are equal
 pub same_node : (u v : NodeId) → u.0 ≡ v.0 → u ≡ v
 same_node u v e = ap (λ (n : ℕ). record { 0 = n }) e
 
 -- ---- nodes
 
+-- the node that is found is the one that was sought
 pub node_is : (nodes : List NodeState) (u : NodeId) (n : NodeState) → node_in nodes u ≡ Some n → n.fixed.me ≡ u
 node_is nodes u n e = same_node _ _ (eqb-true _ _ (found_passes (is_me u) n nodes e))
 
+-- a node that is found after a change is the changed one, or was found before
 pub node_put : (u a : NodeId) (after m : NodeState) (ns : List NodeState) → after.fixed.me ≡ a → node_in (with_node ns a after) u ≡ Some m
     → ((u ≡ a) × (m ≡ after)) ⊎ ((u ≡ a → ⊥) × (node_in ns u ≡ Some m))
 node_put u a after m ns me e = elim (cases_eq u.0 a.0) [
@@ -66,7 +69,8 @@ together : (x y : Bool) → x ≡ true → y ≡ true → (x && y) ≡ true
 together x y e f = rw (e, f) refl
 
 -- a frame of a direction is the one that was put last, or was there
-pub frame_put : (u v a b : NodeId) (ds : List Direction) (frame : Option (List ℕ)) (k : ℕ) (x : Option (List ℕ)) → slice_get (frames_in (with_frame ds a b frame) u v) k ≡ Some x
+pub frame_put : (u v a b : NodeId) (ds : List Direction) (frame : Option (List ℕ)) (k : ℕ) (x : Option (List ℕ))
+    → slice_get (frames_in (with_frame ds a b frame) u v) k ≡ Some x
     → ((u ≡ a) × (v ≡ b) × (x ≡ frame)) ⊎ (slice_get (frames_in ds u v) k ≡ Some x)
 frame_put u v a b ds frame k x e =
     let row : Direction = record { from = a; to = b; frames = frames_in ds a b ++ frame ∷ [] } in
@@ -76,7 +80,8 @@ frame_put u v a b ds frame k x e =
           let ua : u ≡ a = sym (same_node a u ends.0) in
           let vb : v ≡ b = sym (same_node b v ends.1) in
           let here : frames_in (with_frame ds a b frame) a b ≡ frames_in ds a b ++ frame ∷ [] =
-          ap (λ (d : Direction). d.frames) (first_where-put (is_from_to a b) (record { from = a; to = b; frames = [] }) row ds (together _ _ (eq-eqb a.0 a.0 refl) (eq-eqb b.0 b.0 refl))) in
+          ap (λ (d : Direction). d.frames)
+          (first_where-put (is_from_to a b) (record { from = a; to = b; frames = [] }) row ds (together _ _ (eq-eqb a.0 a.0 refl) (eq-eqb b.0 b.0 refl))) in
           let e1 : slice_get (frames_in (with_frame ds a b frame) a b) k ≡ Some x = rw (ua, vb) at e in
           elim (get_push (frames_in ds a b) frame k x (sym (ap (λ fs. slice_get fs k) here) ∙ e1)) [
             | inl was ↦ inr (rw (ua, vb) was)

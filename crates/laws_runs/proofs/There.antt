@@ -22,7 +22,8 @@ use Rattle.laws_runs.proofs.Running.{there_found, with_any}
 use Rattle.laws_runs.proofs.Signed.{signs}
 use Rattle.laws_runs.proofs.Tables.{node_is, same_node}
 
-among_correct : (x : Setting) (u : NodeId) → is_correct x u ≡ true → (ns : List NodeId) → is_one_of ns u ≡ true → list_any (is_me u) (map (node_at_boot x) (filter (is_correct x) ns)) ≡ true
+among_correct : (x : Setting) (u : NodeId) → is_correct x u ≡ true → (ns : List NodeId) → is_one_of ns u ≡ true
+    → list_any (is_me u) (map (node_at_boot x) (filter (is_correct x) ns)) ≡ true
 among_correct x u correct [] there = absurd (let e : false ≡ true = there in cc)
 among_correct x u correct (v ∷ ns) there = elim (cases_Bool (eqb v.0 u.0)) [
   | inl t ↦ let same : v ≡ u = same_node v u (eqb-true _ _ t) in let is : is_correct x v ≡ true = ap (is_correct x) same ∙ correct in rw (is, t) refl
@@ -42,7 +43,8 @@ any_there arts x es js w fits Starts u correct = any_at_start x u fits.plain cor
 any_there arts x es js w fits (Turned {es = es'} {js = js'} {old = old} {e = e} {j = j} run range turn unforged) u correct =
     after arts x es' js' old w e j u (any_there arts x es' js' old fits run u correct) (plain_turn arts x es' js' old w e j fits.plain turn unforged)
   where
-    after : (arts : Arts) (x : Setting) (es : List Event) (js : List Entry) (old new : World) (e : Event) (j : Entry) (u : NodeId) → list_any (is_me u) old.nodes ≡ true
+    after : (arts : Arts) (x : Setting) (es : List Event) (js : List Entry) (old new : World) (e : Event) (j : Entry) (u : NodeId)
+        → list_any (is_me u) old.nodes ≡ true
         → Plain arts x es js old e j new → list_any (is_me u) new.nodes ≡ true
     after arts x es js old new e j u before (Goes m none) =
         let fixed = (step_stays arts m.node m.input m.output m.after m.step).fixed in
@@ -50,6 +52,7 @@ any_there arts x es js w fits (Turned {es = es'} {js = js'} {old = old} {e = e} 
         ap (λ (y : World). list_any (is_me u) y.nodes) m.world ∙ with_any u (acting e) m.after old.nodes me ∙ before
     after arts x es js old new e j u before (Rests s) = ap (λ (y : World). list_any (is_me u) y.nodes) s.world ∙ before
 
+-- in a run without starts and stops each correct node is there
 pub is_there : (arts : Arts) (x : Setting) (es : List Event) (js : List Entry) (w : World) → StaysUp arts x → Clean arts x es js w
     → (u : NodeId) → is_correct x u ≡ true → (n : NodeState) × (node_in w.nodes u ≡ Some n)
 is_there arts x es js w fits run u correct = there_found u w.nodes (any_there arts x es js w fits run u correct)

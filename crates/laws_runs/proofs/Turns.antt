@@ -63,13 +63,15 @@ stepped : (arts : Arts) (n : NodeState) (input : Input) → Choosable n input �
 stepped arts n (steps.Poll v) c = record { output = steps.poll_output arts n v; after = after_poll n v; step = (refl, refl) }
 stepped arts n (steps.Datagram v bytes) c = record { output = steps.datagram_output arts n v bytes; after = after_datagram arts n v bytes; step = (refl, refl) }
 stepped arts n (steps.Tick now) c = record { output = steps.tick_output arts n now; after = after_tick arts n now; step = (refl, refl) }
-stepped arts n (steps.SendRel dst payload) c = record { output = steps.send_rel_output arts n dst payload; after = after_send_rel arts n dst payload; step = (refl, refl) }
+stepped arts n (steps.SendRel dst payload) c =
+    record { output = steps.send_rel_output arts n dst payload; after = after_send_rel arts n dst payload; step = (refl, refl) }
 stepped arts n (steps.SendPrio m) c = record {
   output = steps.send_prio_output arts n m c.0;
   after = after_send_prio arts n m c.0;
   step = record { choice = c.0; is_choice = λ free. c.1; output_is = refl; new_is = refl };
 }
-stepped arts n (steps.SetWeight v weight) c = record { output = steps.set_weight_output arts n v weight; after = after_set_weight arts n v weight; step = (refl, refl) }
+stepped arts n (steps.SetWeight v weight) c =
+    record { output = steps.set_weight_output arts n v weight; after = after_set_weight arts n v weight; step = (refl, refl) }
 stepped arts n (steps.TakeRel src) c =
     record { output = steps.replied (steps.Payload (rel.oldest n.parts.rel src)); after = after_take_rel n src; step = (refl, refl) }
 stepped arts n (steps.Publish document) c = record { output = steps.publish_output arts n document; after = after_publish arts n document; step = (refl, refl) }
@@ -349,7 +351,8 @@ each_event_has_a_turn arts x es js w fits carries choices run few e range = go x
         somebody it.other it.here (found_there (acting e) there.0 w.nodes there.1)
 
 -- without epochs each event comes to a node
-pub epochs_are_on : (arts : Arts) (x : Setting) (es : List Event) (js : List Entry) (w : World) (e : Event) → SettingFits arts x → Clean arts x es js w → InRange x es e
+pub epochs_are_on : (arts : Arts) (x : Setting) (es : List Event) (js : List Entry) (w : World) (e : Event) → SettingFits arts x → Clean arts x es js w
+    → InRange x es e
     → comes_to_nobody w e ≡ true → x.epochs ≡ true
 epochs_are_on arts x es js w e fits run range nobody = go x.epochs refl
   where

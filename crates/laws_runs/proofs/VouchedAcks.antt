@@ -72,7 +72,8 @@ pub vouched : (arts : Arts) (x : Setting) (s d : NodeId) (es : List Event) (js :
 vouched arts x s d es js fits from to correct u n is acks some =
     let k = sizes_at x (Good arts x es js) u in
     let nodes = nodes_hold x.topology.format x.topology.height 0 x.topology.nodes fits.topology.ranges.nodes in
-    let row = read k n.signer.index n.parts.rel.flows (flow_of s d) (in_range x.topology.format (nodes_of x.topology) s nodes from) (in_range x.topology.format (nodes_of x.topology) d nodes to)
+    let row = read k n.signer.index n.parts.rel.flows (flow_of s d) (in_range x.topology.format (nodes_of x.topology) s nodes from)
+    (in_range x.topology.format (nodes_of x.topology) d nodes to)
     is.holds.parts.rel.flows in
     let numbered = (flow_ack n.parts.rel (flow_of s d) acks).ack some in
     let kept : AckKept k (ends (flow_at n s d)) numbered.ack = subst (λ o. IfSome o (AckKept k (ends (flow_at n s d)))) numbered.kept row.ack in

@@ -194,7 +194,9 @@ weights_on arts x es js old e j new fits reads keys signs range (Moves m) unforg
     let there = signs_ready arts x es js old e keys signs in
     let same = signs.entries in
     let is = there.nodes (acting e) m.node m.is_there in
-    let nothing = unforged_both (has_forged_tag arts x w m.node m.input) (forged_object arts x es js m.output.answered) (forged_document arts es m.output.adopted) unforged in
+    let nothing =
+    unforged_both (has_forged_tag arts x w m.node m.input) (forged_object arts x es js m.output.answered) (forged_document arts es m.output.adopted)
+    unforged in
     let before : m.node.fixed.me ≡ acting e = node_is w.nodes (acting e) m.node m.is_there in
     let me : m.after.fixed.me ≡ acting e = ap (λ (f : Fixed). f.me) (step_stays arts m.node m.input m.output m.after m.step).fixed ∙ before in
     let P = Good arts x es js in

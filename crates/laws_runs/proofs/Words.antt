@@ -190,10 +190,12 @@ arrived_words arts x n v bytes input output after number same answers step =
     let is : output ≡ steps.arrived arts n v bytes = moves.0 ∙ ap (λ r. steps.refused_call r (steps.arrived arts n v bytes)) answers in
     subst (λ (o : Output). reply_word x number o.reply ≢ None) (sym is) (told _)
 
-frame_words : (arts : Arts) (x : Setting) (n : NodeState) (v : NodeId) (output : Output) (number : ℕ) → call_refusal n v ≡ None → output ≡ steps.poll_output arts n v
+frame_words : (arts : Arts) (x : Setting) (n : NodeState) (v : NodeId) (output : Output) (number : ℕ) → call_refusal n v ≡ None
+    → output ≡ steps.poll_output arts n v
     → reply_word x number output.reply ≢ None
 frame_words arts x n v output number answers is =
-    let made : output ≡ steps.replied (steps.Frame (frame_to arts n v)) = is ∙ ap (λ r. steps.refused_call r (steps.replied (steps.Frame (frame_to arts n v)))) answers in
+    let made : output ≡ steps.replied (steps.Frame (frame_to arts n v)) =
+    is ∙ ap (λ r. steps.refused_call r (steps.replied (steps.Frame (frame_to arts n v)))) answers in
     subst (λ (o : Output). reply_word x number o.reply ≢ None) (sym made) (told _)
 
 -- ---- all events

@@ -69,7 +69,8 @@ as_much = record {
 }
 
 -- the row of the flow from 1 to 3, and that of the first neighbour
-flow_at : (n : NodeState) → IsWithin n → 1 < length n.parts.rel.flows → FlowIsBounded 2 (get_or n.parts.rel.flows 1 (no_flow (record { src = node 1; dst = node 3 })))
+flow_at : (n : NodeState) → IsWithin n → 1 < length n.parts.rel.flows
+    → FlowIsBounded 2 (get_or n.parts.rel.flows 1 (no_flow (record { src = node 1; dst = node 3 })))
 flow_at n h inside = h.each_flow 1 (no_flow (record { src = node 1; dst = node 3 })) inside
 
 peer_at : (n : NodeState) → IsWithin n → 0 < length n.parts.prio.peers → PeerIsBounded 4 (get_or n.parts.prio.peers 0 no_peer)

@@ -57,7 +57,8 @@ none_there w h None at = refl
 none_there w h (Some n) at = wrong (h.correct (node 2) n at).0
 
 -- the state is that of the first, or of a later one
-node_cases : (m : NodeState) (ms : List NodeState) (u : NodeId) (n : NodeState) → node_in (m ∷ ms) u ≡ Some n → ((m.fixed.me ≡ u) × (m ≡ n)) ⊎ (node_in ms u ≡ Some n)
+node_cases : (m : NodeState) (ms : List NodeState) (u : NodeId) (n : NodeState) → node_in (m ∷ ms) u ≡ Some n
+    → ((m.fixed.me ≡ u) × (m ≡ n)) ⊎ (node_in ms u ≡ Some n)
 node_cases m ms u n at = go (m.fixed.me.0 == u.0) refl
   where
     go : (b : Bool) → (m.fixed.me.0 == u.0) ≡ b → ((m.fixed.me ≡ u) × (m ≡ n)) ⊎ (node_in ms u ≡ Some n)
@@ -76,7 +77,8 @@ start_there u correct = go (1 == u.0) refl (3 == u.0) refl
   where
     go : (a : Bool) → (1 == u.0) ≡ a → (b : Bool) → (3 == u.0) ≡ b → (n : NodeState) × (node_in (at_start half).nodes u ≡ Some n)
     go true e b f = (boots 1, ap (λ (t : Bool). cond t (Some (boots 1)) (cond (3 == u.0) (Some (boots 3)) None)) e)
-    go false e true f = (boots 3, ap (λ (t : Bool). cond t (Some (boots 1)) (cond (3 == u.0) (Some (boots 3)) None)) e ∙ ap (λ (t : Bool). cond t (Some (boots 3)) None) f)
+    go false e true f =
+        (boots 3, ap (λ (t : Bool). cond t (Some (boots 1)) (cond (3 == u.0) (Some (boots 3)) None)) e ∙ ap (λ (t : Bool). cond t (Some (boots 3)) None) f)
     go false e false f = absurd (nobody_else (1 == u.0) (2 == u.0) (3 == u.0) e f correct)
 
 start_is : (u : NodeId) (n : NodeState) → node_in (at_start half).nodes u ≡ Some n → IsTrue (is_correct half u) × (n.fixed ≡ fixed_of half u)
@@ -135,14 +137,19 @@ believed_is : (u : NodeId) (n : NodeState) (edge : ℕ) (e : Edge) → node_in b
     → effective n.parts.weights edge ≡ effective_weight hearsay holds_it u edge (slice_index_or n.live.weights edge 0) e
 believed_is u n edge e at there = elim (node_cases believer [] u n at) [
   | inl is ↦ subst (λ (v : NodeId). effective n.parts.weights edge ≡ effective_weight hearsay holds_it v edge (slice_index_or n.live.weights edge 0) e) is.0
-      (subst (λ (m : NodeState). effective m.parts.weights edge ≡ effective_weight hearsay holds_it (node 3) edge (slice_index_or m.live.weights edge 0) e) is.1 (of_edge edge e there))
+      (subst (λ (m : NodeState). effective m.parts.weights edge ≡ effective_weight hearsay holds_it (node 3) edge (slice_index_or m.live.weights edge 0) e) is.1
+      (of_edge edge e there))
   | inr none ↦ absurd (let f : None ≡ Some n = none in cc)
 ]
   where
     of_edge : (edge : ℕ) (e : Edge) → slice_get (line []).topology.edges edge ≡ Some e → effective believer.parts.weights edge
         ≡ effective_weight hearsay holds_it (node 3) edge (slice_index_or believer.live.weights edge 0) e
-    of_edge zero e there = let same : row_edge 1 2 ≡ e = cc in subst (λ (f : Edge). effective believer.parts.weights 0 ≡ effective_weight hearsay holds_it (node 3) 0 (slice_index_or believer.live.weights 0 0) f) same refl
-    of_edge (suc zero) e there = let same : row_edge 2 3 ≡ e = cc in subst (λ (f : Edge). effective believer.parts.weights 1 ≡ effective_weight hearsay holds_it (node 3) 1 (slice_index_or believer.live.weights 1 0) f) same refl
+    of_edge zero e there = let same : row_edge 1 2 ≡ e = cc in
+        subst (λ (f : Edge). effective believer.parts.weights 0 ≡ effective_weight hearsay holds_it (node 3) 0 (slice_index_or believer.live.weights 0 0) f)
+        same refl
+    of_edge (suc zero) e there = let same : row_edge 2 3 ≡ e = cc in
+        subst (λ (f : Edge). effective believer.parts.weights 1 ≡ effective_weight hearsay holds_it (node 3) 1 (slice_index_or believer.live.weights 1 0) f)
+        same refl
     of_edge (suc (suc edge)) e there = absurd cc
 
 -- a compromised node's update needn't be signed in the run
@@ -177,7 +184,8 @@ kept_good es js o h =
     (row.messages 0 o (let i : 0 < 1 = omega arith in i)).holds
 
 -- and so is the first that a frame has
-sent_good : (es : List Event) (js : List Entry) → SignClaims toys (line []) es js (sends (message (1 ∷ []))) → IsTrue (is_good_in toys (line []) es js (message (1 ∷ [])))
+sent_good : (es : List Event) (js : List Entry) → SignClaims toys (line []) es js (sends (message (1 ∷ [])))
+    → IsTrue (is_good_in toys (line []) es js (message (1 ∷ [])))
 sent_good es js h = h.sent (node 2) (node 3) 0 _ _ refl refl 0 (message (1 ∷ [])) (let i : 0 < 1 = omega arith in i)
 
 -- each format has room for sixteen nodes
@@ -193,7 +201,8 @@ says : (w : World) (u : NodeId) (n : NodeState) (k : ℕ) (o : Kept) → SignCla
 says w u n k o h at there signer =
     let sizes = sizes_of (λ o. IsTrue (is_good_in toys (line []) (send ∷ []) signed_one o)) n in
     let wide = sixteen_at_least sizes.format in
-    let row = read sizes n.signer.index n.parts.rel.flows flow (omega arith, omega (arith, wide)) (omega arith, omega (arith, wide)) (h.kept u n at).parts.rel.flows in
+    let row = read sizes n.signer.index n.parts.rel.flows flow (omega arith, omega (arith, wide)) (omega arith, omega (arith, wide))
+    (h.kept u n at).parts.rel.flows in
     let good = both _ _ (all_get (Fits sizes) (flow_at n (node 1) (node 3)).at.list k o row.messages there).holds in
     let known : is_among (encoded o.body) (object ∷ []) ≡ true =
     subst (λ (v : NodeId). (not (is_correct (line []) v) || is_among (encoded o.body) (signed (send ∷ []) signed_one v)) ≡ true) signer good.1 in

@@ -26,7 +26,8 @@ NeighboursAreAnswered = (arts : Arts) (x : Setting) (es : List Event) (js : List
     → Clean arts x es js w
     → length es < MAX_CALLS → (u v : NodeId) (n : NodeState) → node_in w.nodes u ≡ Some n → IsTrue (is_hop x u v) → call_refusal n v ≡ None
 
--- each answer to an event in its range has words, in the world in which its node acts: no call is refused for its ends or for want of reserved indexes, no node is worn, and what is
+-- each answer to an event in its range has words, in the world in which its node acts: no call is refused for its ends or for want of reserved indexes, no
+-- node is worn, and what is
 -- taken of a priority inbox is a priority message
 abbrev pub EachReplyHasWords : Type 0
 EachReplyHasWords = (arts : Arts) (x : Setting) (es : List Event) (js : List Entry) (w : World) → SettingFits arts x → Carries x.topology.format arts
@@ -51,6 +52,7 @@ pub record AreCounted (es : List Event) (js : List Entry) (w : World) : Type 0 w
   pub frames : (u v : NodeId) → length (frames_in w.directions u v) ≡ polls es u v
   pub entries : length es ≡ length js
 
+-- the law that journals number the frames of each direction one after another
 abbrev pub FramesAreCounted : Type 0
 FramesAreCounted = (arts : Arts) (x : Setting) (es : List Event) (js : List Entry) (w : World) → Clean arts x es js w → AreCounted es js w
 
@@ -62,6 +64,7 @@ pub record IsMadeFrame (arts : Arts) (x : Setting) (u v : NodeId) (bytes : List 
   pub neighbour : is_neighbour node v ≡ true
   pub frame : bytes ≡ frame_to arts node v
 
+-- the law that each frame of a correct node is one that the node made at a poll
 abbrev pub FramesAreMade : Type 0
 FramesAreMade = (arts : Arts) (x : Setting) (es : List Event) (js : List Entry) (w : World) → SettingFits arts x → Carries x.topology.format arts
     → Clean arts x es js w

@@ -29,6 +29,7 @@ abbrev pub AreLong : Arts → Setting → Type 0
 AreLong arts x = (key : NodeId) → IsTrue (is_node x key) → (index : ℕ) (message : List ℕ)
     → length (arts.sign x.topology.height (x.seed key.0) index message) ≡ x.signature_len
 
+-- the law that what is crafted in the names of compromised nodes forges nothing
 abbrev pub OwnCraftsForgeNothing : Type 0
 OwnCraftsForgeNothing = (arts : Arts) (x : Setting) (es : List Event) (js : List Entry) (w : World) → StaysUp arts x → Carries x.topology.format arts
     → AreLong arts x

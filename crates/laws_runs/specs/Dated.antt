@@ -24,9 +24,11 @@ NamesHeld lives flow (bodies.Krel r) = NamesBoth lives flow r.src r.dst r.sboot 
 NamesHeld lives flow (bodies.Kack a) = NamesBoth lives flow a.src a.dst a.sboot a.dboot
 NamesHeld lives flow _ = ⊥
 
+-- what is kept of a flow names its ends under the boots that are held
 pub record FlowDated (lives : List Life) (f : FlowState) : Type 0 where
   pub messages : All (λ o. NamesHeld lives (ends f) o.body) f.at.list
   pub ack : IfSome f.ack (λ o. NamesHeld lives (ends f) o.body)
 
+-- what is kept of all flows names their ends so
 abbrev pub AreDated : Parts → Type 0
 AreDated p = All (FlowDated p.lives) p.rel.flows

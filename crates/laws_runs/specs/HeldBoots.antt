@@ -37,9 +37,11 @@ HeldBootsAreBorn = (arts : Arts) (x : Setting) (es : List Event) (js : List Entr
 
 -- ---- it holds at the start, and each turn of which nothing is forged keeps it, where key files and signed objects are as they are in a run
 
+-- the law that the claims of boots hold at the start
 abbrev pub BootsBegin : Type 0
 BootsBegin = (arts : Arts) (x : Setting) → SettingFits arts x → BootClaims arts x [] [] (at_start x)
 
+-- the law that each turn keeps the claims of boots
 abbrev pub TurnsKeepBoots : Type 0
 TurnsKeepBoots = (arts : Arts) (x : Setting) (es : List Event) (js : List Entry) (old : World) (e : Event) (j : Entry) (new : World)
     → SettingFits arts x → Carries x.topology.format arts

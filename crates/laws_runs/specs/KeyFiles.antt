@@ -32,6 +32,7 @@ abbrev pub AreOnce : List NodeState → Type 0
 AreOnce [] = Unit {0}
 AreOnce (n ∷ nodes) = (list_any (is_me n.fixed.me) nodes ≡ false) × AreOnce nodes
 
+-- each node that runs has the boot and the bound of its key file, and runs once
 pub record FilesStand (x : Setting) (es : List Event) (w : World) : Type 0 where
   pub nodes : (u : NodeId) (n : NodeState) → node_in w.nodes u ≡ Some n → IsOfFile x es w u n
   pub once : AreOnce w.nodes

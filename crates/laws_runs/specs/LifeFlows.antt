@@ -35,6 +35,7 @@ abbrev pub ack_under : NodeId → ℕ → NodeId → ℕ → Result Body MsgRefu
 ack_under s x d y (Ok (bodies.Ack a)) = if ((a.src.0 == s.0) && (a.dst.0 == d.0)) && ((a.sboot == x) && (a.dboot == y)) then a.seq ∷ [] else []
 ack_under s x d y _ = []
 
+-- the numbers that acknowledgements among these messages say of a pair of lives
 abbrev pub acks_under : Arts → NodeId → ℕ → NodeId → ℕ → List (List ℕ) → List ℕ
 acks_under arts s x d y messages = flat_map (λ bytes. ack_under s x d y (arts.read bytes)) messages
 
@@ -51,6 +52,7 @@ pub record IsVouchedUnder (arts : Arts) (s d : NodeId) (es : List Event) (js : L
 
 -- ---- the claims. d is correct. What is said of a node is said under the boots that it holds of both ends
 
+-- what stands at each node of a flow is of what its source sent and its destination delivered, under their boots
 pub record LifeFlowClaims (arts : Arts) (x : Setting) (s d : NodeId) (es : List Event) (js : List Entry) (happened : List Happened) (w : World) : Type 0 where
   -- at each node, what counts as acknowledged was acknowledged by d, and d acknowledged only what it delivered
   pub base : (u : NodeId) (n : NodeState) → node_in w.nodes u ≡ Some n → (flow_at n s d).at.base ≤ under n s d (λ a b. acknowledged_under arts es js s a d b)
@@ -86,6 +88,7 @@ LifeFlowsAreKept = (arts : Arts) (x : Setting) (es : List Event) (js : List Entr
 
 -- ---- what turns keep of it
 
+-- the claims of a flow, with what carries them over starts and stops
 pub record FlowPart (arts : Arts) (x : Setting) (s d : NodeId) (es : List Event) (js : List Entry) (happened : List Happened) (w : World) : Type 0 where
   pub claims : LifeFlowClaims arts x s d es js happened w
   -- under boots of the destination above the one that the source holds nothing was sent in this life of the source

@@ -36,6 +36,7 @@ abbrev pub boot_in : NodeId → Event → Reply → List ℕ
 boot_in u (events.Start v) (replies.Started boot index) = if v.0 == u.0 then boot ∷ [] else []
 boot_in u _ _ = []
 
+-- the boots of a node, in order
 abbrev pub boots : List Happened → NodeId → List ℕ
 boots happened u = flat_map (λ h. boot_in u h.event h.entry.reply) happened
 

@@ -36,6 +36,7 @@ LifePriorityIsKept = (arts : Arts) (x : Setting) (es : List Event) (js : List En
 
 -- ---- what turns keep of it
 
+-- the claims of priority messages, with what carries them over starts and stops
 pub record PrioPart (arts : Arts) (x : Setting) (s d : NodeId) (es : List Event) (js : List Entry) (happened : List Happened) (w : World) : Type 0 where
   pub claims : LifePrioClaims x s d happened
   -- the numbers that were told under the boots that d holds count as seen there

@@ -34,6 +34,7 @@ LifeWeightsAreKept = (arts : Arts) (x : Setting) (es : List Event) (js : List En
 
 -- ---- what turns keep of it
 
+-- the claims of weights, with what carries them over starts and stops
 pub record WeightPart (arts : Arts) (x : Setting) (es : List Event) (js : List Entry) (w : World) : Type 0 where
   -- what a node holds of an end of an edge is what it told last of it since its last start
   pub last : (u : NodeId) (n : NodeState) (edge : ℕ) (e : Edge) (end : NodeId) (row : ℕ) → node_in w.nodes u ≡ Some n

@@ -21,6 +21,7 @@ pub record Happened : Type 0 where
   pub entry : Entry
   pub mover : Option NodeState
 
+-- the node that acts in a turn, if one does
 abbrev pub mover_in : (arts : Arts) (x : Setting) (old : World) (e : Event) (j : Entry) (new : World) → Turn arts x old e j new → Option NodeState
 mover_in arts x old e j new (Moves m) = Some m.node
 mover_in arts x old e j new (Stays s) = None
@@ -64,6 +65,7 @@ abbrev pub prio_sent_in : NodeId → ℕ → NodeId → Happened → Option Node
 prio_sent_in s x d h None = []
 prio_sent_in s x d h (Some n) = if held_boot n.parts.lives s == x then prio_accepted_in s d h.event h.entry.reply else []
 
+-- the priority messages that a node sent under a boot
 abbrev pub prio_sent_under : List Happened → NodeId → ℕ → NodeId → List Message
 prio_sent_under past s x d = flat_map (λ h. prio_sent_in s x d h h.mover) past
 

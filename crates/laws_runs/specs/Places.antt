@@ -58,6 +58,7 @@ Steps capacity p st (e ∷ es) = (FreshIf p st.top e × ShareIf capacity p st.he
 abbrev pub as_held : Entry → Held
 as_held e = record { id = e.id; src = source e; seq = said (λ p. p.seq) e.kept.body; prio = priority e }
 
+-- entries as what is held of them
 abbrev pub all_held : List Entry → List Held
 all_held es = map as_held es
 

@@ -110,9 +110,11 @@ pub record Signs (arts : Arts) (x : Setting) (es : List Event) (js : List Entry)
 
 -- ---- the laws: it holds at the start, and each turn of which nothing is forged keeps it
 
+-- the law that the claims of signed objects hold at the start
 abbrev pub SignsBegin : Type 0
 SignsBegin = (arts : Arts) (x : Setting) → SettingFits arts x → Signs arts x [] [] (at_start x)
 
+-- the law that each turn keeps the claims of signed objects
 abbrev pub TurnsKeepSigns : Type 0
 TurnsKeepSigns = (arts : Arts) (x : Setting) (es : List Event) (js : List Entry) (old : World) (e : Event) (j : Entry) (new : World)
     → SettingFits arts x → Carries x.topology.format arts

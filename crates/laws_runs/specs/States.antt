@@ -55,6 +55,7 @@ is_known_in arts x es js o = not (is_correct x (signer_of o.body)) || is_among (
 abbrev pub is_good_in : Arts → Setting → List Event → List Entry → Kept → Bool
 is_good_in arts x es js o = is_valid_in arts x o && is_known_in arts x es js o
 
+-- what correct nodes keep and send is what its signers signed
 pub record SignClaims (arts : Arts) (x : Setting) (es : List Event) (js : List Entry) (w : World) : Type 0 where
   -- each message that a correct node keeps
   pub kept : (u : NodeId) (n : NodeState) → node_in w.nodes u ≡ Some n → KeepsOnly (is_good_in arts x es js) n
@@ -62,6 +63,7 @@ pub record SignClaims (arts : Arts) (x : Setting) (es : List Event) (js : List E
   pub sent : (u v : NodeId) (k : ℕ) (bytes : List ℕ) (s : Contents) → slice_get (frames_in w.directions u v) k ≡ Some (Some bytes)
       → arts.sections x.signature_len bytes ≡ Ok s → All (λ o. IsTrue (is_good_in arts x es js o)) (objects_in (pieces_of s))
 
+-- the law that in a run without forgery what is kept was signed
 abbrev pub WhatIsKeptWasSigned : Type 0
 WhatIsKeptWasSigned = (arts : Arts) (x : Setting) (es : List Event) (js : List Entry) (w : World) → SettingFits arts x → Carries x.topology.format arts
     → Clean arts x es js w

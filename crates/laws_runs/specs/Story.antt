@@ -49,6 +49,7 @@ output_of n (steps.TakeRel src) = steps.replied (steps.Payload (rel.oldest n.par
 output_of n steps.TakePrio = steps.take_prio_output n
 output_of n (steps.Publish document) = steps.publish_output toys n document
 
+-- a node after an input
 abbrev pub after : NodeState → Input → NodeState
 after n (steps.Poll v) = after_poll n v
 after n (steps.Datagram v bytes) = after_datagram toys n v bytes
@@ -68,9 +69,11 @@ pub record Played : Type 0 where
   pub forged : Option What
   pub goes_on : Bool
 
+-- a story that stops here
 abbrev pub stuck : Played → Played
 stuck p = record p { goes_on = false }
 
+-- the story after an event whose reply has these words
 abbrev pub after_words : Setting → Played → Event → NodeState → Input → Option Reply → Option What → Played
 after_words x p e n i None what = stuck p
 after_words x p e n i (Some reply) (Some what) = record p { forged = Some what; goes_on = false }
@@ -88,26 +91,32 @@ after_words x p e n i (Some reply) None = record {
   goes_on = true;
 }
 
+-- the story after an event that brings this input
 abbrev pub after_input : Setting → Played → Event → NodeState → Option Input → Played
 after_input x p e n None = stuck p
 after_input x p e n (Some i) =
     after_words x p e n i (reply_word x (next_frame p.world e) (output_of n i).reply) (forged toys x p.events p.journal p.world n i (output_of n i))
 
+-- the story after an event of this node
 abbrev pub at_acting : Setting → Played → Event → Option NodeState → Played
 at_acting x p e None = stuck p
 at_acting x p e (Some n) = after_input x p e n (input_of toys x p.world n e)
 
+-- the story after one more event, where it goes on
 abbrev pub one_more : Setting → Bool → Played → Event → Played
 one_more x false p e = p
 one_more x true p e = at_acting x p e (node_in p.world.nodes (acting e))
 
+-- the story before its first event
 abbrev pub begins : Setting → Played
 begins x = record { events = []; journal = []; world = at_start x; forged = None; goes_on = true }
 
+-- the story after more events
 abbrev pub play_on : Setting → Played → List Event → Played
 play_on x p [] = p
 play_on x p (e ∷ es) = play_on x (one_more x p.goes_on p e) es
 
+-- the story of these events
 abbrev pub play : Setting → List Event → Played
 play x es = play_on x (begins x) es
 
@@ -146,9 +155,11 @@ message =
     ∷ events.Tick (node 3) 5 ∷ events.Poll (node 3) (node 2) ∷ events.Pass (node 3) (node 2) 2 ∷ events.Poll (node 2) (node 1) ∷ events.Pass (node 2) (node 1) 2
     ∷ []
 
+-- a fresh datagram with one object
 abbrev pub fresh : ItemWord → Reply
 fresh item = replies.Arrived links.Fresh (item ∷ [])
 
+-- what is told of the first message and its acknowledgement
 abbrev pub told : List Reply
 told =
     replies.Accepted 1
@@ -166,6 +177,7 @@ craft = events.Craft (node 2) (node 3) (node 1) (crafted.Rel (record { src = nod
 abbrev pub object : List ℕ
 object = 2 ∷ 1 ∷ 3 ∷ 0 ∷ 0 ∷ 0 ∷ 0 ∷ 0 ∷ 0 ∷ 0 ∷ 1 ∷ 0 ∷ 2 ∷ 104 ∷ 105 ∷ []
 
+-- the stories come out as they are written here
 pub record StoriesArePlayed : Type 0 where
   -- the message and its acknowledgement: a run without forgery, each event as it is told
   pub is_run : Clean toys (line []) (play (line []) message).events (play (line []) message).journal (play (line []) message).world

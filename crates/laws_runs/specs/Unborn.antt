@@ -28,6 +28,7 @@ pub record FlowUnborn (f : FlowState) : Type 0 where
   pub messages : All (λ o. NamesNone o.body) f.at.list
   pub ack : IfSome f.ack (λ o. NamesNone o.body)
 
+-- parts that hold no start of anybody
 pub record Unborn (p : Parts) : Type 0 where
   pub lives : HoldNone p.lives
   pub flows : All FlowUnborn p.rel.flows

@@ -29,6 +29,7 @@ EachHeld P (_ ∷ es) = EachHeld P es
 abbrev pub IsSaid : Arts → Setting → List Event → List Entry → WeightBody → Type 0
 IsSaid arts x es js u = IsTrue (is_correct x u.origin) → is_among (arts.spell (bodies.Weight u)) (signed es js u.origin) ≡ true
 
+-- the weight of each edge at each node is the greatest of its minimum and what its ends said last
 pub record WeightClaims (arts : Arts) (x : Setting) (es : List Event) (js : List Entry) (w : World) : Type 0 where
   -- at each node the weight of an edge is the greatest of its minimum in the topology that the node runs under and the last weight that it held of each end
   pub effective_is : (u : NodeId) (n : NodeState) (edge : ℕ) (e : Edge) → node_in w.nodes u ≡ Some n → slice_get x.topology.edges edge ≡ Some e

@@ -23,6 +23,7 @@ use Rattle.laws_runs.specs.Story.{line}
 abbrev pub message : ℕ → Kept
 message q = record { body = bodies.Rel (record { src = node 1; dst = node 3; sboot = 0; dboot = 0; seq = q; payload = [] }); signature = [] }
 
+-- an entry of a store
 abbrev pub entry : Entry
 entry = record { id = 1; kept = message 1 }
 
@@ -30,6 +31,7 @@ entry = record { id = 1; kept = message 1 }
 abbrev pub update : ℕ → Kept
 update u = record { body = bodies.Weight (record { origin = node u; edge = record { 0 = 0 }; seq = 1; weight = 30 }); signature = [] }
 
+-- node 2 at its start
 abbrev pub at_boot : NodeState
 at_boot = node_at_boot (line []) (node 2)
 
@@ -51,6 +53,7 @@ with_messages list inbox n =
 abbrev pub with_peers : NodeState → List PrioPeer → NodeState
 with_peers n ps = record n { parts = record n.parts { prio = record n.parts.prio { peers = ps } } }
 
+-- a store with so many entries
 abbrev pub holding : Store → ℕ → Store
 holding s count = record s { entries = replicate count entry }
 
@@ -58,6 +61,7 @@ holding s count = record s { entries = replicate count entry }
 abbrev pub waiting : (entries flight : ℕ) → PrioPeer → PrioPeer
 waiting entries flight q = record q { store = holding q.store entries; flight = replicate flight (1, 1) }
 
+-- a node with so many entries in each store, and so many on their way
 abbrev pub with_entries : (entries flight : ℕ) → NodeState → NodeState
 with_entries entries flight n = with_peers n (map (waiting entries flight) n.parts.prio.peers)
 
@@ -75,9 +79,11 @@ full = with_weights (Some (update 1) ∷ Some (update 2) ∷ None ∷ None ∷ [
 
 -- ---- what is claimed
 
+-- what the bounds say of a flow here
 abbrev pub SaysFlow : FlowState → Type 0
 SaysFlow f = (length f.at.list ≤ 2) × (length f.inbox ≤ 2) × (length (as_list f.ack) ≤ 1)
 
+-- what the bounds say of a neighbour's store here
 abbrev pub SaysPeer : PrioPeer → Type 0
 SaysPeer q = (length q.store.entries ≤ 4) × (length q.flight ≤ 4)
 
@@ -95,6 +101,7 @@ pub record SaysBounds (n : NodeState) : Type 0 where
 abbrev pub IsWithin : NodeState → Type 0
 IsWithin n = IsBounded (line []) (node 2) n
 
+-- the bounds hold of as much as may be, and of no more
 pub record BoundsAreWorked : Type 0 where
   pub says : (n : NodeState) → IsWithin n → SaysBounds n
   pub as_much : IsWithin full

@@ -48,6 +48,7 @@ use Rattle.laws_runs.specs.WorkedBounds.{at_boot, update, with_flows, with_weigh
 abbrev pub world : List NodeState → World
 world nodes = record { keys = []; nodes = nodes; directions = []; crafted = []; published = none_published }
 
+-- what is told of an event
 abbrev pub entry : Reply → List Effect → Entry
 entry reply tells = record { reply = reply; effects = tells }
 
@@ -55,17 +56,21 @@ entry reply tells = record { reply = reply; effects = tells }
 abbrev pub arrives : List Effect → Entry
 arrives tells = entry (replies.Arrived links.Fresh []) tells
 
+-- a payload
 abbrev pub hi : List ℕ
 hi = 104 ∷ 105 ∷ []
 
 -- ---- who is there, where the node in the middle is compromised
 
+-- three nodes in a row of which 2 is compromised
 abbrev pub half : Setting
 half = line (node 2 ∷ [])
 
+-- a node of them at its start
 abbrev pub boots : ℕ → NodeState
 boots u = node_at_boot half (node u)
 
+-- who is there, and who isn't
 pub record NodesAreWorked : Type 0 where
   -- 1 and 3, and not 2
   pub first : (w : World) → NodeClaims half w → (n : NodeState) × (node_in w.nodes (node 1) ≡ Some n)
@@ -78,6 +83,7 @@ pub record NodesAreWorked : Type 0 where
 
 -- ---- priority messages: 1 sends number 7 to 3, and then two frames arrive there
 
+-- a priority message that arrives twice
 abbrev pub alarms : List Event
 alarms = events.Prio (node 1) (node 3) 5 1000 0 hi ∷ events.Pass (node 2) (node 3) 1 ∷ events.Pass (node 2) (node 3) 2 ∷ []
 
@@ -93,6 +99,7 @@ told one two = entry (replies.Accepted 7) [] ∷ arrives one ∷ arrives two ∷
 abbrev pub IsFine : (bad : List NodeId) → (one two : List Effect) → Type 0
 IsFine bad one two = PrioClaims (line bad) (node 1) (node 3) alarms (told one two)
 
+-- what may be told of a priority message, and what may not
 pub record PriorityIsWorked : Type 0 where
   pub once : IsFine [] (alarm 7 hi) []
   -- twice, with another payload, under a number that wasn't sent
@@ -105,9 +112,11 @@ pub record PriorityIsWorked : Type 0 where
 
 -- ---- weights: 1 says 30 of its link to 2, and then 20. The minimum is 10
 
+-- two updates of one edge
 abbrev pub updates : List Event
 updates = events.Weight (node 1) (node 2) 30 ∷ events.Weight (node 1) (node 2) 20 ∷ []
 
+-- their story
 abbrev pub weighed : Played
 weighed = play (line []) updates
 
@@ -119,18 +128,23 @@ AreWeighed w = WeightClaims toys (line []) weighed.events weighed.journal w
 abbrev pub hearsay : List Event
 hearsay = events.Pass (node 2) (node 3) 1 ∷ []
 
+-- what is told of an update that is held
 abbrev pub holds_update : Effect
 holds_update = effects.WeightHeld (node 1) (record { 0 = 0 }) 1 30
 
+-- the entry that tells it
 abbrev pub holds_it : List Entry
 holds_it = arrives (holds_update ∷ []) ∷ []
 
+-- a node that holds an update
 abbrev pub believer : NodeState
 believer = with_weights (Some (update 1) ∷ replicate 3 None) (node_at_boot (line []) (node 3))
 
+-- a world of that node
 abbrev pub believed : World
 believed = world (believer ∷ [])
 
+-- the last update counts, and what nobody said isn't held
 pub record WeightsAreWorked : Type 0 where
   pub all_of_it : weighed.events ≡ updates
   -- the last one counts
@@ -146,6 +160,7 @@ pub record WeightsAreWorked : Type 0 where
 
 -- ---- what is signed: 1 sends a message to 3
 
+-- the entry of a message that was signed
 abbrev pub signed_one : List Entry
 signed_one = entry (replies.Accepted 1) (effects.Signed object ∷ []) ∷ []
 
@@ -153,6 +168,7 @@ signed_one = entry (replies.Accepted 1) (effects.Signed object ∷ []) ∷ []
 abbrev pub message : List ℕ → Kept
 message signature = record { body = bodies.Rel (record { src = node 1; dst = node 3; sboot = 0; dboot = 0; seq = 1; payload = hi }); signature = signature }
 
+-- the flow from 1 to 3
 abbrev pub flow : Flow
 flow = record { src = node 1; dst = node 3 }
 
@@ -162,6 +178,7 @@ keeps o =
     let kept = record (no_flow flow) { active = true; at = record { base = 0; have = 1; list = o ∷ [] } } in
     world (with_flows at_boot (put_flow at_boot.parts.rel.flows flow kept) ∷ [])
 
+-- the head of a frame from 2 to 3
 abbrev pub head : Head
 head = record { from = node 2; to = node 3; boot = 1; echo = 1; counter = 1; topology = 1; format = 1 }
 
@@ -175,6 +192,7 @@ sends o = record {
   published = none_published;
 }
 
+-- what is kept of a correct node was signed by it, and nothing else is claimed
 pub record SignaturesAreWorked : Type 0 where
   -- whatever of 1 stands in a list then is that message
   pub says : (w : World) (u : NodeId) (n : NodeState) (k : ℕ) (o : Kept) → SignClaims toys (line []) (send ∷ []) signed_one w → node_in w.nodes u ≡ Some n
@@ -187,6 +205,7 @@ pub record SignaturesAreWorked : Type 0 where
 
 -- ---- lives: with epochs, 1 starts, sends a message, and starts again
 
+-- three nodes in a row, with epochs
 abbrev pub with_epochs : Setting
 with_epochs = record (line []) { epochs = true }
 
@@ -194,6 +213,7 @@ with_epochs = record (line []) { epochs = true }
 abbrev pub word_of : (v boot : ℕ) → Kept
 word_of v boot = record { body = bodies.Epoch (record { origin = node v; boot = boot }); signature = v ∷ [] }
 
+-- an event with its entry and the node that acted
 abbrev pub happens : Event → Entry → Option NodeState → Happened
 happens e j mover = record { event = e; entry = j; mover = mover }
 
@@ -224,6 +244,7 @@ holds_boots u one three =
     let n = node_at_boot with_epochs (node u) in
     record n { parts = record n.parts { lives = held (held n.parts.lives (word_of 1 one)) (word_of 3 three) } }
 
+-- a priority message
 abbrev pub number_7 : Kept
 number_7 = record {
   body = bodies.Prio (record { src = node 1; dst = node 3; sboot = 1; seq = 7; prio = 5; expiry = 1000; mask = mask_from 3; payload = hi });
@@ -234,6 +255,7 @@ number_7 = record {
 abbrev pub crossed : List Kept → NodeState → Handled
 crossed words n = handle_all toys (arrival_at n (node 2)) n.parts (PrioPiece 1 number_7 ∷ map EpochPiece words)
 
+-- a frame from 2 to 3 with that message and these starts
 abbrev pub comes : List Kept → NodeState → Happened
 comes words n =
     happens (events.Pass (node 2) (node 3) 1)
@@ -259,6 +281,7 @@ second = word_of 1 2 ∷ []
 abbrev pub IsKept : List Happened → Type 0
 IsKept happened = LifePrioClaims with_epochs (node 1) (node 3) happened
 
+-- what may follow a life, and what may not
 pub record LivesAreWorked : Type 0 where
   -- a later index, and a later boot
   pub later : KeyClaims (node 1) (two_lives 2 32)

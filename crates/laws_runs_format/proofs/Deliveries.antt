@@ -1,6 +1,7 @@
 -- The journal of a run tells no more deliveries of an event than a frame has bytes.
 use Rattle.laws_runs.proofs.NoStarts.{beside}
-use Rattle.std.proofs.Common.{◌≡◌, ◌≤◌, ℕ, suc, ◌+◌, ◌-◌, ◌*◌, ◌==◌, Bool, true, false, cond, List, [], ◌∷◌, ◌++◌, length, length-append, map, filter, Option, Some, None, Result, Ok, Err, refl, sym, ap, subst, inl, inr, arith, nat_lt}
+use Rattle.std.proofs.Common.{◌≡◌, ◌≤◌, ℕ, suc, ◌+◌, ◌-◌, ◌*◌, ◌==◌, Bool, true, false, cond, List, [], ◌∷◌, ◌++◌, length, length-append, map, filter, Option}
+use Rattle.std.proofs.Common.{Some, None, Result, Ok, Err, refl, sym, ap, subst, inl, inr, arith, nat_lt}
 use Rattle.std.specs.List.{flat_map}
 use Rattle.std.specs.Prelude.{IfSome}
 use Rattle.std.proofs.lemmas.Bool.{cases_Bool}
@@ -202,7 +203,8 @@ read_few format len bytes (Ok s) are is f =
 read_few format len bytes (Err refused) are is f = omega arith
 
 few_objects : (format : ℕ) (n : NodeState) (u : NodeId) (bytes : List ℕ) → AreBytes bytes
-    → let arts = format_in format in length (objects_in (pieces_where (reply_at arts n u bytes) (pieces_in n.fixed (sections_in arts n.fixed bytes)))) ≤ MAX_FRAME_BYTES - 33
+    → let arts = format_in format in
+    length (objects_in (pieces_where (reply_at arts n u bytes) (pieces_in n.fixed (sections_in arts n.fixed bytes)))) ≤ MAX_FRAME_BYTES - 33
 few_objects format n u bytes are = elim (cases_Bool (nat_lt MAX_FRAME_BYTES (length bytes))) [
   | inl long ↦
       let is : opened_in format bytes ≡ Err frames.TooLong = rw long refl in
@@ -280,7 +282,8 @@ module _ (p : Effect → Bool) (tells : TellsDeliveries p) where
           go false = omega arith
 
       life : LifeCase (arts_of x) x old e j new → length (filter p j.effects) ≤ MAX_FRAME_BYTES
-      life (Starts_now u is s) = subst (λ (effects : List Effect). length (filter p effects) ≤ MAX_FRAME_BYTES) (sym s.effects) (start u (next_start x old u).boot)
+      life (Starts_now u is s) =
+          subst (λ (effects : List Effect). length (filter p effects) ≤ MAX_FRAME_BYTES) (sym s.effects) (start u (next_start x old u).boot)
       life (Exhausts u is none) = rw none.effects (omega arith)
       life (Stops u is stop) = rw stop.effects (omega arith)
       life (Nobody other down) = rw down.effects (omega arith)

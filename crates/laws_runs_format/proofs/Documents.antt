@@ -108,6 +108,7 @@ later_format : (t : Bool) → not t ≡ true → t ≡ false
 later_format false e = refl
 later_format true e = absurd (let f : false ≡ true = e in cc)
 
+-- each height has at least one index, and fewer than 2^32
 pub totals : (h : LmsHeight) → (1 ≤ total (param_of h)) × (total (param_of h) < 2 ^ 32)
 totals Five = (omega arith, omega arith)
 totals Ten = (omega arith, omega arith)
@@ -130,10 +131,12 @@ module _ (s : Scenario) (good : IsHeader s) where
   admin_fits : ArtsFit (format_in s.format) as_node its_signer
   admin_fits = format_fits as_node its_signer (record { signature_len = refl; total = refl; is_mine = refl })
 
+  -- the length of the administrator's signatures
   pub signed_long : (index : ℕ) (message : List ℕ)
       → length (signature (param_of s.height) (admin_seed s.seed) index message) ≡ signature_len (param_of s.height)
   signed_long index message = admin_fits.long index message
 
+  -- the topology of a version that is published is in its ranges
   pub version_fits : (version : ℕ) (weights : List ℕ) → may_change (setting_of s) ≡ true → All (λ weight. weight ≤ MAX_WEIGHT) weights
       → version < 2 ^ 32 → IsTopology (version_of (setting_of s) version weights)
   version_fits version weights may small low =
@@ -170,6 +173,7 @@ module _ (s : Scenario) (good : IsHeader s) where
       edges : List ℕ
       edges = flat_map edge_bytes t.edges
 
+  -- the document of each version fits into a frame
   pub rooms : (version : ℕ) (weights : List ℕ) → FitsAFrame (scenarios.document_of s version weights)
   rooms version weights =
       cond_either FitsAFrame (s.format == FORMAT_1) bytes (bytes ++ signed) (unsigned_are version weights, omega (arith, all_long)) (

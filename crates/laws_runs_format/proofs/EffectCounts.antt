@@ -5,7 +5,8 @@ use Rattle.sp_topology.specs.declared.topology.Topology.{Topology}
 use Rattle.sp_rules.specs.Topologies.{is_shut, removed_of, weights_in}
 use Rattle.sp_rules.specs.Documents.{publish_effects, version_effects}
 use Rattle.laws_node.proofs.Adopting.{publishing, reading}
-use Rattle.std.proofs.Common.{◌≡◌, ◌≤◌, ℕ, ◌+◌, Bool, true, false, cond, List, [], ◌∷◌, ◌++◌, length, length-append, map, filter, Option, Some, None, refl, ap, ◌∙◌, inl, inr, arith}
+use Rattle.std.proofs.Common.{◌≡◌, ◌≤◌, ℕ, ◌+◌, Bool, true, false, cond, List, [], ◌∷◌, ◌++◌, length, length-append, map, filter, Option, Some, None, refl, ap}
+use Rattle.std.proofs.Common.{◌∙◌, inl, inr, arith}
 use Rattle.std.specs.List.{flat_map}
 use Rattle.std.proofs.lemmas.Bool.{cases_Bool}
 use Rattle.std.proofs.lemmas.List.Elements.{filter-append}
@@ -36,7 +37,8 @@ use Rattle.sp_rules.specs.Prio.{PrioState, acked_effects, admit_prio, delivered,
 use Rattle.sp_rules.specs.PrioPeer as rows
 use Rattle.sp_rules.specs.PrioPeer.{PrioPeer, gone, goes_to, put_effects, stored}
 use Rattle.sp_rules.specs.Rel.{RelState, admit_ack, admit_rel, delivery, ended_by, is_end, is_to, judge_ack_of, judge_rel_of, rel_effects, restart_effects}
-use Rattle.sp_rules.specs.Sends.{mask_in, own_prio, prio_body, prio_sent, rel_body, rel_number, rel_refusal, rel_sent, send_prio_refusal, signed_effect, signer_refusal, weight_body, weight_number, weight_refusal, weight_sent}
+use Rattle.sp_rules.specs.Sends.{mask_in, own_prio, prio_body, prio_sent, rel_body, rel_number, rel_refusal, rel_sent, send_prio_refusal, signed_effect}
+use Rattle.sp_rules.specs.Sends.{signer_refusal, weight_body, weight_number, weight_refusal, weight_sent}
 use Rattle.sp_rules.specs.Steps as steps
 use Rattle.sp_rules.specs.Steps.{Input, NodeStep, Output, accepted, refused_call, refused_send, document_effects}
 use Rattle.sp_rules.specs.Store.{Store, entry_in, evicted, expired_entries, oldest, removed}
@@ -95,7 +97,8 @@ module _ (p : Effect → Bool) (tells : TellsDeliveries p) where
 
   put_none : (place : ℕ) (s : Store) (o : Kept) → number (put_effects place s o) ≡ 0
   put_none place s o =
-      none_both (stored place (s.last + 1) o.body) (gone place whys.Evicted (evicted s o)) (stored_none place (s.last + 1) o.body) (gone_none place whys.Evicted (evicted s o))
+      none_both (stored place (s.last + 1) o.body) (gone place whys.Evicted (evicted s o)) (stored_none place (s.last + 1) o.body)
+      (gone_none place whys.Evicted (evicted s o))
 
   leaving_none : (place : ℕ) (why : Why) (es : List Entry) → number (map (λ (e : Entry). effects.Gone place e.id why) es) ≡ 0
   leaving_none place why [] = refl
@@ -219,7 +222,13 @@ module _ (p : Effect → Bool) (tells : TellsDeliveries p) where
   all_most arts at q (piece ∷ ps) =
       let first = handle arts at q piece in
       let others = handle_all arts at first.parts ps in
-      omega (arith, both first.effects others.effects, length-append first.answered others.answered, piece_most arts at q piece, all_most arts at first.parts ps)
+      omega (
+        arith,
+        both first.effects others.effects,
+        length-append first.answered others.answered,
+        piece_most arts at q piece,
+        all_most arts at first.parts ps,
+      )
 
   -- ---- steps
 
@@ -236,7 +245,8 @@ module _ (p : Effect → Bool) (tells : TellsDeliveries p) where
   sent (Some r) seq es most = omega arith
   sent None seq es most = most
 
-  called : (r : Option NodeRefused) (o : Output) → number o.effects ≤ length o.answered + 1 → number (refused_call r o).effects ≤ length (refused_call r o).answered + 1
+  called : (r : Option NodeRefused) (o : Output) → number o.effects ≤ length o.answered + 1
+      → number (refused_call r o).effects ≤ length (refused_call r o).answered + 1
   called (Some r) o most = omega arith
   called None o most = most
 
@@ -255,7 +265,9 @@ module _ (p : Effect → Bool) (tells : TellsDeliveries p) where
       let document = document_at arts old u bytes in
       omega (arith, most, both (handled arts old u bytes).effects (document_effects arts left document), document_none arts left document)))
   step_most arts old new (steps.Tick now) output step = rw step.0 (omega (arith, ticked arts old now))
-  step_most arts old new (steps.SendRel d payload) output step = rw step.0 (below (steps.send_rel_output arts old d payload) (sent (rel_refusal old d) (rel_number old d) (rel_sent arts old d payload) (one (signed_effect arts (rel_body old d payload)))))
+  step_most arts old new (steps.SendRel d payload) output step =
+      rw step.0 (below (steps.send_rel_output arts old d payload)
+      (sent (rel_refusal old d) (rel_number old d) (rel_sent arts old d payload) (one (signed_effect arts (rel_body old d payload)))))
   step_most arts old new (steps.SendPrio m) output step =
       let own = own_prio arts old m step.choice in
       let told = signed_effect arts (prio_body old m (mask_in step.choice)) in

@@ -6,7 +6,8 @@ use Rattle.std.proofs.lemmas.List.Elements.{All-append, All-cons, All-nil}
 use Rattle.sp_base.specs.declared.id.NodeId.{NodeId}
 use Rattle.sp_frame.specs.declared.frame.TheConstants.{MIN_FRAME_BYTES}
 use Rattle.sp_frame.specs.declared.refused.FrameRefused.TheVariants as frames
-use Rattle.sp_generate.specs.Generated.{both_ways, by_priority, crafted, cycle, directions, frame, generated_events, generated_scenario, hostile, node, payload, takes}
+use Rattle.sp_generate.specs.Generated.{both_ways, by_priority, crafted, cycle, directions, frame, generated_events, generated_scenario, hostile, node, payload}
+use Rattle.sp_generate.specs.Generated.{takes}
 use Rattle.sp_generate.proofs.Schedules.{are_schedules}
 use Rattle.sp_runs.specs.Scenarios.{setting_of}
 use Rattle.sp_runs.specs.Settings.{Setting, is_correct, is_node, is_one_of}
@@ -25,7 +26,8 @@ both_harmless x number turn =
 
 prio_harmless : (x : Setting) (number turn : ℕ) → All (IsHarmless x) (by_priority number turn)
 prio_harmless x number turn =
-    All-cons (IsHarmless x) (events.Prio (node 2) (node 6) 5 1000000 0 (payload number turn)) (events.Prio (node 1) (node 7) 3 1000000 2 (payload number turn) ∷ []) tt
+    All-cons (IsHarmless x) (events.Prio (node 2) (node 6) 5 1000000 0 (payload number turn))
+    (events.Prio (node 1) (node 7) 3 1000000 2 (payload number turn) ∷ []) tt
     (All-cons (IsHarmless x) (events.Prio (node 1) (node 7) 3 1000000 2 (payload number turn)) [] tt (All-nil (IsHarmless x)))
 
 frames_harmless : (x : Setting) (turn : ℕ) (ds : List (ℕ × ℕ)) → All (IsHarmless x) (flat_map (frame turn) ds)
@@ -37,8 +39,10 @@ frames_harmless x turn (d ∷ ds) =
 cycle_harmless : (x : Setting) (turn : ℕ) → All (IsHarmless x) (cycle turn)
 unfolding cycle
 cycle_harmless x turn =
-    All-append (IsHarmless x) (flat_map (frame turn) directions) (events.Tick (node 1) turn ∷ events.Tick (node 7) turn ∷ []) (frames_harmless x turn directions)
-    (All-cons (IsHarmless x) (events.Tick (node 1) turn) (events.Tick (node 7) turn ∷ []) tt (All-cons (IsHarmless x) (events.Tick (node 7) turn) [] tt (All-nil (IsHarmless x))))
+    All-append (IsHarmless x) (flat_map (frame turn) directions) (events.Tick (node 1) turn ∷ events.Tick (node 7) turn ∷ [])
+    (frames_harmless x turn directions)
+    (All-cons (IsHarmless x) (events.Tick (node 1) turn) (events.Tick (node 7) turn ∷ []) tt
+    (All-cons (IsHarmless x) (events.Tick (node 7) turn) [] tt (All-nil (IsHarmless x))))
 
 takes_of : (x : Setting) (d s : NodeId) (count : ℕ) → All (IsHarmless x) (replicate count (events.Take d s))
 takes_of x d s zero = All-nil (IsHarmless x)
@@ -46,7 +50,8 @@ takes_of x d s (suc count) = All-cons (IsHarmless x) (events.Take d s) (replicat
 
 takes_harmless : (x : Setting) → All (IsHarmless x) takes
 takes_harmless x =
-    All-append (IsHarmless x) (replicate 16 (events.Take (node 7) (node 1))) (replicate 16 (events.Take (node 1) (node 7))) (takes_of x (node 7) (node 1) 16) (takes_of x (node 1) (node 7) 16)
+    All-append (IsHarmless x) (replicate 16 (events.Take (node 7) (node 1))) (replicate 16 (events.Take (node 1) (node 7))) (takes_of x (node 7) (node 1) 16)
+    (takes_of x (node 1) (node 7) 16)
 
 turns_harmless : (x : Setting) (f : ℕ → List Event) → ((turn : ℕ) → All (IsHarmless x) (f turn)) → (first count : ℕ)
     → All (IsHarmless x) (flat_map f (range_with_len first count))
@@ -76,7 +81,8 @@ hostile_harmless : (x : Setting) (number : ℕ) → is_correct x (node 4) ≡ fa
 hostile_harmless x number bad =
     All-cons (IsHarmless x) (crafted number 3 4) (crafted number 5 8 ∷ events.Inject (node 8) (node 1) (255 ∷ 255 ∷ []) ∷ []) (craft_harmless x number 3 4 bad)
     (All-cons (IsHarmless x) (crafted number 5 8) (events.Inject (node 8) (node 1) (255 ∷ 255 ∷ []) ∷ []) (craft_harmless x number 5 8 bad)
-    (All-cons (IsHarmless x) (events.Inject (node 8) (node 1) (255 ∷ 255 ∷ [])) [] (frames.Short (record { need = MIN_FRAME_BYTES; left = 2 }), refl) (All-nil (IsHarmless x))))
+    (All-cons (IsHarmless x) (events.Inject (node 8) (node 1) (255 ∷ 255 ∷ [])) [] (frames.Short (record { need = MIN_FRAME_BYTES; left = 2 }), refl)
+    (All-nil (IsHarmless x))))
 
 all_harmless : (x : Setting) (number : ℕ) → is_correct x (node 4) ≡ false → All (IsHarmless x) (generated_events number)
 unfolding generated_events

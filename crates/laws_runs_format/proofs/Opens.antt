@@ -77,7 +77,8 @@ format_comes_through format height = record {
       let body = head_bytes h ++ sections_bytes_in h.format s in
       let tag = hmac key body in
       let long = length-hmac key body in
-      ap (λ t. pointwise nat_eq t (hmac key (tagged_part (body ++ tag)))) (back body tag long) ∙ ap (λ b. pointwise nat_eq tag (hmac key b)) (front body tag long) ∙ same_bytes tag;
+      ap (λ t. pointwise nat_eq t (hmac key (tagged_part (body ++ tag)))) (back body tag long)
+      ∙ ap (λ b. pointwise nat_eq tag (hmac key b)) (front body tag long) ∙ same_bytes tag;
 }
 
 pub schedules_deliver : SchedulesDeliver

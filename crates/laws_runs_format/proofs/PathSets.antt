@@ -106,7 +106,8 @@ path_of_test g s t path is = all_first (IsPath g s t) path [] ((all_paths_is g s
 pub path_is_listed : (g : Graph) (s t : NodeId) (path : List NodeId) → IsPath g s t path → Has (paths_of g s t) path
 path_is_listed g s t path good =
     has_filter (is_path g.edges s t) (listed (length (nodes_of g)) (nodes_of g)) path
-    (all_are_listed (length (nodes_of g)) (nodes_of g) path (no_longer path (nodes_of g) (distinct path good.once) (on_edges g s t path good)) (on_edges g s t path good))
+    (all_are_listed (length (nodes_of g)) (nodes_of g) path (no_longer path (nodes_of g) (distinct path good.once) (on_edges g s t path good))
+    (on_edges g s t path good))
     (test_of_path g s t path good)
 
 pub listed_is_path : (g : Graph) (s t : NodeId) (path : List NodeId) → Has (paths_of g s t) path → IsPath g s t path
@@ -122,7 +123,8 @@ not_itself : (g : Graph) (s t : NodeId) (p q : List NodeId) → IsPath g s t p �
 not_itself g s t p q good apart same =
     let b = begins g s t p good in
     let step : Contains (steps p) (b.first, b.second) =
-    subst (λ (r : List NodeId). Contains (steps r) (b.first, b.second)) (sym b.is) (contains (steps (b.first ∷ b.second ∷ b.rest)) (b.first, b.second) (inl refl)) in
+    subst (λ (r : List NodeId). Contains (steps r) (b.first, b.second)) (sym b.is)
+    (contains (steps (b.first ∷ b.second ∷ b.rest)) (b.first, b.second) (inl refl)) in
     apart.edges b.first b.second step (inl (subst (λ (r : List NodeId). Contains (steps r) (b.first, b.second)) same step))
 
 differ : (g : Graph) (s t : NodeId) (paths : List (List NodeId)) → All (IsPath g s t) paths → AllPairs (Apart s t) paths → AllPairs (λ p q. p ≢ q) paths
@@ -132,7 +134,8 @@ pub set_is_listed : (g : Graph) (s t : NodeId) (n : ℕ) (paths : List (List Nod
 set_is_listed g s t n paths is =
     let there : (p : List NodeId) → Has paths p → Has (paths_of g s t) p = λ p h. path_is_listed g s t p (held (IsPath g s t) paths p is.are_paths h) in
     has_filter (all_apart s t) (listed (length (paths_of g s t)) (paths_of g s t)) paths
-    (all_are_listed (length (paths_of g s t)) (paths_of g s t) paths (no_longer paths (paths_of g s t) (distinct paths (differ g s t paths is.are_paths is.apart)) there) there)
+    (all_are_listed (length (paths_of g s t)) (paths_of g s t) paths
+    (no_longer paths (paths_of g s t) (distinct paths (differ g s t paths is.are_paths is.apart)) there) there)
     ((all_apart_is s t paths).1 is.apart)
 
 pub listed_is_set : (g : Graph) (s t : NodeId) (paths : List (List NodeId)) → Has (sets_of g s t) paths → Disjoint g s t (length paths) paths
@@ -151,7 +154,8 @@ no_paths g s t = record { count = refl; are_paths = λ k d inside. absurd (omega
 pub fewer_of : (g : Graph) (s t : NodeId) (k : ℕ) (paths : List (List NodeId)) → k ≤ length paths → All (IsPath g s t) paths → AllPairs (Apart s t) paths
     → (some : List (List NodeId)) × Disjoint g s t k some
 fewer_of g s t k [] few good apart = ([], record { count = omega (arith, few); are_paths = good; apart = apart })
-fewer_of g s t k (p ∷ paths) few good apart = go (k == suc (length paths)) refl (λ less. fewer_of g s t k paths less (all_rest (IsPath g s t) p paths good) shorter)
+fewer_of g s t k (p ∷ paths) few good apart =
+    go (k == suc (length paths)) refl (λ less. fewer_of g s t k paths less (all_rest (IsPath g s t) p paths good) shorter)
   where
     shorter : AllPairs (Apart s t) paths
     shorter = λ i j d lower inside. apart (suc i) (suc j) d (omega (arith, lower)) (omega (arith, inside))

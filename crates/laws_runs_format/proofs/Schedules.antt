@@ -1,5 +1,6 @@
 -- An event that its line allows after those before it is in its range in a run.
-use Rattle.std.proofs.Common.{◌≡◌, ◌<◌, ◌≤◌, ℕ, zero, suc, ◌+◌, ◌==◌, ◌-◌, ◌^◌, Bool, true, false, cond, nat_le, List, [], ◌∷◌, ◌++◌, length, length-append, map, refl, sym, ap, ap₂, subst, ◌∙◌, inl, inr, arith, append_assoc}
+use Rattle.std.proofs.Common.{◌≡◌, ◌<◌, ◌≤◌, ℕ, zero, suc, ◌+◌, ◌==◌, ◌-◌, ◌^◌, Bool, true, false, cond, nat_le, List, [], ◌∷◌, ◌++◌, length, length-append}
+use Rattle.std.proofs.Common.{map, refl, sym, ap, ap₂, subst, ◌∙◌, inl, inr, arith, append_assoc}
 use Rattle.std.specs.Prelude.{◌⊎◌, ◌&&◌, ◌||◌, Option, Some, None, count_by, nat_lt, if◌then◌else◌}
 use Rattle.std.specs.List.{All, list_any, range_with_len}
 use Rattle.std.proofs.lemmas.Bool.{cases_Bool, eqb-true, eq-eqb}
@@ -41,6 +42,7 @@ use Rattle.laws_runs_format.specs.Schedules.{ScheduledEventsAreInRange}
 
 -- ---- the header
 
+-- the scenario of a schedule is that of a header
 pub header_of : (s : Scenario) (es : List Event) → IsSchedule s es → IsHeader s
 header_of s es good = record { format = good.scenario.format; graph = good.scenario.graph; epochs = good.scenario.epochs }
 
@@ -166,7 +168,15 @@ crafted_in s es c v key (crafted.Rel r) is =
       is.joined,
       node_is s key by.0 by.1,
       rel_is_good s.format (record { src = r.src; dst = r.dst; sboot = 0; dboot = 0; seq = r.seq; payload = r.payload })
-          (record { src = (src.0, src.1); dst = (dst.0, dst.1); sboot = no_boot s.format; dboot = no_boot s.format; seq = (seq.0, seq.1); payload = payload.1 }),
+          (record {
+            src = (src.0, src.1);
+            dst = (dst.0, dst.1);
+            sboot = no_boot s.format;
+            dboot = no_boot s.format;
+            seq = (seq.0, seq.1);
+            payload =
+                payload.1;
+          }),
       payload.2,
     )
 crafted_in s es c v key (crafted.Ack a) is =
@@ -391,7 +401,9 @@ ends {X = X} (x ∷ xs) = elim (ends xs) [
 ]
 
 part_in_range : (s : Scenario) (all es rest : List Event) (e : Event) → AreInRange s all → all ≡ es ++ e ∷ rest → AreInRange s es × Lined s es e
-part_in_range s all es rest e None_yet same = absurd (let long : length {A = Event} [] ≡ length (es ++ e ∷ rest) = ap (λ (xs : List Event). length xs) same in omega (arith, long, length-append es (e ∷ rest)))
+part_in_range s all es rest e None_yet same =
+    absurd (let long : length {A = Event} [] ≡ length (es ++ e ∷ rest) = ap (λ (xs : List Event). length xs) same in
+    omega (arith, long, length-append es (e ∷ rest)))
 part_in_range s all es rest e (One_more {before = before} last are is) same = elim (ends rest) [
   | inl none ↦
       let parts = same_from_push before es last e (same ∙ ap (λ (xs : List Event). es ++ e ∷ xs) none) in

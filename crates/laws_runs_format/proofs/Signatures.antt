@@ -99,7 +99,8 @@ pub signature_are : (h : LmsParam) (seed : List ℕ) (index : ℕ) (message : Li
 unfolding signature
 signature_are h seed index message =
     let t = index / leaf_count h in
-    joined (front_of h seed t) (tree_signature h seed (Lower t) (index % leaf_count h) message) (front_are h seed t) (tree_are h _ _ _ (index % leaf_count h) message)
+    joined (front_of h seed t) (tree_signature h seed (Lower t) (index % leaf_count h) message) (front_are h seed t)
+    (tree_are h _ _ _ (index % leaf_count h) message)
 
 pub public_key_are : (h : LmsParam) (seed : List ℕ) → AreBytes (public_key h seed)
 unfolding public_key

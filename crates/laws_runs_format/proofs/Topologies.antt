@@ -1,5 +1,6 @@
 -- The topology of a header in its ranges is in its ranges: its ids ascend from 1, its keys are of their form, and its edges are the graph's.
-use Rattle.std.proofs.Common.{◌≡◌, ◌<◌, ◌≤◌, ℕ, zero, suc, ◌+◌, ◌==◌, ◌||◌, Bool, true, false, List, [], ◌∷◌, ◌++◌, codes, length, length-append, map, drop, refl, sym, ap, subst, ◌∙◌, inl, inr, arith}
+use Rattle.std.proofs.Common.{◌≡◌, ◌<◌, ◌≤◌, ℕ, zero, suc, ◌+◌, ◌==◌, ◌||◌, Bool, true, false, List, [], ◌∷◌, ◌++◌, codes, length, length-append, map, drop}
+use Rattle.std.proofs.Common.{refl, sym, ap, subst, ◌∙◌, inl, inr, arith}
 use Rattle.std.specs.List.{All, AllPairs, range_with_len}
 use Rattle.std.specs.Prelude.{if◌then◌else◌}
 use Rattle.std.proofs.lemmas.Bool.{cases_Bool, eq-eqb}
@@ -164,7 +165,8 @@ first_after : (nodes : ℕ) (edges : List Edge) → All (graphs.IsEdge nodes) ed
 first_after nodes [] each = All-nil (λ (e : Edge). IsBelow (0, 0) (ends_of e))
 first_after nodes (e ∷ edges) each =
     let is = All-head (graphs.IsEdge nodes) e edges each in
-    All-cons (λ (f : Edge). IsBelow (0, 0) (ends_of f)) e edges (inl (omega (arith, is.0))) (first_after nodes edges (All-tail (graphs.IsEdge nodes) e edges each))
+    All-cons (λ (f : Edge). IsBelow (0, 0) (ends_of f)) e edges (inl (omega (arith, is.0)))
+    (first_after nodes edges (All-tail (graphs.IsEdge nodes) e edges each))
 
 -- ---- a topology
 

@@ -25,5 +25,6 @@ SchedulesTellStarts = (s : Scenario) → IsHeader s → s.epochs ≡ true → St
 abbrev pub SchedulesDeliverInLives : Type 0
 SchedulesDeliverInLives = (s : Scenario) → IsHeader s → 1 ≤ s.limits.buffer → DeliversInLives (arts_of (setting_of s)) (setting_of s)
 
+-- the law of counted acknowledgement where nodes start and stop, in the setting of each header
 abbrev pub SchedulesReturnInLives : Type 0
 SchedulesReturnInLives = (s : Scenario) → IsHeader s → 1 ≤ s.limits.buffer → ReturnsInLives (arts_of (setting_of s)) (setting_of s)

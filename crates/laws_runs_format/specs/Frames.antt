@@ -14,6 +14,7 @@ use Rattle.laws_runs_format.specs.Arts.{arts_of}
 abbrev pub least_frame : ℕ
 least_frame = 76
 
+-- a frame isn't shorter than the shortest one, nor longer than a datagram
 pub record HasLength (bytes : List ℕ) : Type 0 where
   pub least : least_frame ≤ length bytes
   pub most : length bytes ≤ MAX_FRAME_BYTES

@@ -84,8 +84,8 @@ pub fn generated_forge_nothing()
 {}
 
 /// A law: in the setting of every header in its ranges, what a source accepted is delivered, and what a destination acknowledged has returned, after so many
-/// complete rounds of a path whose nodes run under one version meanwhile. Where nodes start and stop so it is in the lives of a path that stays up, once its nodes
-/// hold the boots of its ends: after so many rounds that tell starts they do.
+/// complete rounds of a path whose nodes run under one version meanwhile. Where nodes start and stop so it is in the lives of a path that stays up, once its
+/// nodes hold the boots of its ends: after so many rounds that tell starts they do.
 pub fn schedules_deliver_in_rounds()
     ensures delivered { SchedulesDeliver }
     ensures returned { SchedulesReturn }

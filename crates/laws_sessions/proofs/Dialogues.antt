@@ -7,7 +7,8 @@ use Rattle.sp_client.specs.Replies.{reply_line}
 use Rattle.sp_client.specs.Requests.{IsRequest}
 use Rattle.sp_client.specs.Sessions.{Answers, Exchange, IsAnswered, Steps, exchange, own_answer, runs, unrun_answer}
 use Rattle.sp_client.specs.Tables.{Handles, Runs, Served as ServedBy, Table, ran, refusal, repeat}
-use Rattle.laws_sessions.specs.Laws.{A_request, Asked, DialoguesAreAnswered, Follows, Goes_on, Happening, Meanwhile, No_request, Nothing_said, Served, Starts, Told, Went_on}
+use Rattle.laws_sessions.specs.Laws.{A_request, Asked, DialoguesAreAnswered, Follows, Goes_on, Happening, Meanwhile, No_request, Nothing_said, Served, Starts}
+use Rattle.laws_sessions.specs.Laws.{Told, Went_on}
 use Rattle.laws_sessions.proofs.JudgeLemmas.{Holds, Judged, Lets_run, Refuses, Repeats, holder_is, judged}
 use Rattle.laws_sessions.proofs.RunLemmas.{holds_ran}
 use Rattle.laws_sessions.proofs.StepLemmas.{holds_nothing, holds_still}
@@ -48,9 +49,12 @@ moved : {L : Type 0} (steps : Steps L) (first : L) (before : List (Happening L))
     → Runs steps t d.port r d.reply new local after → Reached steps first (Asked d ∷ before) new after
 moved steps first before t new local after d r reached small is go lets run = record {
   history = exchange reached.history d.port r run.answer ∷ reached.history;
-  follows = A_request d r run.answer reached.follows is (running steps reached.history t d.port r run.answer local after reached.holds go run.answered) run.spelling;
+  follows = A_request d r run.answer reached.follows is (running steps reached.history t d.port r run.answer local after reached.holds go run.answered)
+      run.spelling;
   holds =
-      rw (run.table, run.spelling) (subst (λ (b : Bool). Holds (record { port = d.port; request = r; ran = b; answer = run.answer } ∷ reached.history) (ran t d.port r run.answer (reply_line r.number run.answer)))
+      rw (run.table, run.spelling)
+      (subst (λ (b : Bool). Holds (record { port = d.port; request = r; ran = b; answer = run.answer } ∷ reached.history)
+      (ran t d.port r run.answer (reply_line r.number run.answer)))
       (sym go) (holds_ran steps local after reached.history t d.port r run.answer small reached.holds lets run.answered));
 }
 

@@ -24,11 +24,13 @@ next_number history port r go = eqb-true r.number (length (session_of history po
 opens : (r : Request) (count : ℕ) → ((r.number == 0 + 1) && (nat_lt 0 0 || (is_open r.command && nat_lt count MAX_SESSIONS))) ≡ true → is_open r.command ≡ true
 opens r count go = left (is_open r.command) (nat_lt count MAX_SESSIONS) (right (r.number == 0 + 1) (is_open r.command && nat_lt count MAX_SESSIONS) go)
 
-one_more : (e : Exchange) (es : List Exchange) → e.request.number ≡ length es + 1 → (es ≡ [] → is_open e.request.command ≡ true) → IsSession es → IsSession (e ∷ es)
+one_more : (e : Exchange) (es : List Exchange) → e.request.number ≡ length es + 1 → (es ≡ [] → is_open e.request.command ≡ true) → IsSession es
+    → IsSession (e ∷ es)
 one_more e [] number first is = record { numbered = (omega (arith, number), tt); begins = first refl }
 one_more e (x ∷ es) number first is = record { numbered = (omega (arith, number), is.numbered); begins = is.begins }
 
-stays : (history : List Exchange) (port : ℕ) (r : Request) (answer : Answer) (q : ℕ) → IsSession (session_of history q) → IsSession (session_of (exchange history port r answer ∷ history) q)
+stays : (history : List Exchange) (port : ℕ) (r : Request) (answer : Answer) (q : ℕ) → IsSession (session_of history q)
+    → IsSession (session_of (exchange history port r answer ∷ history) q)
 stays history port r answer q is =
     let e = exchange history port r answer in
     elim (cases_Bool (runs history port r && (port == q))) [
@@ -42,7 +44,8 @@ stays history port r answer q is =
                 let runs_there : runs history q r ≡ true = subst (λ (p : ℕ). runs history p r ≡ true) same go in
                 let begins : session_of history q ≡ [] → is_open r.command ≡ true = λ empty.
                 opens r (length (open_ports history)) (subst (λ (es : List Exchange).
-                ((r.number == length es + 1) && (nat_lt 0 (length es) || (is_open r.command && nat_lt (length (open_ports history)) MAX_SESSIONS))) ≡ true) empty runs_there)
+                ((r.number == length es + 1) && (nat_lt 0 (length es) || (is_open r.command && nat_lt (length (open_ports history)) MAX_SESSIONS))) ≡ true)
+                empty runs_there)
                 in
                 subst IsSession (sym (added e history q on goes)) (one_more e (session_of history q) (next_number history q r runs_there) begins is)
           ]
@@ -50,7 +53,9 @@ stays history port r answer q is =
 
 pub each_runs_once : {L : Type 0} (steps : Steps L) → EachRunsOnce steps
 each_runs_once steps first told history after Nothing_said port = record { numbered = tt; begins = tt }
-each_runs_once steps first told history after (No_request {before = before} t follows none is) port = each_runs_once steps first before history after follows port
-each_runs_once steps first told history after (Went_on {before = before} {local = local} _ follows) port = each_runs_once steps first before history local follows port
+each_runs_once steps first told history after (No_request {before = before} t follows none is) port =
+    each_runs_once steps first before history after follows port
+each_runs_once steps first told history after (Went_on {before = before} {local = local} _ follows) port =
+    each_runs_once steps first before history local follows port
 each_runs_once steps first told history after (A_request {before = before} {history = earlier} {local = local} t r answer follows is answered spelling) port =
     stays earlier t.port r answer port (each_runs_once steps first before earlier local follows port)

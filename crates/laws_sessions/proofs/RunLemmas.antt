@@ -1,5 +1,6 @@
 -- A request that runs: it begins a session, ends it, or goes on in it.
-use Rattle.std.proofs.Common.{◌≡◌, ◌<◌, ℕ, ◌+◌, ◌^◌, Bool, true, false, nat_lt, ◌==◌, ◌&&◌, ◌||◌, ◌⊎◌, inl, inr, List, [], ◌∷◌, ◌++◌, length, Option, Some, None, refl, sym, ap, subst, ◌∙◌, arith}
+use Rattle.std.proofs.Common.{◌≡◌, ◌<◌, ℕ, ◌+◌, ◌^◌, Bool, true, false, nat_lt, ◌==◌, ◌&&◌, ◌||◌, ◌⊎◌, inl, inr, List, [], ◌∷◌, ◌++◌, length, Option, Some}
+use Rattle.std.proofs.Common.{None, refl, sym, ap, subst, ◌∙◌, arith}
 use Rattle.std.specs.List.{list_any}
 use Rattle.std.proofs.lemmas.Bool.{cases_Bool, cases_eq, eqb-true}
 use Rattle.std.proofs.lemmas.Bool.Decides.{nat_tests}
@@ -10,12 +11,14 @@ use Rattle.sp_client.specs.declared.request.Command.{Command}
 use Rattle.sp_client.specs.declared.request.Request.{Request}
 use Rattle.sp_client.specs.declared.answer.Answer.{Answer}
 use Rattle.sp_client.specs.Replies.{reply_line}
-use Rattle.sp_client.specs.Sessions.{Answers, Exchange, Steps, begins_listening, has_session, is_close, is_open, listens, open_ports, own_answer, ports, runs, session_of}
+use Rattle.sp_client.specs.Sessions.{Answers, Exchange, Steps, begins_listening, has_session, is_close, is_open, listens, open_ports, own_answer, ports, runs}
+use Rattle.sp_client.specs.Sessions.{session_of}
 use Rattle.sp_client.specs.Tables.{Session, Table, has_port, holder_after, outside, ran, refusal, refusal_of, session, session_in, without}
 use Rattle.laws_sessions.proofs.HistoryLemmas.{added, closed}
 use Rattle.laws_sessions.proofs.JudgeLemmas.{Holds, IsPort, row}
 use Rattle.laws_sessions.proofs.ListLemmas.{filter_same, is_holder, one_more}
-use Rattle.laws_sessions.proofs.SessionLemmas.{find_less_other, find_less_own, find_push_other, find_push_own, find_replace_other, find_replace_own, length_less, length_replace, single_less, single_push, single_replace}
+use Rattle.laws_sessions.proofs.SessionLemmas.{find_less_other, find_less_own, find_push_other, find_push_own, find_replace_other, find_replace_own}
+use Rattle.laws_sessions.proofs.SessionLemmas.{length_less, length_replace, single_less, single_push, single_replace}
 use Rattle.laws_sessions.proofs.StepLemmas.{Change, apart_of, changed, open_goes, open_is_silent, takes_over}
 
 -- ---- small facts
@@ -98,7 +101,8 @@ begins history t p r answer small holds empty opens first =
       others = λ q apart. rw sessions (find_push_other t.sessions new q (not_mine p q r.number (reply_line r.number answer) apart));
       single = rw sessions (single_push t.sessions new none holds.single);
       count = ap length sessions ∙ length_push t.sessions new ∙ ap (λ (n : ℕ). n + 1) holds.count
-          ∙ sym (one_port_more history (e ∷ history) p small (ap (λ (es : List Exchange). nat_lt 0 (length es)) empty) (ap (λ (es : List Exchange). nat_lt 0 (length es)) now) (others_stay e history));
+          ∙ sym (one_port_more history (e ∷ history) p small (ap (λ (es : List Exchange). nat_lt 0 (length es)) empty)
+          (ap (λ (es : List Exchange). nat_lt 0 (length es)) now) (others_stay e history));
       own = ap (λ (es : List Exchange). list_any (λ x. begins_listening x.request.command x.answer) es) now
           ∙ (rw silent refl) ∙ sym off ∙ holds.listening p ∙ ap (λ (h : Option ℕ). is_holder h p) (sym holder);
       holders = λ q apart. ap (λ (h : Option ℕ). is_holder h q) holder;
@@ -126,7 +130,8 @@ ends history t p r answer x es small holds full close =
       others = λ q apart. rw sessions (find_less_other t.sessions p q apart);
       single = rw sessions (single_less t.sessions p holds.single);
       count = ap length sessions ∙ omega (arith, fewer, ports_fewer, holds.count);
-      own = ap (λ (xs : List Exchange). list_any (λ y. begins_listening y.request.command y.answer) xs) now ∙ sym (gone t.holder p) ∙ ap (λ (h : Option ℕ). is_holder h p) (sym holder);
+      own = ap (λ (xs : List Exchange). list_any (λ y. begins_listening y.request.command y.answer) xs) now ∙ sym (gone t.holder p)
+          ∙ ap (λ (h : Option ℕ). is_holder h p) (sym holder);
       holders = λ q apart. ap (λ (h : Option ℕ). is_holder h q) holder ∙ gone_elsewhere t.holder p q apart;
       holder = rw holder (within t.holder p holds.holder);
     }
@@ -142,7 +147,8 @@ on_others : {L : Type 0} (steps : Steps L) (holder : Option ℕ) (p : ℕ) (befo
     → Answers steps (own_answer holder p c) before c answer after → (q : ℕ) → (q ≡ p → ⊥)
     → is_holder (holder_after holder p c answer) q ≡ is_holder holder q
 on_others steps holder p before after c answer goes answered q apart = elim (cases_Bool (begins_listening c answer)) [
-  | inl on ↦ rw (goes, on) ((let off : (p == q) ≡ false = grind (arith, nat_tests) in off) ∙ sym (takes_over steps holder p before after c answer answered on q apart))
+  | inl on ↦ rw (goes, on)
+      ((let off : (p == q) ≡ false = grind (arith, nat_tests) in off) ∙ sym (takes_over steps holder p before after c answer answered on q apart))
   | inr off ↦ rw (goes, off) refl
 ]
 
@@ -150,7 +156,8 @@ on_within : (holder : Option ℕ) (p : ℕ) (c : Command) (answer : Answer) → 
     → IsPort (holder_after holder p c answer)
 on_within holder p c answer goes small is = elim (cases_Bool (begins_listening c answer)) [ inl on ↦ rw (goes, on) small | inr off ↦ rw (goes, off) is ]
 
-goes_on : {L : Type 0} (steps : Steps L) (before after : L) (history : List Exchange) (t : Table) (p : ℕ) (r : Request) (answer : Answer) (x : Exchange) (es : List Exchange)
+goes_on : {L : Type 0} (steps : Steps L) (before after : L) (history : List Exchange) (t : Table) (p : ℕ) (r : Request) (answer : Answer) (x : Exchange)
+    (es : List Exchange)
     → p < 2 ^ 16 → Holds history t → session_of history p ≡ x ∷ es → is_close r.command ≡ false → r.number ≡ length (x ∷ es) + 1
     → Answers steps (own_answer t.holder p r.command) before r.command answer after
     → Change history t (done p r answer) (ran t p r answer (reply_line r.number answer))
@@ -170,7 +177,8 @@ goes_on steps before after history t p r answer x es small holds full goes next 
           ∙ ap (λ (n : ℕ). Some (session p n (reply_line n answer))) longer ∙ ap (row p) (sym whole);
       others = λ q apart. rw sessions (find_replace_other t.sessions new p q (is_mine p r.number (reply_line r.number answer)) apart);
       single = rw sessions (single_replace t.sessions new p (is_mine p r.number (reply_line r.number answer)) holds.single);
-      count = ap length sessions ∙ length_replace t.sessions new p ∙ holds.count ∙ sym (same_ports history (e ∷ history) p (is ∙ sym was) (others_stay e history));
+      count = ap length sessions ∙ length_replace t.sessions new p ∙ holds.count
+          ∙ sym (same_ports history (e ∷ history) p (is ∙ sym was) (others_stay e history));
       own = ap (λ (xs : List Exchange). list_any (λ y. begins_listening y.request.command y.answer) xs) now
           ∙ ap (λ (b : Bool). begins_listening r.command answer || b) (holds.listening p) ∙ sym (on_holder t.holder p r.command answer goes);
       holders = λ q apart. on_others steps t.holder p before after r.command answer goes answered q apart;
@@ -209,7 +217,8 @@ holds_ran steps before after history t p r answer small holds runs answered =
         begins history t p r answer small holds empty is.0 is.1
     go (x ∷ es) full =
         let here : session_in t p ≡ row p (x ∷ es) = holds.rows p ∙ ap (row p) full in
-        let next = follows (session p (length (x ∷ es)) (reply_line (length (x ∷ es)) x.answer)) (length t.sessions) r (sym (ap (λ (s : Option Session). refusal_of s (length t.sessions) r) here) ∙ runs) in
+        let next = follows (session p (length (x ∷ es)) (reply_line (length (x ∷ es)) x.answer)) (length t.sessions) r
+        (sym (ap (λ (s : Option Session). refusal_of s (length t.sessions) r) here) ∙ runs) in
         elim (cases_Bool (is_close r.command)) [
           | inl close ↦ ends history t p r answer x es small holds full close
           | inr goes ↦ goes_on steps before after history t p r answer x es small holds full goes next answered

@@ -1,5 +1,6 @@
 -- A table goes on to hold what the list tells, when one more exchange comes.
-use Rattle.std.proofs.Common.{◌≡◌, ℕ, Bool, true, false, nat_lt, ◌==◌, ◌&&◌, ◌⊎◌, inl, inr, List, [], ◌∷◌, length, Option, Some, None, refl, sym, ap, subst, ◌∙◌, arith}
+use Rattle.std.proofs.Common.{◌≡◌, ℕ, Bool, true, false, nat_lt, ◌==◌, ◌&&◌, ◌⊎◌, inl, inr, List, [], ◌∷◌, length, Option, Some, None, refl, sym, ap, subst}
+use Rattle.std.proofs.Common.{◌∙◌, arith}
 use Rattle.std.specs.Prelude.{filter}
 use Rattle.std.specs.List.{list_any}
 use Rattle.std.proofs.lemmas.Bool.{cases_Bool, cases_eq}
@@ -7,7 +8,8 @@ use Rattle.std.proofs.lemmas.Bool.Decides.{nat_tests}
 use Rattle.sp_client.specs.declared.request.Command.{Command}
 use Rattle.sp_client.specs.declared.request.Command.TheVariants as commands
 use Rattle.sp_client.specs.declared.answer.Answer.{Answer}
-use Rattle.sp_client.specs.Sessions.{Answers, Exchange, Steps, begins_listening, has_session, is_close, is_listening, is_open, listen_answer, listens, open_ports, own_answer, ports, session_of}
+use Rattle.sp_client.specs.Sessions.{Answers, Exchange, Steps, begins_listening, has_session, is_close, is_listening, is_open, listen_answer, listens}
+use Rattle.sp_client.specs.Sessions.{open_ports, own_answer, ports, session_of}
 use Rattle.sp_client.specs.Tables.{Table, no_sessions, session_in}
 use Rattle.laws_sessions.proofs.HistoryLemmas.{skipped}
 use Rattle.laws_sessions.proofs.JudgeLemmas.{Holds, IsPort, row}
@@ -37,7 +39,9 @@ holds_still history t e holds idle =
     record {
       rows = λ q. holds.rows q ∙ ap (row q) (sym (same q));
       single = holds.single;
-      count = holds.count ∙ ap length (sym (filter_same (has_session (e ∷ history)) (has_session history) (λ q. ap (λ (es : List Exchange). nat_lt 0 (length es)) (same q)) ports));
+      count = holds.count
+          ∙ ap length (sym
+          (filter_same (has_session (e ∷ history)) (has_session history) (λ q. ap (λ (es : List Exchange). nat_lt 0 (length es)) (same q)) ports));
       listening = λ q. ap (λ (es : List Exchange). list_any (λ x. begins_listening x.request.command x.answer) es) (same q) ∙ holds.listening q;
       holder = holds.holder;
     }

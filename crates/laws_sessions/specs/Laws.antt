@@ -44,6 +44,7 @@ pub data Follows {L : Type 0} (steps : Steps L) (first : L) : List (Happening L)
   Went_on : {before : List (Happening L)} {history : List Exchange} {local : L} (after : L) → Follows steps first before history local
       → Follows steps first (Moved local after ∷ before) history after
 
+-- the law that whole dialogues are answered as the protocol says
 abbrev pub DialoguesAreAnswered : {L : Type 0} → Steps L → Type 0
 DialoguesAreAnswered {L} steps = (first : L) (told : List (Happening L)) (table : Table) (after : L) → Served steps first told table after
     → (history : List Exchange) × Follows steps first told history after
@@ -59,6 +60,7 @@ BeginsWithOpen [] = ⊤
 BeginsWithOpen (e ∷ []) = is_open e.request.command ≡ true
 BeginsWithOpen (e ∷ x ∷ es) = BeginsWithOpen (x ∷ es)
 
+-- exchanges that begin with `open` and are numbered one after another
 pub record IsSession (es : List Exchange) : Type 0 where
   pub numbered : AreNumbered es
   pub begins : BeginsWithOpen es
@@ -75,6 +77,7 @@ TheLastNumberRunsNoMore = (s : Session) (count : ℕ) (r : Request) → s.last �
 
 -- ---- the worked row
 
+-- a request
 abbrev pub asks : ℕ → Command → Request
 asks number command = record { number = number; command = command }
 
@@ -90,6 +93,7 @@ hello = commands.Send (record { 0 = 3 }) (104 ∷ 105 ∷ [])
 abbrev pub opened : List Exchange
 opened = did 9000 1 commands.Open answers.Opened ∷ []
 
+-- an exchange in which a message was sent
 abbrev pub sent : List Exchange
 sent = did 9000 2 hello (answers.Accepted 1) ∷ opened
 
@@ -102,6 +106,7 @@ abbrev pub all_open : ℕ → List Exchange
 all_open zero = []
 all_open (suc n) = did (9000 + n) 1 commands.Open answers.Opened ∷ all_open n
 
+-- what the protocol says of a short dialogue
 pub record WorkedRow : Type 0 where
   pub opens : session_answer [] 9000 (asks 1 commands.Open) ≡ Some answers.Opened
   pub asks_the_node : session_answer opened 9000 (asks 2 hello) ≡ None

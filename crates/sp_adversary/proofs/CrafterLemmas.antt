@@ -1,5 +1,6 @@
 -- The rows of crafting signers: what one signature leaves of them.
-use Rattle.std.proofs.Common.{◌≡◌, ◌<◌, ℕ, ◌+◌, ◌==◌, not, cond, nat_lt, List, [], ◌∷◌, ◌++◌, map, get_or, set, Some, None, Result, Ok, Err, refl, sym, ap, ap₂, subst, ◌∙◌, arith}
+use Rattle.std.proofs.Common.{◌≡◌, ◌<◌, ℕ, ◌+◌, ◌==◌, not, cond, nat_lt, List, [], ◌∷◌, ◌++◌, map, get_or, set, Some, None, Result, Ok, Err, refl, sym, ap, ap₂}
+use Rattle.std.proofs.Common.{subst, ◌∙◌, arith}
 use Rattle.std.specs.List.{position, position_or_len}
 use Rattle.std.proofs.lemmas.Bool.{eqb-true}
 use Rattle.std.proofs.lemmas.List.{get_or-map, length-map, map-set, map_push, set-get_or}
@@ -39,14 +40,16 @@ same_place key items =
     ap₂ (λ (p l : ℕ). cond (nat_lt p l) (Some p) None) (place_len key items) (length-map items used_of)
 
 -- the row of a key that was used
-count_at : (format : ℕ) (height : LmsHeight) (seed : List ℕ) (items : List Crafter) (place : ℕ) (key : NodeId) (row : Crafter) → position (is_crafter key) items ≡ Some place
+count_at : (format : ℕ) (height : LmsHeight) (seed : List ℕ) (items : List Crafter) (place : ℕ) (key : NodeId) (row : Crafter)
+    → position (is_crafter key) items ≡ Some place
     → row ≡ get_or items place row → crafts (map used_of items) key ≡ row.signer.index
 count_at format height seed items place key row at read =
     ap (λ (u : worlds.Crafted). u.count) (first_where-read (is_key key) (record { key = key; count = 0 }) (map used_of items) place (used_of row)
     (same_place key items ∙ at)
     (ap used_of read ∙ sym (get_or-map used_of items place row (used_of row) (is_first (is_crafter key) items place row at).within)))
 
-its_key : (items : List Crafter) (place : ℕ) (key : NodeId) (row : Crafter) → position (is_crafter key) items ≡ Some place → row ≡ get_or items place row → row.key ≡ key
+its_key : (items : List Crafter) (place : ℕ) (key : NodeId) (row : Crafter) → position (is_crafter key) items ≡ Some place → row ≡ get_or items place row
+    → row.key ≡ key
 its_key items place key row at read =
     let passes = (is_first (is_crafter key) items place row at).passes in
     let same : row.key.0 ≡ key.0 = ap (λ (c : Crafter). c.key.0) read ∙ eqb-true _ _ passes in
@@ -65,7 +68,8 @@ unchanged items place row after read same =
 
 -- ---- a key that was used before
 
-pub signed_at : (format : ℕ) (height : LmsHeight) (seed : List ℕ) (items : List Crafter) (place : ℕ) (key : NodeId) (row : Crafter) (message : List ℕ) (result : Result (Crafted (List ℕ)) Memory) (after : Signer)
+pub signed_at : (format : ℕ) (height : LmsHeight) (seed : List ℕ) (items : List Crafter) (place : ℕ) (key : NodeId) (row : Crafter) (message : List ℕ)
+    (result : Result (Crafted (List ℕ)) Memory) (after : Signer)
     → AreWhole height seed items → position (is_crafter key) items ≡ Some place → row ≡ get_or items place row → Signs row.signer message result after
     → CraftsSignature (seen format height seed items) key message result (seen format height seed (set items place (record { key = row.key; signer = after })))
 signed_at format height seed items place key row message (Ok (answers.Signed signed)) after whole at read signs =
@@ -91,11 +95,13 @@ signed_at format height seed items place key row message (Ok (answers.Spent spen
     let count = count_at format height seed items place key row at read in
     let bound : row.signer.bound ≡ total (param_of height) = ap (λ (s : Signer). s.bound) (whole_row height seed items place key row whole at read) in
     (omega (arith, count, signs.0, bound), signs.1 ∙ bound, ap (seen format height seed) (sym (unchanged items place row after read signs.2)))
-signed_at format height seed items place key row message (Err refused) after whole at read signs = ap (seen format height seed) (sym (unchanged items place row after read signs))
+signed_at format height seed items place key row message (Err refused) after whole at read signs =
+    ap (seen format height seed) (sym (unchanged items place row after read signs))
 
 -- its signatures have the length of those of the height
 pub long_at : (height : LmsHeight) (seed : List ℕ) (items : List Crafter) (place : ℕ) (key : NodeId) (row : Crafter) (result : Result (Crafted (List ℕ)) Memory)
-    → AreWhole height seed items → position (is_crafter key) items ≡ Some place → row ≡ get_or items place row → HasLength (signature_len row.signer.height) result
+    → AreWhole height seed items → position (is_crafter key) items ≡ Some place → row ≡ get_or items place row
+    → HasLength (signature_len row.signer.height) result
     → HasLength (signature_len (param_of height)) result
 long_at height seed items place key row result whole at read long =
     let high : row.signer.height ≡ param_of height = ap (λ (s : Signer). s.height) (whole_row height seed items place key row whole at read) in
@@ -107,7 +113,8 @@ some_left : (height : LmsHeight) → 0 < total (param_of height)
 some_left Five = omega arith
 some_left Ten = omega arith
 
-pub signed_first : (format : ℕ) (height : LmsHeight) (seed : List ℕ) (items : List Crafter) (key : NodeId) (message : List ℕ) (crafted : Crafted (List ℕ)) (after : Signer)
+pub signed_first : (format : ℕ) (height : LmsHeight) (seed : List ℕ) (items : List Crafter) (key : NodeId) (message : List ℕ) (crafted : Crafted (List ℕ))
+    (after : Signer)
     → position (is_crafter key) items ≡ None → Signs (whole_signer height seed key) message (Ok crafted) after
     → CraftsSignature (seen format height seed items) key message (Ok crafted) (seen format height seed (items ++ record { key = key; signer = after } ∷ []))
 signed_first format height seed items key message (answers.Signed signed) after at signs =
@@ -126,7 +133,8 @@ signed_first format height seed items key message (answers.Spent spent) after at
     let some = some_left height in
     absurd (omega (arith, some, signs.0))
 
-pub whole_first : (format : ℕ) (height : LmsHeight) (seed : List ℕ) (items : List Crafter) (key : NodeId) (message : List ℕ) (crafted : Crafted (List ℕ)) (after : Signer)
+pub whole_first : (format : ℕ) (height : LmsHeight) (seed : List ℕ) (items : List Crafter) (key : NodeId) (message : List ℕ) (crafted : Crafted (List ℕ))
+    (after : Signer)
     → AreWhole height seed items → Signs (whole_signer height seed key) message (Ok crafted) after
     → AreWhole height seed (items ++ record { key = key; signer = after } ∷ [])
 whole_first format height seed items key message crafted after whole signs =

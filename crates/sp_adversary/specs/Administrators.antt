@@ -2,6 +2,7 @@
 use Rattle.sp_hss.specs.SeedKey.{SeedKey}
 use Rattle.sp_topology.specs.declared.topology.Topology.{Topology}
 
+-- the administrator of a scenario: the topology, and the key of its documents
 pub record Administrator : Type 0 where
   pub topology : Topology
   pub key : SeedKey

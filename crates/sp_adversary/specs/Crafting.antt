@@ -31,6 +31,7 @@ Makes old key made (Ok (answers.Signed it)) new = (crafts old.keys key < most ol
 Makes old key made (Ok (answers.Spent total)) new = (most old ≤ crafts old.keys key) × (total ≡ most old) × (new ≡ old)
 Makes old key made (Err refused) new = new ≡ old
 
+-- a signature that is crafted, and the signers after it
 abbrev pub CraftsSignature : Crafters → (key : NodeId) → (message : List ℕ) → Result (Crafted (List ℕ)) Memory → Crafters → Type 0
 CraftsSignature old key message result new = Makes old key (signature_of old key message) result new
 

@@ -14,6 +14,7 @@ use Rattle.sp_adversary.specs.Administrators.{Administrator}
 abbrev pub administrator_of : Scenario → Administrator
 administrator_of s = record { topology = topology_of s; key = record { height = param_of s.height; seed = admin_seed s.seed } }
 
+-- the public key of an administrator
 abbrev pub public_of : Administrator → List ℕ
 public_of a = public_key a.key.height a.key.seed
 
@@ -25,6 +26,7 @@ version_by a version weights = record a.topology { version = version; edges = un
 abbrev pub unsigned_by : Administrator → (version : ℕ) → (weights : List ℕ) → List ℕ
 unsigned_by a version weights = document (version_by a version weights)
 
+-- a document that an administrator signs
 abbrev pub document_by : Administrator → (version : ℕ) → (weights : List ℕ) → List ℕ
 document_by a version weights =
     let bytes = unsigned_by a version weights in

@@ -33,6 +33,7 @@ abbrev pub AnswersDocument : Scenario → List worlds.Crafted → (key : NodeId)
 AnswersDocument s crafted key version weights result new =
     Answers s crafted key (crafted_document (format_in s.format) (setting_of s) crafted key.0 version weights) result new
 
+-- the law that crafts are signed with the indexes that the run counts
 pub record CraftsAreCounted : Type 0 where
   pub messages : (s : Scenario) (crafted : List worlds.Crafted) (key : NodeId) (body : Body) (result : Result (Crafted Kept) Memory) (new : Crafters)
       → Crafts (crafters_of s crafted) key body result new → AnswersCraft s crafted key body result new

@@ -20,6 +20,7 @@ used_of c = record { key = c.key; count = c.signer.index }
 abbrev pub IsWhole : LmsHeight → (seed : List ℕ) → Crafter → Type 0
 IsWhole height seed c = c.signer ≡ record (whole_signer height seed c.key) { index = c.signer.index }
 
+-- crafting signers of this seed, each whole
 abbrev pub AreWhole : LmsHeight → (seed : List ℕ) → List Crafter → Type 0
 AreWhole height seed cs = All (IsWhole height seed) cs
 

@@ -4,6 +4,7 @@ use Rattle.sp_base.specs.Formats.{max_edges, max_nodes}
 use Rattle.sp_base.specs.declared.format.TheConstants.{FORMAT_1}
 use Rattle.sp_base.specs.declared.limits.TheConstants.{MAX_EDGES, MAX_EDGES_2, MAX_NODES, MAX_NODES_2}
 
+-- each format has at most 32 nodes
 pub few_nodes : (format : ℕ) → max_nodes format ≤ 32
 few_nodes format = go (format == FORMAT_1)
   where
@@ -11,6 +12,7 @@ few_nodes format = go (format == FORMAT_1)
     go true = omega arith
     go false = omega arith
 
+-- each format has at most 256 edges
 pub few_edges : (format : ℕ) → max_edges format ≤ 256
 few_edges format = go (format == FORMAT_1)
   where

@@ -11,7 +11,8 @@ get_left (a ∷ xs) ys zero x at = at
 get_left (a ∷ xs) ys (suc i) x at = get_left xs ys i x at
 
 -- a list with one more gives that one last, and else what it gave before
-pub get_push : {X : Type 0} (xs : List X) (y : X) (i : ℕ) (x : X) → slice_get (xs ++ y ∷ []) i ≡ Some x → (slice_get xs i ≡ Some x) ⊎ ((i ≡ length xs) × (x ≡ y))
+pub get_push : {X : Type 0} (xs : List X) (y : X) (i : ℕ) (x : X) → slice_get (xs ++ y ∷ []) i ≡ Some x
+    → (slice_get xs i ≡ Some x) ⊎ ((i ≡ length xs) × (x ≡ y))
 get_push [] y zero x at = inr (refl, cc)
 get_push [] y (suc i) x at = cc
 get_push (a ∷ xs) y zero x at = inl at

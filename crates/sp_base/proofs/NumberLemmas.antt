@@ -1,5 +1,6 @@
 -- Bytes and their number: each number has one spelling of so many bytes, and is read back from it.
-use Rattle.std.proofs.Common.{◌≡◌, ℕ, zero, suc, ◌+◌, ◌*◌, ◌/◌, ◌%◌, ◌^◌, ◌<◌, ◌≤◌, nat_lt, false, inl, inr, List, [], ◌∷◌, ◌++◌, length, take, drop, slice_index, append-nil, length-append, length-take, take-append-drop, Ok, refl, sym, ap, ◌∙◌, subst, arith, lit<}
+use Rattle.std.proofs.Common.{◌≡◌, ℕ, zero, suc, ◌+◌, ◌*◌, ◌/◌, ◌%◌, ◌^◌, ◌<◌, ◌≤◌, nat_lt, false, inl, inr, List, [], ◌∷◌, ◌++◌, length, take, drop}
+use Rattle.std.proofs.Common.{slice_index, append-nil, length-append, length-take, take-append-drop, Ok, refl, sym, ap, ◌∙◌, subst, arith, lit<}
 use Rattle.std.specs.Int.{byte_at, bytes_high_first}
 use Rattle.std.proofs.Math.Seq.{drop-append_seam, take-append_seam}
 use Rattle.std.proofs.lemmas.Bool.{cases_Bool}
@@ -60,7 +61,8 @@ one_number (suc n) (x ∷ xs) (y ∷ ys) lx ly ax ay e =
 pub bytes_back : (n : ℕ) (bytes : List ℕ) → n ≤ length bytes → AreBytes bytes → big_bytes n (big_number n bytes) ≡ take n bytes
 bytes_back n bytes long are =
     let z = big_number n bytes in
-    let read : big_from 0 n (big_bytes n z) ≡ z = ap (λ bs. big_from 0 n bs) (sym (append-nil (big_bytes n z))) ∙ big_number-reads_back n z [] (number_fits n bytes are) in
+    let read : big_from 0 n (big_bytes n z) ≡ z =
+    ap (λ bs. big_from 0 n bs) (sym (append-nil (big_bytes n z))) ∙ big_number-reads_back n z [] (number_fits n bytes are) in
     one_number n (big_bytes n z) (take n bytes) (length-bytes_high_first n z) (omega (arith, length-take n bytes)) (AreBytes-big_bytes n z)
     (All-take (λ b. b < 256) n bytes are) (read ∙ sym (big_from-take 0 n n bytes (omega arith)))
 

@@ -9,5 +9,6 @@ with_values xs ys = take (length xs) (ys ++ drop (length ys) xs)
 
 -- once the borrow r ends, the list has the values that r shows last
 module _ (T : RattleType) (s : MutBor (List T.Denot)) where
+  -- the list ends as its values, lent one by one, were left
   abbrev pub lends_values : MutBor (List T.Denot) → Fml
   lends_values r = Lends (the_row T) (Array T 0) s r (with_values s.now)

@@ -33,5 +33,6 @@ pub record Buffer (X : Type 0) : Type 0 where
   pub bound : ℕ
   pub at : Position X
 
+-- a buffer of so many messages, with none
 abbrev pub empty_buffer : {X : Type 0} → ℕ → Buffer X
 empty_buffer bound = record { bound = bound; at = start }

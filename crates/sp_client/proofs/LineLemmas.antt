@@ -92,7 +92,14 @@ fields_total commands.Open is = omega arith
 fields_total commands.Listen is = omega arith
 fields_total (commands.Send to payload) is = omega (arith, number_length to.0 (omega (arith, is.0)), payload_word payload is.1.short)
 fields_total (commands.SendPrio to prio expiry paths payload) is =
-    omega (arith, number_length to.0 (omega (arith, is.0)), number_length prio (omega (arith, is.1.1)), number_length expiry is.2, number_length paths (omega (arith, is.3)), payload_word payload is.4.short)
+    omega (
+      arith,
+      number_length to.0 (omega (arith, is.0)),
+      number_length prio (omega (arith, is.1.1)),
+      number_length expiry is.2,
+      number_length paths (omega (arith, is.3)),
+      payload_word payload is.4.short,
+    )
 fields_total (commands.Take from) is = omega (arith, number_length from.0 (omega (arith, is)))
 fields_total commands.TakePrio is = omega arith
 fields_total (commands.Weight peer weight) is = omega (arith, number_length peer.0 (omega (arith, is.0)), number_length weight (omega (arith, is.1.1)))
@@ -100,4 +107,9 @@ fields_total commands.Close is = omega arith
 
 pub line_is_short : (r : Request) → IsInRange r → length (request_line r) ≤ 4096
 line_is_short r is =
-    omega (arith, joined (decimal r.number) (name r.command ∷ fields r.command), number_length r.number (omega (arith, is.number.1)), fields_total r.command is.command)
+    omega (
+      arith,
+      joined (decimal r.number) (name r.command ∷ fields r.command),
+      number_length r.number (omega (arith, is.number.1)),
+      fields_total r.command is.command,
+    )

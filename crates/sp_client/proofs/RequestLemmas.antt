@@ -46,7 +46,8 @@ said w rest =
     if is w (codes "open") then commands.Open
     else (if is w (codes "listen") then commands.Listen
     else (if is w (codes "send") then commands.Send (node (word rest 0)) (bytes_of (word rest 1))
-    else (if is w (codes "sendprio") then commands.SendPrio (node (word rest 0)) (value (word rest 1)) (value (word rest 2)) (value (word rest 3)) (bytes_of (word rest 4))
+    else (if is w (codes "sendprio") then
+    commands.SendPrio (node (word rest 0)) (value (word rest 1)) (value (word rest 2)) (value (word rest 3)) (bytes_of (word rest 4))
     else (if is w (codes "take") then commands.Take (node (word rest 0))
     else (if is w (codes "takeprio") then commands.TakePrio
     else (if is w (codes "weight") then commands.Weight (node (word rest 0)) (value (word rest 1))
@@ -69,8 +70,10 @@ said_back (commands.Send to payload) range =
     ap (λ (n : ℕ). commands.Send (record { 0 = n }) (bytes_of (hex_word payload))) (value_back to.0 (omega (arith, range.0)))
     ∙ ap (λ (bs : List ℕ). commands.Send to bs) (bytes_back payload range.1.bytes)
 said_back (commands.SendPrio to prio expiry paths payload) range =
-    ap (λ (n : ℕ). commands.SendPrio (record { 0 = n }) (value (decimal prio)) (value (decimal expiry)) (value (decimal paths)) (bytes_of (hex_word payload))) (value_back to.0 (omega (arith, range.0)))
-    ∙ ap (λ (n : ℕ). commands.SendPrio to n (value (decimal expiry)) (value (decimal paths)) (bytes_of (hex_word payload))) (value_back prio (omega (arith, range.1.1)))
+    ap (λ (n : ℕ). commands.SendPrio (record { 0 = n }) (value (decimal prio)) (value (decimal expiry)) (value (decimal paths)) (bytes_of (hex_word payload)))
+    (value_back to.0 (omega (arith, range.0)))
+    ∙ ap (λ (n : ℕ). commands.SendPrio to n (value (decimal expiry)) (value (decimal paths)) (bytes_of (hex_word payload)))
+    (value_back prio (omega (arith, range.1.1)))
     ∙ ap (λ (n : ℕ). commands.SendPrio to prio n (value (decimal paths)) (bytes_of (hex_word payload))) (value_back expiry range.2)
     ∙ ap (λ (n : ℕ). commands.SendPrio to prio expiry n (bytes_of (hex_word payload))) (value_back paths (omega (arith, range.3)))
     ∙ ap (λ (bs : List ℕ). commands.SendPrio to prio expiry paths bs) (bytes_back payload range.4.bytes)

@@ -24,4 +24,5 @@ pub went_on : (all : List Session) (port : ℕ) (r : Request) (reply : List ℕ)
     → is_close r.command ≡ false
     → set all place (session port r.number reply) ≡ sessions_after (find (has_port port) all) all port r reply
 went_on all port r reply place at on =
-    rw (find-position (has_port port) (session port r.number reply) all place at, on) (sym (replace_where-position (has_port port) (session port r.number reply) all place at))
+    rw (find-position (has_port port) (session port r.number reply) all place at, on)
+    (sym (replace_where-position (has_port port) (session port r.number reply) all place at))

@@ -43,6 +43,7 @@ abbrev pub message : Body → Answer
 message (bodies.Prio p) = answers.Message p.src p.seq p.payload
 message _ = answers.Empty
 
+-- the answer to a client that takes a priority message
 abbrev pub took_prio : Option Entry → Answer
 took_prio (Some entry) = message entry.kept.body
 took_prio None = answers.Empty
@@ -84,6 +85,7 @@ may_refuse_weight (refusals.NotReserved bound) = true
 may_refuse_weight refusals.Memory = true
 may_refuse_weight _ = false
 
+-- whether an object is a priority message
 abbrev pub IsPrio : Body → Type 0
 IsPrio (bodies.Prio p) = ⊤
 IsPrio _ = ⊥

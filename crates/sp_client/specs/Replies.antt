@@ -55,9 +55,11 @@ payload_words (answers.Payload payload) = hex_word payload ∷ []
 payload_words (answers.Message src seq payload) = hex_word payload ∷ []
 payload_words _ = []
 
+-- the words of an answer
 abbrev pub answer_words : Answer → List Word
 answer_words answer = answer_name answer ∷ map decimal (numbers answer) ++ payload_words answer
 
+-- the reply to a request
 abbrev pub reply_line : ℕ → Answer → List ℕ
 reply_line number answer = join_with_byte 32 (decimal number ∷ answer_words answer)
 

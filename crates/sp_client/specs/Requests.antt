@@ -31,6 +31,7 @@ name commands.TakePrio = codes "takeprio"
 name (commands.Weight peer weight) = codes "weight"
 name commands.Close = codes "close"
 
+-- the words of a command behind its name
 abbrev pub fields : Command → List Word
 fields (commands.Send to payload) = decimal to.0 ∷ hex_word payload ∷ []
 fields (commands.SendPrio to prio expiry paths payload) = decimal to.0 ∷ decimal prio ∷ decimal expiry ∷ decimal paths ∷ hex_word payload ∷ []
@@ -38,14 +39,17 @@ fields (commands.Take from) = decimal from.0 ∷ []
 fields (commands.Weight peer weight) = decimal peer.0 ∷ decimal weight ∷ []
 fields _ = []
 
+-- the words of a request
 abbrev pub request_words : Request → List Word
 request_words r = decimal r.number ∷ name r.command ∷ fields r.command
 
+-- the line of a request
 abbrev pub request_line : Request → List ℕ
 request_line r = join_with_byte 32 (request_words r)
 
 -- ---- ranges: a row for each field
 
+-- a number in this range
 abbrev pub IsIn : ℕ → ℕ → ℕ → Type 0
 IsIn low high n = (low ≤ n) × (n ≤ high)
 
@@ -53,10 +57,12 @@ IsIn low high n = (low ≤ n) × (n ≤ high)
 abbrev pub IsNode : ℕ → Type 0
 IsNode id = id ≤ 255
 
+-- a payload in its range
 pub record IsPayload (payload : List ℕ) : Type 0 where
   pub short : length payload ≤ MAX_PAYLOAD_BYTES
   pub bytes : AreBytes payload
 
+-- a command with fields in their ranges
 abbrev pub IsCommand : Command → Type 0
 IsCommand (commands.Send to payload) = IsNode to.0 × IsPayload payload
 IsCommand (commands.SendPrio to prio expiry paths payload) =
@@ -69,6 +75,7 @@ IsCommand (commands.Take from) = IsNode from.0
 IsCommand (commands.Weight peer weight) = IsNode peer.0 × IsIn 1 MAX_WEIGHT weight
 IsCommand _ = ⊤
 
+-- a request in its ranges
 pub record IsInRange (r : Request) : Type 0 where
   pub number : IsIn 1 MAX_REQUEST_NUMBER r.number
   pub command : IsCommand r.command

@@ -18,10 +18,12 @@ pub record Exchange : Type 0 where
 
 -- ---- commands and answers
 
+-- whether a command opens a session
 abbrev pub is_open : Command → Bool
 is_open commands.Open = true
 is_open _ = false
 
+-- whether a command closes a session
 abbrev pub is_close : Command → Bool
 is_close commands.Close = true
 is_close _ = false
@@ -33,6 +35,7 @@ is_local commands.Listen = false
 is_local commands.Close = false
 is_local _ = true
 
+-- whether an answer says that the client listens from now on
 abbrev pub is_listening : Answer → Bool
 is_listening answers.Listening = true
 is_listening _ = false
@@ -56,6 +59,7 @@ session_of history port = take_while (λ e. not (is_close e.request.command)) (r
 abbrev pub last_of : List Exchange → ℕ → ℕ
 last_of history port = length (session_of history port)
 
+-- whether a port has a session
 abbrev pub has_session : List Exchange → ℕ → Bool
 has_session history port = nat_lt 0 (last_of history port)
 
@@ -98,6 +102,7 @@ idle_answer None last number = answers.BadNumber last
 abbrev pub outside_answer : Request → Answer
 outside_answer r = if is_open r.command then (if r.number == 1 then answers.SessionsFull else answers.BadNumber 0) else answers.NoSession
 
+-- the answer to a request that isn't run
 abbrev pub unrun_answer : List Exchange → ℕ → Request → Answer
 unrun_answer history port r =
     if has_session history port then idle_answer (kept_reply history port) (last_of history port) r.number
@@ -122,6 +127,7 @@ own_answer holder port (commands.Take from) = take_answer holder port
 own_answer holder port commands.TakePrio = take_answer holder port
 own_answer holder port _ = None
 
+-- the answer that the sessions give by themselves, if the node isn't asked
 abbrev pub session_answer : List Exchange → ℕ → Request → Option Answer
 session_answer history port r =
     if runs history port r then own_answer (holder_of history) port r.command

@@ -23,17 +23,21 @@ pub record Table : Type 0 where
   pub sessions : List Session
   pub holder : Option ℕ
 
+-- a table without sessions
 abbrev pub no_sessions : Table
 no_sessions = record { sessions = []; holder = None }
 
+-- whether a session is of this port
 abbrev pub has_port : ℕ → Session → Bool
 has_port port s = s.port == port
 
+-- the session of a port
 abbrev pub session_in : Table → ℕ → Option Session
 session_in t port = find (has_port port) t.sessions
 
 -- ---- what doesn't run
 
+-- the reply that a session keeps under this number
 abbrev pub kept_of : Option Session → ℕ → Option (List ℕ)
 kept_of None number = None
 kept_of (Some s) number = if number == s.last then Some s.kept else None
@@ -48,6 +52,7 @@ outside r count =
     if is_open r.command then (if r.number == 1 then (if nat_lt count MAX_SESSIONS then None else Some answers.SessionsFull)
     else Some (answers.BadNumber 0)) else Some answers.NoSession
 
+-- why a request isn't run, if it isn't
 abbrev pub refusal_of : Option Session → ℕ → Request → Option Answer
 refusal_of None count r = outside r count
 refusal_of (Some s) count r = if r.number == s.last + 1 then None else Some (answers.BadNumber s.last)
@@ -58,9 +63,11 @@ refusal t port r = refusal_of (session_in t port) (length t.sessions) r
 
 -- ---- what runs
 
+-- a session
 abbrev pub session : ℕ → ℕ → List ℕ → Session
 session port last kept = record { port = port; last = last; kept = kept }
 
+-- the sessions after a reply
 abbrev pub sessions_after : Option Session → List Session → ℕ → Request → List ℕ → List Session
 sessions_after None all port r reply = all ++ session port r.number reply ∷ []
 sessions_after (Some s) all port r reply =
@@ -72,6 +79,7 @@ abbrev pub without : Option ℕ → ℕ → Option ℕ
 without None port = None
 without (Some holder) port = if holder == port then None else Some holder
 
+-- who listens after a command
 abbrev pub holder_after : Option ℕ → ℕ → Command → Answer → Option ℕ
 holder_after holder port command answer =
     if is_close command then without holder port else (if begins_listening command answer then Some port else holder)
@@ -99,10 +107,12 @@ Served steps (Some kept) refused old port r reply new before after = (reply ≡ 
 Served steps None (Some answer) old port r reply new before after = (reply ≡ reply_line r.number answer) × (new ≡ old) × (after ≡ before)
 Served steps None None old port r reply new before after = Runs steps old port r reply new before after
 
+-- what serving a request makes of table and local
 abbrev pub Serves : {L : Type 0} → Steps L → Table → ℕ → Request → List ℕ → Table → L → L → Type 0
 Serves steps old port r reply new before after =
     Served steps (repeat old port r.number) (refusal old port r) old port r reply new before after
 
+-- what handling a datagram makes of table and local
 abbrev pub Handles : {L : Type 0} → Steps L → Option Request → Table → ℕ → List ℕ → Table → L → L → Type 0
 Handles steps None old port reply new before after = (reply ≡ bad_reply) × (new ≡ old) × (after ≡ before)
 Handles steps (Some r) old port reply new before after = Serves steps old port r reply new before after

@@ -25,7 +25,8 @@ same_local old new state idle effects =
     ∙ ap (λ (e : Option Caused). record old { effects = e }) effects
 
 refused_is : (old new : LocalNode) (input : Input) (command : Command) (answer : Result ℕ SendRefused) (e : SendRefused) (a : Answer)
-    → ((a : Answer) → IsSend old input a new → AnswersBy old command a new) → NodeStep (format_of old.node.state.fixed) old.node.state input (replied (Refused e)) new.node.state
+    → ((a : Answer) → IsSend old input a new → AnswersBy old command a new)
+    → NodeStep (format_of old.node.state.fixed) old.node.state input (replied (Refused e)) new.node.state
     → sent (Err e) ≡ Some a → answer ≡ Err e → new.effects ≡ None → StepsBy AnswersBy old command (sent answer) new
 refused_is old new input command answer e a hands step is told none =
     subst (λ (o : Option Answer). StepsBy AnswersBy old command o new) (sym (ap sent told ∙ is))
@@ -33,7 +34,8 @@ refused_is old new input command answer e a hands step is told none =
 
 pub send_steps : (old new : LocalNode) (input : Input) (command : Command) (refusal : Option SendRefused) (call : Result (Step ℕ) SendRefused)
     (answer : Result ℕ SendRefused) → ((a : Answer) → IsSend old input a new → AnswersBy old command a new)
-    → Sends input refusal old.node.state call new.node.state → IsIdle old.node new.node → Keeps old.effects call answer new.effects → StepsBy AnswersBy old command (sent answer) new
+    → Sends input refusal old.node.state call new.node.state → IsIdle old.node new.node → Keeps old.effects call answer new.effects
+    → StepsBy AnswersBy old command (sent answer) new
 send_steps old new input command refusal (Ok step) answer hands is work keeps =
     subst (λ (r : Result ℕ SendRefused). StepsBy AnswersBy old command (sent r) new) (sym keeps.0)
     (hands (answers.Accepted step.reply) (record { output = accepted step.reply step.effects.list; step = is; told = refl; caused = ap caused_in keeps.1 }))

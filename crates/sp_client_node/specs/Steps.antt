@@ -21,6 +21,7 @@ told_of (Payload payload) = Some (took (Ok payload))
 told_of (Message entry) = Some (took_prio entry)
 told_of _ = None
 
+-- the effects of a command, if there are some
 abbrev pub caused_in : Option Caused → List Effect
 caused_in None = []
 caused_in (Some effects) = effects.list

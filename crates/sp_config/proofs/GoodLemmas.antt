@@ -1,5 +1,6 @@
 -- Where no key is missing and none is out of range, each value is what its row wants.
-use Rattle.std.proofs.Common.{◌≡◌, ℕ, ◌≤◌, ℤ, pos, negsuc, Bool, true, ◌||◌, List, [], ◌∷◌, ◌++◌, Option, Some, None, is_some, option_and_then, Result, Ok, Err, codes, refl, inl, inr, arith}
+use Rattle.std.proofs.Common.{◌≡◌, ℕ, ◌≤◌, ℤ, pos, negsuc, Bool, true, ◌||◌, List, [], ◌∷◌, ◌++◌, Option, Some, None, is_some, option_and_then, Result, Ok, Err}
+use Rattle.std.proofs.Common.{codes, refl, inl, inr, arith}
 use Rattle.std.proofs.lemmas.Bool.{cases_Bool}
 use Rattle.std.proofs.lemmas.Bool.Decides.{nat_tests}
 use Rattle.sp_base.specs.Cursor.{or_else}
@@ -78,7 +79,8 @@ good_array key kind rest ranges ms m r =
 pub good_peers : (ranges : Ranges) (ms : Members) → refused_keys forms.Config ms ≡ Ok tt → refused_by (Range ranges) forms.Config ms ≡ Ok tt
     → AreGood peer_keys ranges (tables_at (codes "peer") ms)
 good_peers ranges ms m r =
-    good_array (codes "peer") forms.Peer [] ranges ms (passed Missing forms.Config ms (missing_passed forms.Config ms m)).1 (passed (Range ranges) forms.Config ms r).1
+    good_array (codes "peer") forms.Peer [] ranges ms (passed Missing forms.Config ms (missing_passed forms.Config ms m)).1
+    (passed (Range ranges) forms.Config ms r).1
 
 pub good_nodes : (ranges : Ranges) (ms : Members) → refused_keys forms.Draft ms ≡ Ok tt → refused_by (Range ranges) forms.Draft ms ≡ Ok tt
     → AreGood node_keys ranges (tables_at (codes "node") ms)

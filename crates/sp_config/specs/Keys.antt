@@ -15,12 +15,15 @@ pub record Row : Type 0 where
   pub optional : Bool
   pub shape : Shape
 
+-- a key that must be there
 abbrev pub must : List ℕ → Shape → Row
 must name shape = record { name = name; optional = false; shape = shape }
 
+-- a key that may be away
 abbrev pub may : List ℕ → Shape → Row
 may name shape = record { name = name; optional = true; shape = shape }
 
+-- a key of the program as a row
 abbrev pub row_of : Key → Row
 row_of (Must name shape) = must name.now shape
 row_of (May name shape) = may name.now shape
@@ -44,12 +47,15 @@ running_keys =
     ∷ may (codes "peer") Tables
     ∷ []
 
+-- the keys of a configuration: those that must be there first
 abbrev pub config_keys : List Row
 config_keys = own_keys ++ running_keys
 
+-- the keys of a neighbour in a configuration
 abbrev pub peer_keys : List Row
 peer_keys = must (codes "id") Id ∷ must (codes "port") (Number 1 (2 ^ 16 - 1)) ∷ must (codes "key") (Digits 32) ∷ []
 
+-- the keys of a draft
 abbrev pub draft_keys : List Row
 draft_keys =
     may (codes "format") (Number FORMAT_1 FORMAT_2)
@@ -61,12 +67,15 @@ draft_keys =
     ∷ must (codes "edge") Tables
     ∷ []
 
+-- the keys of a node in a draft
 abbrev pub node_keys : List Row
 node_keys = must (codes "id") Id ∷ must (codes "seed") (Digits 32) ∷ []
 
+-- the keys of an edge in a draft
 abbrev pub edge_keys : List Row
 edge_keys = must (codes "a") (Number 0 255) ∷ must (codes "b") (Number 0 255) ∷ must (codes "weight") (Number 0 (2 ^ 32 - 1)) ∷ []
 
+-- the keys of each kind of table
 abbrev pub keys_of : Form → List Row
 keys_of forms.Config = config_keys
 keys_of forms.Peer = peer_keys

@@ -33,6 +33,7 @@ refusal_of Unknown key = refusals.Unknown key
 refusal_of Missing key = refusals.Missing key
 refusal_of (Range ranges) key = refusals.Range key
 
+-- a refusal where there is a fault
 abbrev pub unless : {F : Type 0} → (F → ConfigRefused) → Option F → Result (Unit {0}) ConfigRefused
 unless refusal None = Ok tt
 unless refusal (Some fault) = Err (refusal fault)
@@ -56,9 +57,11 @@ total Ten = 2 ^ 20
 abbrev pub document_in : List ℕ → Result (Unit {0}) TopologyRefused
 document_in bytes = read_of bytes >>= λ read. Ok tt
 
+-- the neighbour that a table says
 abbrev pub peer_of : Members → Peer
 peer_of ms = record { id = record { 0 = number_at (codes "id") ms }; port = number_at (codes "port") ms; key = bytes_at (codes "key") ms }
 
+-- the configuration that a table says
 abbrev pub config_from : Members → Config
 config_from ms = record {
   node = record { 0 = number_at (codes "node") ms };
@@ -76,6 +79,7 @@ config_from ms = record {
 abbrev pub config_ranges : Members → Ranges
 config_ranges ms = record { format = format_said (text_at (codes "topology") ms); index = NO_INDEX }
 
+-- the configuration in a table, or the first refusal
 unfoldable pub config_in : Members → Result Config ConfigRefused
 config_in ms = do
   _ ← refused_keys forms.Config ms
@@ -97,15 +101,19 @@ height_in ms = if number_at (codes "height") ms == 10 then Ten else Five
 abbrev pub draft_ranges : Members → Ranges
 draft_ranges ms = record { format = format_in ms; index = total (height_in ms) - 1 }
 
+-- the node of a draft that a table says
 abbrev pub node_of : Members → DraftNode
 node_of ms = record { id = record { 0 = number_at (codes "id") ms }; seed = bytes_at (codes "seed") ms }
 
+-- the edge of a draft that a table says
 abbrev pub edge_of : Members → DraftEdge
 edge_of ms = record { a = number_at (codes "a") ms; b = number_at (codes "b") ms; weight = number_at (codes "weight") ms }
 
+-- the edge of a draft as one of a topology
 abbrev pub as_edge : DraftEdge → Edge
 as_edge e = record { low = record { 0 = e.a }; high = record { 0 = e.b }; weight = e.weight }
 
+-- the draft that a table says
 abbrev pub draft_from : Members → Draft
 draft_from ms = record {
   format = format_in ms;
@@ -121,6 +129,7 @@ draft_from ms = record {
 abbrev pub fault_of : Draft → Option TopologyRefused
 fault_of draft = graph_fault draft.format (map (λ n. n.id.0) draft.nodes) (map as_edge draft.edges)
 
+-- the draft in a table, or the first refusal
 unfoldable pub draft_in : Members → Result Draft ConfigRefused
 draft_in ms = do
   _ ← refused_keys forms.Draft ms
@@ -130,12 +139,15 @@ draft_in ms = do
 
 -- ---- texts
 
+-- the table that a text is (TOML 1.0), or its refusal
 abbrev pub table_of : List ℕ → Result Members ConfigRefused
 table_of text = elim (parse_document text) [ None ↦ Err refusals.Toml | Some ms ↦ Ok ms ]
 
+-- the configuration that a text says, or its refusal
 abbrev pub config_of : List ℕ → Result Config ConfigRefused
 config_of text = table_of text >>= config_in
 
+-- the draft that a text says, or its refusal
 abbrev pub draft_of : List ℕ → Result Draft ConfigRefused
 draft_of text = table_of text >>= draft_in
 

@@ -34,8 +34,10 @@ refused_words (refusals.Range key) = codes "Range " ++ key
 refused_words (refusals.Topology fault) = codes "Topology " ++ fault_word fault
 refused_words refusals.Memory = []
 
+-- the line of a refusal
 unfoldable pub refused_line : ConfigRefused → List ℕ
 refused_line refused = codes "refused 0 " ++ (refused_words refused ++ codes "\n")
 
+-- the line of a text with too many bytes
 abbrev pub too_big_line : List ℕ
 too_big_line = codes "refused 0 TooBig\n"

@@ -20,18 +20,22 @@ is_digit c = (nat_le 48 c && nat_le c 57) || (nat_le 97 c && nat_le c 102)
 abbrev pub are_digits : List ℕ → Bool
 are_digits text = list_all is_digit text && (length text % 2 == 0)
 
+-- whether an integer is in this range
 abbrev pub is_within : ℕ → ℕ → ℤ → Bool
 is_within low high (pos n) = nat_le low n && nat_le n high
 is_within low high (negsuc n) = false
 
+-- whether an integer is a height of trees
 abbrev pub is_height : ℤ → Bool
 is_height (pos n) = (n == 5) || (n == 10)
 is_height (negsuc n) = false
 
+-- whether a value is a table
 abbrev pub is_table : Data → Bool
 is_table (table ms) = true
 is_table _ = false
 
+-- whether all items of an array are tables
 abbrev pub are_tables : Items → Bool
 are_tables no_items = true
 are_tables (item d ds) = is_table d && are_tables ds
@@ -57,14 +61,17 @@ nothing_said = record { format = FORMAT_1; index = 0 }
 abbrev pub format_said : List ℕ → ℕ
 format_said text = if are_digits text && (slice_index text 8 == 48) && (slice_index text 9 == 50) then FORMAT_2 else FORMAT_1
 
+-- an integer as a natural number; below 0 it is 0
 abbrev pub natural : ℤ → ℕ
 natural (pos n) = n
 natural (negsuc n) = 0
 
+-- the natural number that is there; without one it is 0
 abbrev pub number_of : Option ℤ → ℕ
 number_of None = 0
 number_of (Some z) = natural z
 
+-- the number at a key
 abbrev pub number_at : List ℕ → Members → ℕ
 number_at key ms = number_of (option_and_then as_integer (get_member key ms))
 
@@ -73,9 +80,11 @@ abbrev pub number_or : ℕ → Option Data → ℕ
 number_or absent None = absent
 number_or absent (Some d) = number_of (as_integer d)
 
+-- the text at a key
 abbrev pub text_at : List ℕ → Members → List ℕ
 text_at key ms = unwrap_or (option_and_then as_str (get_member key ms)) []
 
+-- the bytes that were read, or none
 abbrev pub bytes_or_none : {E : Type 0} → Result (List ℕ) E → List ℕ
 bytes_or_none (Ok bytes) = bytes
 bytes_or_none (Err e) = []
@@ -84,9 +93,11 @@ bytes_or_none (Err e) = []
 abbrev pub bytes_of : List ℕ → List ℕ
 bytes_of text = bytes_or_none (decode_of text)
 
+-- the bytes whose digits stand at a key
 abbrev pub bytes_at : List ℕ → Members → List ℕ
 bytes_at key ms = bytes_of (text_at key ms)
 
+-- the items of the array at a key
 abbrev pub items_at : List ℕ → Members → Items
 items_at key ms = unwrap_or (option_and_then as_array (get_member key ms)) no_items
 
@@ -96,5 +107,6 @@ tables_of no_items = []
 tables_of (item (table ms) ds) = ms ∷ tables_of ds
 tables_of (item _ ds) = tables_of ds
 
+-- the tables of the array at a key
 abbrev pub tables_at : List ℕ → Members → List Members
 tables_at key ms = tables_of (items_at key ms)

@@ -27,6 +27,7 @@ abbrev pub missing_in : List Row → Members → Option (List ℕ)
 missing_in [] ms = None
 missing_in (row ∷ rows) ms = if row.optional || is_some (get_member row.name ms) then missing_in rows ms else Some row.name
 
+-- whether a value fits its shape, if it is there
 abbrev pub fits_if : Ranges → Shape → Option Data → Bool
 fits_if ranges shape None = true
 fits_if ranges shape (Some d) = fits ranges shape d
@@ -55,5 +56,6 @@ abbrev pub first_in_arrays : Wrong → List (List ℕ × Form) → Members → O
 first_in_arrays wrong [] ms = None
 first_in_arrays wrong (a ∷ arrays) ms = or_else (first_among wrong (keys_of a.1) (tables_at a.0 ms)) (first_in_arrays wrong arrays ms)
 
+-- the first key at fault in a table, and then in the tables of its arrays
 abbrev pub first_wrong : Wrong → Form → Members → Option (List ℕ)
 first_wrong wrong form ms = or_else (first_in wrong (keys_of form) ms) (first_in_arrays wrong (arrays_of form) ms)

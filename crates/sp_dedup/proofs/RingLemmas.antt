@@ -1,5 +1,6 @@
 -- A ring's marks as a window: what it sees, and what one mark more leaves.
-use Rattle.std.proofs.Common.{◌≡◌, ◌≤◌, ◌<◌, ℕ, ◌+◌, ◌-◌, ◌%◌, Bool, true, false, List, [], length, replicate, max, refl, sym, ap, subst, ◌∙◌, arith, inl, inr, nat_le, get_or-set_same, get_or-set_other}
+use Rattle.std.proofs.Common.{◌≡◌, ◌≤◌, ◌<◌, ℕ, ◌+◌, ◌-◌, ◌%◌, Bool, true, false, List, [], length, replicate, max, refl, sym, ap, subst, ◌∙◌, arith, inl, inr}
+use Rattle.std.proofs.Common.{nat_le, get_or-set_same, get_or-set_other}
 use Rattle.std.specs.Prelude.{◌==◌, ◌⊎◌, ◌&&◌, ◌||◌, not, slice_set}
 use Rattle.std.proofs.lemmas.Bool.Decides.{nat_tests}
 use Rattle.std.proofs.lemmas.List.{get_or-replicate, length-set, length-replicate}
@@ -173,7 +174,8 @@ pub marked_so : (top : ℕ) (ring : List ℕ) (q : ℕ) → IsRing top ring → 
 marked_so top ring q sound not =
     same_numbers (marked_in (max top q) (slice_set ring (q % WINDOW) q)) (with_mark (marked_in top ring) q)
     (marked_ascend (max top q) (slice_set ring (q % WINDOW) q)) (mark_ascends top ring q)
-    (λ x. same_marks top ring q (max top q) (slice_set ring (q % WINDOW) q) x sound (omega arith) (λ under near. alike x (omega (arith, under)) (omega (arith, near))))
+    (λ x. same_marks top ring q (max top q) (slice_set ring (q % WINDOW) q) x sound (omega arith)
+    (λ under near. alike x (omega (arith, under)) (omega (arith, near))))
   where
     fresh : IsUnseen top ring q
     fresh = unseen top ring q sound not

@@ -61,7 +61,8 @@ became_own : (old new : List Numbers) (u v : NodeId) (n : Numbers) → IsOneOf o
 became_own old new u v n one same is = ap (λ (all : List Numbers). numbers_at all v) is ∙ at_own old u v n one same
 
 start_gives : (old new : List Numbers) (total : ℕ) (u v : NodeId) (started : Started) (calls : List Call) (boot least : ℕ)
-    → IsOneOf old u → Starts total u old new (Ok started) → AtLeast boot least (numbers_at old v) → RisesLater v new calls → Rise boot least v (Start total u (Ok started) ∷ calls)
+    → IsOneOf old u → Starts total u old new (Ok started) → AtLeast boot least (numbers_at old v) → RisesLater v new calls
+    → Rise boot least v (Start total u (Ok started) ∷ calls)
 start_gives old new total u v started calls boot least one start at later = go (u.0 == v.0) refl
   where
     after : Numbers
@@ -90,7 +91,8 @@ start_gives old new total u v started calls boot least one start at later = go (
         ((omega (arith, low, boot_here, boot_is), rise.0), (omega (arith, least_low, bound_here, index_is), omega (arith, left, index_is, bound_is), rise.1))
 
 more_gives : (old new : List Numbers) (total : ℕ) (u v : NodeId) (index bound : ℕ) (calls : List Call) (boot least : ℕ)
-    → Does old (More total u index bound) new → AtLeast boot least (numbers_at old v) → RisesLater v new calls → Rise boot least v (More total u index bound ∷ calls)
+    → Does old (More total u index bound) new → AtLeast boot least (numbers_at old v) → RisesLater v new calls
+    → Rise boot least v (More total u index bound ∷ calls)
 more_gives old new total u v index bound calls boot least does at later = go (u.0 == v.0) refl
   where
     after : Numbers

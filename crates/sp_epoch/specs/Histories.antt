@@ -19,9 +19,11 @@ Does old (Start total u answer) new = IsOneOf old u × Starts total u old new an
 Does old (More total u index bound) new =
     IsOneOf old u × (index ≡ (numbers_at old u).bound) × (index < total) × Reserves total u old new bound
 
+-- the numbers of all nodes after so many calls, one after another
 pub data DoesAll : List Numbers → List Call → List Numbers → Type 0 where
   Nothing_more : (all : List Numbers) → DoesAll all [] all
-  And_then : (old between new : List Numbers) (call : Call) (calls : List Call) → Does old call between → DoesAll between calls new → DoesAll old (call ∷ calls) new
+  And_then : (old between new : List Numbers) (call : Call) (calls : List Call) → Does old call between → DoesAll between calls new
+      → DoesAll old (call ∷ calls) new
 
 -- from the day that the key states of so many nodes were made
 abbrev pub IsHistory : (nodes : ℕ) → List Call → Type 0
@@ -33,10 +35,12 @@ IsHistory nodes calls = (now : List Numbers) × DoesAll (replicate nodes first_n
 abbrev pub Range : Type 0
 Range = ℕ × ℕ
 
+-- the boot that an answer gives, if it gives one, before the later ones
 abbrev pub boots_by : Result Started EpochRefused → List ℕ → List ℕ
 boots_by (Ok started) later = started.boot ∷ later
 boots_by (Err refused) later = later
 
+-- the indexes that an answer gives, if it gives some, before the later ones
 abbrev pub ranges_by : Result Started EpochRefused → List Range → List Range
 ranges_by (Ok started) later = (started.index, started.bound) ∷ later
 ranges_by (Err refused) later = later

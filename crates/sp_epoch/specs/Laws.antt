@@ -9,6 +9,7 @@ abbrev pub NothingIsGivenTwice : Type 0
 NothingIsGivenTwice = (nodes : ℕ) (calls : List Call) → IsHistory nodes calls → (v : NodeId)
     → BootsRise 0 (boots_of v calls) × RangesRise 0 (ranges_of v calls)
 
+-- node 1
 abbrev pub node_1 : NodeId
 node_1 = record { 0 = 1 }
 

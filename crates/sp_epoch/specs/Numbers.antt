@@ -26,9 +26,11 @@ started_at total n = record { boot = n.boot + 1; index = n.bound; bound = next_b
 
 -- ---- the numbers of all nodes, those of node 1 first
 
+-- a node that these numbers are of
 abbrev pub IsOneOf : List Numbers → NodeId → Type 0
 IsOneOf all u = (1 ≤ u.0) × (u.0 ≤ length all)
 
+-- the numbers of a node's key file
 abbrev pub numbers_at : List Numbers → NodeId → Numbers
 numbers_at all u = slice_index_or all (u.0 - 1) first_numbers
 

@@ -7,6 +7,7 @@ pub record InboxState : Type 0 where
   pub have : ℕ
   pub items : List (List ℕ)
 
+-- an inbox of so many messages, with none
 abbrev pub empty_inbox : ℕ → InboxState
 empty_inbox bound = record { bound = bound; base = 0; have = 0; items = [] }
 

@@ -1,5 +1,6 @@
 -- A document that a node adopted from a datagram is the one that was read of it before, and no longer than the datagram.
-use Rattle.std.proofs.Common.{◌≡◌, ◌≤◌, ◌-◌, ◌+◌, ◌∙◌, ℕ, Bool, true, false, List, [], ◌∷◌, ◌++◌, length, map, take, Option, Some, None, Result, Ok, Err, refl, sym, ap, arith}
+use Rattle.std.proofs.Common.{◌≡◌, ◌≤◌, ◌-◌, ◌+◌, ◌∙◌, ℕ, Bool, true, false, List, [], ◌∷◌, ◌++◌, length, map, take, Option, Some, None, Result, Ok, Err, refl}
+use Rattle.std.proofs.Common.{sym, ap, arith}
 use Rattle.std.specs.Prelude.{◌<◌, ◌&&◌, if◌then◌else◌, option_map}
 use Rattle.byteorder.specs.Endian.{big_bytes}
 use Rattle.std.proofs.lemmas.List.{length-append, length-drop, length-take}
@@ -14,7 +15,8 @@ use Rattle.sp_frame.specs.declared.refused.FrameRefused.{FrameRefused}
 use Rattle.sp_frame.specs.declared.refused.SectionRefused.{SectionRefused}
 use Rattle.sp_node_format.specs.Format.{document_in, format_in}
 use Rattle.sp_rules.specs.Arrivals as arrivals
-use Rattle.sp_rules.specs.Arrivals.{arrival_at, before_document, document_at, document_where, handled, heeded, parts_met, pieces_beside, pieces_in, pieces_where}
+use Rattle.sp_rules.specs.Arrivals.{arrival_at, before_document, document_at, document_where, handled, heeded, parts_met, pieces_beside, pieces_in}
+use Rattle.sp_rules.specs.Arrivals.{pieces_where}
 use Rattle.sp_rules.specs.Arrivals.{reply_at}
 use Rattle.sp_rules.specs.Arts.{Arts, Document}
 use Rattle.sp_rules.specs.Documents.{adopted_where, answer_to}

@@ -75,7 +75,8 @@ module _ (x : Setting) (es : List Event) (js : List Entry) where
   pub fresh_is : (n : NodeState) (u : NodeId) (bytes : List ℕ) (len : ℕ) (items more : List Item) → n.fixed.signature_len ≡ len
       → n.fixed.epochs ≡ x.epochs → links.Fresh ≡ reply_at arts n u bytes
       → items ≡ map (λ a. a.1) (handled arts n u bytes).answered ++ more
-      → found_at x es js (opened_in format bytes) (sections_of_in format len (sections_part bytes)) items ≡ forged_object arts x es js (handled arts n u bytes).answered
+      → found_at x es js (opened_in format bytes) (sections_of_in format len (sections_part bytes)) items
+      ≡ forged_object arts x es js (handled arts n u bytes).answered
   fresh_is n u bytes len items more long same fresh are =
       let good : (refused : FrameRefused) → opened_in format bytes ≢ Err refused = λ refused. are_frame format n u bytes refused (sym fresh) in
       let there : found_at x es js (opened_in format bytes) (sections_of_in format len (sections_part bytes)) items
@@ -95,7 +96,8 @@ module _ (x : Setting) (es : List Event) (js : List Entry) where
       ∙ in_turn x es js (handled arts n u bytes).answered more
 
   -- nothing of another one is handled
-  pub stale_is : (n : NodeState) (u : NodeId) (bytes : List ℕ) → reply_at arts n u bytes ≢ links.Fresh → forged_object arts x es js (handled arts n u bytes).answered ≡ None
+  pub stale_is : (n : NodeState) (u : NodeId) (bytes : List ℕ) → reply_at arts n u bytes ≢ links.Fresh
+      → forged_object arts x es js (handled arts n u bytes).answered ≡ None
   stale_is n u bytes other =
       ap (λ (ps : List Piece). forged_object arts x es js (handle_all arts (arrival_at n u) (parts_met arts n u bytes) ps).answered)
       (nothing (reply_at arts n u bytes) other)

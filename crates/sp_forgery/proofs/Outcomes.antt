@@ -28,22 +28,27 @@ pub link_is : (format : ℕ) (n new : NodeState) (u : NodeId) (bytes : List ℕ)
     → step.reply.link ≡ reply_at (format_in format) n u bytes
 link_is format n new u bytes step called gave = let r = reply_is format n new u bytes step called gave in cc
 
-pub items_are : (format : ℕ) (n new : NodeState) (u : NodeId) (bytes : List ℕ) (step : Step Taken) → call_refusal n u ≡ None → Answered format n u bytes step new
+pub items_are : (format : ℕ) (n new : NodeState) (u : NodeId) (bytes : List ℕ) (step : Step Taken) → call_refusal n u ≡ None
+    → Answered format n u bytes step new
     → step.reply.items ≡ map (λ a. a.1) (handled (format_in format) n u bytes).answered
     ++ document_items (format_in format) (before_document (format_in format) n u bytes) (document_at (format_in format) n u bytes)
 items_are format n new u bytes step called gave = let r = reply_is format n new u bytes step called gave in cc
 
-module _ (x : Setting) (es : List Event) (js : List Entry) (n : NodeState) (u v : NodeId) (bytes : List ℕ) (w : World) (ds : List Direction) (link : LinkReply) where
-  has_is : n.fixed.me ≡ v → w.directions ≡ ds → link ≡ reply_at (format_in x.topology.format) n u bytes
-      → (is_correct x u && is_tagged link && not (is_made bytes (frames_in ds u v))) ≡ has_forged_tag (format_in x.topology.format) x w n (Datagram u bytes)
-  has_is me rows is = rw (is, ← rows, ← me) refl
+module _ (x : Setting) (es : List Event) (js : List Entry) (n : NodeState) (u v : NodeId) (bytes : List ℕ) (w : World) (ds : List Direction) (link : LinkReply)
+  where
+    has_is : n.fixed.me ≡ v → w.directions ≡ ds → link ≡ reply_at (format_in x.topology.format) n u bytes
+        → (is_correct x u && is_tagged link && not (is_made bytes (frames_in ds u v))) ≡ has_forged_tag (format_in x.topology.format) x w n (Datagram u bytes)
+    has_is me rows is = rw (is, ← rows, ← me) refl
 
-  pub tag_is : (o : Output) → n.fixed.me ≡ v → w.directions ≡ ds → link ≡ reply_at (format_in x.topology.format) n u bytes
-      → (is_correct x u && is_tagged link && not (is_made bytes (frames_in ds u v))) ≡ true → Some whats.Tag ≡ forged (format_in x.topology.format) x es js w n (Datagram u bytes) o
-  tag_is o me rows is has = rw (sym (has_is me rows is) ∙ has) refl
+    pub tag_is : (o : Output) → n.fixed.me ≡ v → w.directions ≡ ds → link ≡ reply_at (format_in x.topology.format) n u bytes
+        → (is_correct x u && is_tagged link && not (is_made bytes (frames_in ds u v))) ≡ true
+        → Some whats.Tag ≡ forged (format_in x.topology.format) x es js w n (Datagram u bytes) o
+    tag_is o me rows is has = rw (sym (has_is me rows is) ∙ has) refl
 
-  pub object_is : (o : Output) (found document : Option (List ℕ)) → n.fixed.me ≡ v → w.directions ≡ ds → link ≡ reply_at (format_in x.topology.format) n u bytes
-      → (is_correct x u && is_tagged link && not (is_made bytes (frames_in ds u v))) ≡ false → found ≡ forged_object (format_in x.topology.format) x es js o.answered
-      → document ≡ forged_document (format_in x.topology.format) es o.adopted
-      → option_map whats.Object (or_else found document) ≡ forged (format_in x.topology.format) x es js w n (Datagram u bytes) o
-  object_is o found document me rows is has same adopted = rw (sym (has_is me rows is) ∙ has, ← same, ← adopted) refl
+    pub object_is : (o : Output) (found document : Option (List ℕ)) → n.fixed.me ≡ v → w.directions ≡ ds
+        → link ≡ reply_at (format_in x.topology.format) n u bytes
+        → (is_correct x u && is_tagged link && not (is_made bytes (frames_in ds u v))) ≡ false
+        → found ≡ forged_object (format_in x.topology.format) x es js o.answered
+        → document ≡ forged_document (format_in x.topology.format) es o.adopted
+        → option_map whats.Object (or_else found document) ≡ forged (format_in x.topology.format) x es js w n (Datagram u bytes) o
+    object_is o found document me rows is has same adopted = rw (sym (has_is me rows is) ∙ has, ← same, ← adopted) refl

@@ -52,17 +52,21 @@ module _ (x : Setting) (es : List Event) (js : List Entry) where
   abbrev is_good : Kept → Type 0
   is_good = IsGood format
 
-  found_is_short : (answered : List (Kept × Item)) (body : List ℕ) → All is_good (map (λ a. a.0) answered) → forged_object (format_in format) x es js answered ≡ Some body
+  found_is_short : (answered : List (Kept × Item)) (body : List ℕ) → All is_good (map (λ a. a.0) answered)
+      → forged_object (format_in format) x es js answered ≡ Some body
       → length body ≤ MAX_MESSAGE_BYTES
   found_is_short [] body good is = absurd (cc)
-  found_is_short (a ∷ others) body good is = go (is_forged (format_in format) x es js a) refl (found_is_short others body (All-tail is_good a.0 (map (λ b. b.0) others) good))
+  found_is_short (a ∷ others) body good is =
+      go (is_forged (format_in format) x es js a) refl (found_is_short others body (All-tail is_good a.0 (map (λ b. b.0) others) good))
     where
-      go : (t : Bool) → is_forged (format_in format) x es js a ≡ t → (forged_object (format_in format) x es js others ≡ Some body → length body ≤ MAX_MESSAGE_BYTES) → length body ≤ MAX_MESSAGE_BYTES
+      go : (t : Bool) → is_forged (format_in format) x es js a ≡ t
+          → (forged_object (format_in format) x es js others ≡ Some body → length body ≤ MAX_MESSAGE_BYTES) → length body ≤ MAX_MESSAGE_BYTES
       go true forged later =
           let same = same_Some (encoded_in format a.0.body) body (rw forged at is) in
           subst (λ (bs : List ℕ). length bs ≤ MAX_MESSAGE_BYTES) same (body_is_short format a.0.body (All-head is_good a.0 (map (λ b. b.0) others) good))
       go false other later = later (rw other at is)
 
-  pub forged_is_short : (n : NodeState) (u : NodeId) (bytes body : List ℕ) → AreBytes bytes → Some body ≡ forged_object (format_in format) x es js (handled (format_in format) n u bytes).answered
+  pub forged_is_short : (n : NodeState) (u : NodeId) (bytes body : List ℕ) → AreBytes bytes
+      → Some body ≡ forged_object (format_in format) x es js (handled (format_in format) n u bytes).answered
       → length body ≤ MAX_MESSAGE_BYTES
   forged_is_short n u bytes body are is = found_is_short (handled (format_in format) n u bytes).answered body (handled_are format n u bytes are).good (sym is)

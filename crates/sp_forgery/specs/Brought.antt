@@ -30,6 +30,7 @@ abbrev pub saying : (document : List ℕ) → Option Topology → Option (List �
 saying document None = None
 saying document (Some topology) = Some (document, topology)
 
+-- the document that is there, with its topology
 abbrev pub read_there : Option (List ℕ) → Option (List ℕ × Topology)
 read_there None = None
 read_there (Some document) = saying document (topology_in document)
@@ -42,14 +43,17 @@ brought_at (Err refused) sections = None
 
 -- ---- whether it is forged
 
+-- whether a link says fresh
 abbrev pub is_fresh : LinkReply → Bool
 is_fresh links.Fresh = true
 is_fresh _ = false
 
+-- whether a document is taken
 abbrev pub adopts : DocumentAnswer → Bool
 adopts (documents.Adopted version) = true
 adopts _ = false
 
+-- whether an answer says that a document is taken
 abbrev pub is_adoption : Item → Bool
 is_adoption (items.Document answer) = adopts answer
 is_adoption _ = false

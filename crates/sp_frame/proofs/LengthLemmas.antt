@@ -110,6 +110,7 @@ pub no_slot_long : (format : ℕ) → length (slot_bytes format None) ≡ 1
 unfolding slot_bytes
 no_slot_long format = refl
 
+-- a report has 18 bytes and the two boots of its format
 pub place_long : (format : ℕ) (r : Report) → length (place_bytes format r) ≡ 18 + 2 * boot_bytes format
 unfolding place_bytes
 place_long format r = go (format == FORMAT_1) refl

@@ -21,6 +21,7 @@ opened_in format bytes =
     else if not (slice_index bytes 2 == format) then Err refusals.Version
     else Ok bytes
 
+-- the bytes before the tag of a frame of format 1, or the first test of its bytes that fails
 abbrev pub opened : List ℕ → Result (List ℕ) FrameRefused
 opened bytes = opened_in FORMAT_1 bytes
 
@@ -46,6 +47,7 @@ head_of bytes = record {
 abbrev pub tagged_part : List ℕ → List ℕ
 tagged_part bytes = take (length bytes - TAG_BYTES) bytes
 
+-- the tag: the last bytes of a frame
 abbrev pub tag_part : List ℕ → List ℕ
 tag_part bytes = drop (length bytes - TAG_BYTES) bytes
 
@@ -62,8 +64,10 @@ ends_bytes h = big_bytes 2 NAME ++ big_bytes 1 h.format ++ big_bytes 1 h.from.0 
 unfoldable pub numbers_bytes : Head → List ℕ
 numbers_bytes h = big_bytes 8 h.boot ++ big_bytes 8 h.echo ++ big_bytes 8 h.counter ++ big_bytes 4 h.topology
 
+-- the head of a frame: its two ends, and its numbers
 unfoldable pub head_bytes : Head → List ℕ
 head_bytes h = ends_bytes h ++ numbers_bytes h
 
+-- a frame: head, sections, tag
 unfoldable pub frame_bytes : Head → Contents → List ℕ → List ℕ
 frame_bytes h s tag = head_bytes h ++ sections_bytes_in h.format s ++ tag

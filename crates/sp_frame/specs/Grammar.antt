@@ -25,6 +25,7 @@ count most bytes = limited 1 most bytes
 
 -- one part and the next
 infixl 10 ◌⊗◌
+-- one part, and then the other
 abbrev pub ◌⊗◌ : {X Y : Type 0} → (List ℕ → Result (X × List ℕ) SectionRefused) → (List ℕ → Result (Y × List ℕ) SectionRefused) → List ℕ
     → Result ((X × Y) × List ℕ) SectionRefused
 (one ⊗ two) bytes = one bytes >>= λ x. two x.1 >>= λ y. Ok ((x.0, y.0), y.1)
@@ -54,13 +55,16 @@ module _ {X : Type 0} (one : List ℕ → Result (X × List ℕ) SectionRefused)
 
 -- ---- the same, spelled
 module _ {X : Type 0} (spell : X → List ℕ) where
+  -- a list: how many there are, and each
   abbrev pub counted_bytes : List X → List ℕ
   counted_bytes xs = big_bytes 1 (length xs) ++ flat_map spell xs
 
+  -- what may be there: 0, or 1 and the thing itself
   abbrev pub flagged_bytes : Option X → List ℕ
   flagged_bytes None = big_bytes 1 0
   flagged_bytes (Some x) = big_bytes 1 1 ++ spell x
 
+  -- what an earlier format lacks: nothing there, and else what may be there
   abbrev pub later_bytes : Bool → Option X → List ℕ
   later_bytes true x = []
   later_bytes false x = flagged_bytes x

@@ -59,6 +59,7 @@ object format kind len bytes = do
   signature ← piece len long.1
   Ok (record { body = body; signature = signature.0 }, signature.1)
 
+-- a signed message: how long it is and its bytes, how long its signature is and that
 unfoldable pub object_bytes : ℕ → Kept → List ℕ
 object_bytes format o = big_bytes 2 (length (encoded_in format o.body)) ++ encoded_in format o.body ++ big_bytes 2 (length o.signature) ++ o.signature
 

@@ -7,6 +7,7 @@ use Rattle.sp_frame.specs.declared.sections.Slot.{Slot}
 abbrev pub IsOf : ℕ → ObjectRef → Type 0
 IsOf format o = o.format ≡ format
 
+-- what a slot carries is of this format
 pub record IsSlotOf (format : ℕ) (s : Slot) : Type 0 where
   pub ack : IfSome s.ack (IsOf format)
   pub rels : All (IsOf format) s.rels

@@ -13,11 +13,14 @@ use Rattle.sp_frame.specs.declared.refused.SectionRefused.{SectionRefused}
 unfoldable pub numbered : ℕ → ℕ → List ℕ → Result ((ℕ × Kept) × List ℕ) SectionRefused
 numbered format len bytes = (number 8 ⊗ object format kinds.Prio len) bytes
 
+-- a priority message with its link number before it
 unfoldable pub numbered_bytes : ℕ → ℕ × Kept → List ℕ
 numbered_bytes format message = big_bytes 8 message.0 ++ object_bytes format message.1
 
+-- the priority messages at the front of these bytes, as many as the format has at most, and what follows them
 unfoldable pub prios : ℕ → ℕ → List ℕ → Result (List (ℕ × Kept) × List ℕ) SectionRefused
 prios format len bytes = counted (numbered format len) (most format kinds.Prio) bytes
 
+-- the bytes of priority messages
 unfoldable pub prios_bytes : ℕ → List (ℕ × Kept) → List ℕ
 prios_bytes format messages = counted_bytes (numbered_bytes format) messages

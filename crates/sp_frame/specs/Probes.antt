@@ -15,20 +15,26 @@ use Rattle.sp_frame.specs.declared.refused.SectionRefused.{SectionRefused}
 abbrev pub probe_from : ((ℕ × List ℕ) × ℕ) × List ℕ → Probe
 probe_from (((n, told), back), shown) = record { number = n; nonce = told; echo = back; proof = shown }
 
+-- a probe with its echo at the front of these bytes, and what follows it
 unfoldable pub probe_at : List ℕ → Result (Probe × List ℕ) SectionRefused
 probe_at bytes = made probe_from (number 8 ⊗ piece 8 ⊗ number 8 ⊗ piece 32) bytes
 
+-- a probe: its number and nonce, the number that it echoes, and the proof
 unfoldable pub probe_bytes : Probe → List ℕ
 probe_bytes p = big_bytes 8 p.number ++ p.nonce ++ big_bytes 8 p.echo ++ p.proof
 
+-- the probe section at the front of these bytes, and what follows it
 unfoldable pub probes : ℕ → List ℕ → Result (Option Probe × List ℕ) SectionRefused
 probes format bytes = later probe_at (format == FORMAT_1) bytes
 
+-- the bytes of the probe section
 unfoldable pub probes_bytes : ℕ → Option Probe → List ℕ
 probes_bytes format probe = later_bytes probe_bytes (format == FORMAT_1) probe
 
+-- the epoch section at the front of these bytes, and what follows it
 unfoldable pub epoch : ℕ → ℕ → List ℕ → Result (Option Kept × List ℕ) SectionRefused
 epoch format len bytes = later (object format kinds.Epoch len) (format == FORMAT_1) bytes
 
+-- the bytes of the epoch section
 unfoldable pub epoch_bytes : ℕ → Option Kept → List ℕ
 epoch_bytes format said = later_bytes (object_bytes format) (format == FORMAT_1) said

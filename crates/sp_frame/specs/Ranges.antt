@@ -37,6 +37,7 @@ pub record IsReport (format : ℕ) (acks messages : Kind) (len : ℕ) (r : Repor
   pub few : length r.rels ≤ most format messages
   pub rels : All (IsObject format messages len) r.rels
 
+-- a probe and its echo with fields in their ranges
 pub record IsProbe (p : Probe) : Type 0 where
   pub number : p.number < 2 ^ 64
   pub nonce : length p.nonce ≡ 8
@@ -52,6 +53,7 @@ pub record IsDocument (s : Contents) (document : List ℕ) : Type 0 where
   pub short : length document < 65536
   pub alone : s ≡ with_document document
 
+-- sections whose fields are in the ranges of this format, where signatures have this length
 pub record IsContentsIn (format len : ℕ) (s : Contents) : Type 0 where
   pub document : IfSome s.document (Later format (IsDocument s))
   pub few_weights : length s.weights ≤ most format kinds.Weight

@@ -29,18 +29,23 @@ pub record Report : Type 0 where
 abbrev pub boot_bytes : ℕ → ℕ
 boot_bytes format = by_format format 0 8
 
+-- the acknowledgement of a report at the front of these bytes, if there is one, and what follows it
 unfoldable pub ack : ℕ → Kind → ℕ → List ℕ → Result (Option Kept × List ℕ) SectionRefused
 ack format kind len bytes = flagged (object format kind len) bytes
 
+-- the bytes of a report's acknowledgement
 unfoldable pub ack_bytes : ℕ → Option Kept → List ℕ
 ack_bytes format acked = flagged_bytes (object_bytes format) acked
 
+-- the messages of a report at the front of these bytes, as many as the format has at most, and what follows them
 unfoldable pub rels : ℕ → Kind → ℕ → List ℕ → Result (List Kept × List ℕ) SectionRefused
 rels format kind len bytes = counted (object format kind len) (most format kind) bytes
 
+-- the bytes of a report's messages
 unfoldable pub rels_bytes : ℕ → List Kept → List ℕ
 rels_bytes format objects = counted_bytes (object_bytes format) objects
 
+-- the report of what was read of it, one after another
 abbrev pub report_from : ((((((ℕ × ℕ) × ℕ) × ℕ) × ℕ) × ℕ) × Option Kept) × List Kept → Report
 report_from (((((((src, dst), sboot), dboot), base), have), acked), objects) = record {
   flow = record { src = record { 0 = src }; dst = record { 0 = dst } };
@@ -64,17 +69,22 @@ place_bytes format r =
     big_bytes 1 r.flow.src.0 ++ big_bytes 1 r.flow.dst.0 ++ big_bytes (boot_bytes format) r.sboot ++ big_bytes (boot_bytes format) r.dboot
     ++ big_bytes 8 r.base ++ big_bytes 8 r.have
 
+-- a report: where the flow stands, its acknowledgement, and its messages
 unfoldable pub report_bytes : ℕ → Report → List ℕ
 report_bytes format r = place_bytes format r ++ ack_bytes format r.ack ++ rels_bytes format r.rels
 
+-- the slot of reliable flows at the front of these bytes, and what follows it
 unfoldable pub slot : ℕ → ℕ → List ℕ → Result (Option Report × List ℕ) SectionRefused
 slot format len bytes = flagged (report format kinds.Ack kinds.Rel len) bytes
 
+-- the bytes of the slot of reliable flows
 unfoldable pub slot_bytes : ℕ → Option Report → List ℕ
 slot_bytes format reported = flagged_bytes (report_bytes format) reported
 
+-- the slot of flows over paths at the front of these bytes, and what follows it
 unfoldable pub paths : ℕ → ℕ → List ℕ → Result (Option Report × List ℕ) SectionRefused
 paths format len bytes = later (report format kinds.Kack kinds.Krel len) (format == FORMAT_1) bytes
 
+-- the bytes of the slot of flows over paths
 unfoldable pub paths_bytes : ℕ → Option Report → List ℕ
 paths_bytes format reported = later_bytes (report_bytes format) (format == FORMAT_1) reported

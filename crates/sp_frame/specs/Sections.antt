@@ -29,6 +29,7 @@ pub record Contents : Type 0 where
   pub probe : Option Probe
   pub epoch : Option Kept
 
+-- the sections of what was read of them, one after another
 abbrev pub contents_from : (((((List Kept × ℕ) × List (ℕ × Kept)) × Option Report) × Option Report) × Option Probe) × Option Kept → Contents
 contents_from ((((((updates, heard), messages), reported), on_paths), probed), said) = record {
   document = None;
@@ -50,6 +51,7 @@ unfoldable pub plain_at : ℕ → ℕ → List ℕ → Result (Contents × List 
 plain_at format len bytes =
     made contents_from (weights format len ⊗ number 8 ⊗ prios format len ⊗ slot format len ⊗ paths format len ⊗ probes format ⊗ epoch format len) bytes
 
+-- all sections of a frame without a document
 unfoldable pub plain_bytes : ℕ → Contents → List ℕ
 plain_bytes format s =
     weights_bytes format s.weights ++ big_bytes 8 s.prio_ack ++ prios_bytes format s.prios ++ slot_bytes format s.slot ++ paths_bytes format s.paths
@@ -60,6 +62,7 @@ plain_bytes format s =
 unfoldable pub sized : List ℕ → Result (List ℕ × List ℕ) SectionRefused
 sized bytes = number 2 bytes >>= λ n. piece n.0 n.1
 
+-- bytes with their length before them
 unfoldable pub sized_bytes : List ℕ → List ℕ
 sized_bytes bytes = big_bytes 2 (length bytes) ++ bytes
 
@@ -67,12 +70,15 @@ sized_bytes bytes = big_bytes 2 (length bytes) ++ bytes
 abbrev pub zeros_from : ((((ℕ × ℕ) × ℕ) × ℕ) × ℕ) × ℕ → ℕ
 zeros_from x = 0
 
+-- the zeros of a frame with a document at the front of these bytes, and what follows them
 unfoldable pub zeros : List ℕ → Result (ℕ × List ℕ) SectionRefused
 zeros bytes = made zeros_from (limited 8 0 ⊗ limited 1 0 ⊗ limited 1 0 ⊗ limited 1 0 ⊗ limited 1 0 ⊗ limited 1 0) bytes
 
+-- empty sections behind a document
 unfoldable pub zeros_bytes : ℕ → List ℕ
 zeros_bytes none = big_bytes 8 none ++ big_bytes 1 none ++ big_bytes 1 none ++ big_bytes 1 none ++ big_bytes 1 none ++ big_bytes 1 none
 
+-- sections that are a document and nothing else
 abbrev pub document_from : List ℕ × ℕ → Contents
 document_from parts = with_document parts.0
 
@@ -80,6 +86,7 @@ document_from parts = with_document parts.0
 unfoldable pub document_at : List ℕ → Result (Contents × List ℕ) SectionRefused
 document_at bytes = made document_from (sized ⊗ zeros) bytes
 
+-- a document with its length, and zeros in place of the other sections
 unfoldable pub document_bytes : List ℕ → List ℕ
 document_bytes document = sized_bytes document ++ zeros_bytes 0
 
@@ -100,10 +107,12 @@ sections_at_in format len bytes = if has_document format bytes then document_at 
 unfoldable pub sections_of_in : ℕ → ℕ → List ℕ → Result Contents SectionRefused
 sections_of_in format len bytes = whole_of (sections_at_in format len bytes)
 
+-- all sections, as a document says or as they are without one
 abbrev pub control_bytes : ℕ → Contents → Option (List ℕ) → List ℕ
 control_bytes format s None = plain_bytes format s
 control_bytes format s (Some document) = DOCUMENT ∷ document_bytes document
 
+-- the bytes of all sections under this format
 unfoldable pub sections_bytes_in : ℕ → Contents → List ℕ
 sections_bytes_in format s = control_bytes format s s.document
 
@@ -111,5 +120,6 @@ sections_bytes_in format s = control_bytes format s s.document
 abbrev pub sections_of : ℕ → List ℕ → Result Contents SectionRefused
 sections_of len bytes = sections_of_in FORMAT_1 len bytes
 
+-- the bytes of all sections under format 1
 abbrev pub sections_bytes : Contents → List ℕ
 sections_bytes s = sections_bytes_in FORMAT_1 s

@@ -13,12 +13,15 @@ abbrev pub as_list : {X : Type 0} → Option X → List X
 as_list None = []
 as_list (Some x) = x ∷ []
 
+-- a borrowed signed message as a value
 abbrev pub as_object : ObjectRef → Kept
 as_object o = record { body = as_body o.body; signature = o.signature.now }
 
+-- a borrowed priority message with its link number as a value
 abbrev pub as_numbered : ℕ × ObjectRef → ℕ × Kept
 as_numbered message = (message.0, as_object message.1)
 
+-- a borrowed report as a value
 abbrev pub as_report : Slot → Report
 as_report s = record {
   flow = s.flow;
@@ -30,6 +33,7 @@ as_report s = record {
   rels = map as_object s.rels;
 }
 
+-- borrowed sections as a value
 abbrev pub as_contents : Sections → Contents
 as_contents s = record {
   document = option_map (λ d. d.now) s.document;

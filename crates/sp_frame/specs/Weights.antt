@@ -11,5 +11,6 @@ use Rattle.sp_frame.specs.declared.refused.SectionRefused.{SectionRefused}
 unfoldable pub weights : ℕ → ℕ → List ℕ → Result (List Kept × List ℕ) SectionRefused
 weights format len bytes = counted (object format kinds.Weight len) (most format kinds.Weight) bytes
 
+-- the bytes of updates of weights
 unfoldable pub weights_bytes : ℕ → List Kept → List ℕ
 weights_bytes format objects = counted_bytes (object_bytes format) objects

@@ -13,6 +13,7 @@ pub record IsWritable (format : ℕ) (o : Kept) : Type 0 where
   pub fields : HasGoodFieldsIn format o.body
   pub short : length o.signature < 65536
 
+-- a report that is written, as a value
 abbrev pub out_report : OutSlot → Report
 out_report s = record {
   flow = s.flow;
@@ -24,10 +25,12 @@ out_report s = record {
   rels = map (λ o. o.now) s.rels;
 }
 
+-- what a slot carries can be written under this format
 pub record IsWritableSlot (format : ℕ) (s : OutSlot) : Type 0 where
   pub ack : IfSome s.ack (λ o. IsWritable format o.now)
   pub rels : All (λ o. IsWritable format o.now) s.rels
 
+-- sections that are written, as a value
 abbrev pub out_contents : OutSections → Contents
 out_contents s = record {
   document = None;
@@ -40,6 +43,7 @@ out_contents s = record {
   epoch = option_map (λ o. o.now) s.epoch;
 }
 
+-- all objects of the sections can be written under this format
 pub record AreWritable (format : ℕ) (s : OutSections) : Type 0 where
   pub weight : IfSome s.weight (λ o. IsWritable format o.now)
   pub prios : All (λ p. IsWritable format p.1.now) s.prios

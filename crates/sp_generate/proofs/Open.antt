@@ -32,7 +32,8 @@ three a b n t is =
 
 open_means : (s : Scenario) (d : ℕ × ℕ) → is_open s d ≡ true → IsOpen s d
 open_means s d is =
-    let one = and_parts (nat_le 1 d.0 && (nat_le d.0 s.graph.nodes && is_correct s d.0)) ((nat_le 1 d.1 && (nat_le d.1 s.graph.nodes && is_correct s d.1)) && are_joined s d.0 d.1) is in
+    let one = and_parts (nat_le 1 d.0 && (nat_le d.0 s.graph.nodes && is_correct s d.0))
+    ((nat_le 1 d.1 && (nat_le d.1 s.graph.nodes && is_correct s d.1)) && are_joined s d.0 d.1) is in
     let two = and_parts (nat_le 1 d.1 && (nat_le d.1 s.graph.nodes && is_correct s d.1)) (are_joined s d.0 d.1) one.1 in
     record { from = three 1 d.0 s.graph.nodes (is_correct s d.0) one.0; to = three 1 d.1 s.graph.nodes (is_correct s d.1) two.0; joined = two.1 }
 
@@ -73,7 +74,8 @@ made_more least before later (d ∷ ds) made =
     (rw (polls-append before later d.0 d.1) (omega (arith, All-head (λ (d : ℕ × ℕ). least ≤ polls before d.0 d.1) d ds made)))
     (made_more least before later ds (All-tail (λ (d : ℕ × ℕ). least ≤ polls before d.0 d.1) d ds made))
 
-frames_follow : (s : Scenario) (least : ℕ) (before : List Event) (ds : List (ℕ × ℕ)) → s.epochs ≡ false → least + 1 < 2 ^ 64 → All (IsOpen s) ds → HaveMade least before ds
+frames_follow : (s : Scenario) (least : ℕ) (before : List Event) (ds : List (ℕ × ℕ)) → s.epochs ≡ false → least + 1 < 2 ^ 64 → All (IsOpen s) ds
+    → HaveMade least before ds
     → Follow s before (flat_map (frame (least + 1)) ds)
 frames_follow s least before [] off small opened made = tt
 frames_follow s least before (d ∷ ds) off small opened made =
@@ -81,7 +83,8 @@ frames_follow s least before (d ∷ ds) off small opened made =
     let enough : least ≤ polls before d.0 d.1 = All-head (λ (d : ℕ × ℕ). least ≤ polls before d.0 d.1) d ds made in
     let poll = events.Poll (node d.0) (node d.1) in
     let pass = events.Pass (node d.0) (node d.1) (least + 1) in
-    let later = made_more least (before ++ poll ∷ []) (pass ∷ []) ds (made_more least before (poll ∷ []) ds (All-tail (λ (d : ℕ × ℕ). least ≤ polls before d.0 d.1) d ds made)) in (
+    let later = made_more least (before ++ poll ∷ []) (pass ∷ []) ds
+    (made_more least before (poll ∷ []) ds (All-tail (λ (d : ℕ × ℕ). least ≤ polls before d.0 d.1) d ds made)) in (
       poll_in_range s before d off here,
       (
         pass_in_range s before (least + 1) d here (omega arith) small (omega (arith, enough)),
@@ -91,7 +94,8 @@ frames_follow s least before (d ∷ ds) off small opened made =
 
 -- ---- cycles
 
-tick_free : (number turn u : ℕ) → turn < 2 ^ 64 → (1 ≤ u) × (u ≤ 8) × (is_correct (generated_scenario number) u ≡ true) → IsFree (generated_scenario number) (events.Tick (node u) turn)
+tick_free : (number turn u : ℕ) → turn < 2 ^ 64 → (1 ≤ u) × (u ≤ 8) × (is_correct (generated_scenario number) u ≡ true)
+    → IsFree (generated_scenario number) (events.Tick (node u) turn)
 unfolding generated_scenario
 tick_free number turn u small is before = record { values = (is.0, is.1, is.2, (omega arith, omega (arith, small), tt)); joined = refl; may = refl }
 
@@ -100,7 +104,8 @@ unfolding generated_scenario
 ticks_free number turn small =
     All-cons (IsFree (generated_scenario number)) (events.Tick (node 1) turn) (events.Tick (node 7) turn ∷ [])
     (tick_free number turn 1 small (leb-true 1 1 refl, leb-true 1 8 refl, refl))
-    (All-cons (IsFree (generated_scenario number)) (events.Tick (node 7) turn) [] (tick_free number turn 7 small (leb-true 1 7 refl, leb-true 7 8 refl, refl)) (All-nil (IsFree (generated_scenario number))))
+    (All-cons (IsFree (generated_scenario number)) (events.Tick (node 7) turn) [] (tick_free number turn 7 small (leb-true 1 7 refl, leb-true 7 8 refl, refl))
+    (All-nil (IsFree (generated_scenario number))))
 
 no_epochs : (number : ℕ) → (generated_scenario number).epochs ≡ false
 unfolding generated_scenario
@@ -110,22 +115,27 @@ one_cycle : (number least : ℕ) (before : List Event) → least + 1 < 2 ^ 64 �
     → Follow (generated_scenario number) before (cycle (least + 1))
 unfolding cycle
 one_cycle number least before small made =
-    follow_on (generated_scenario number) before (flat_map (frame (least + 1)) directions) (events.Tick (node 1) (least + 1) ∷ events.Tick (node 7) (least + 1) ∷ [])
+    follow_on (generated_scenario number) before (flat_map (frame (least + 1)) directions)
+    (events.Tick (node 1) (least + 1) ∷ events.Tick (node 7) (least + 1) ∷ [])
     (frames_follow (generated_scenario number) least before directions (no_epochs number) small (all_open number) made)
-    (follow_free (generated_scenario number) (before ++ flat_map (frame (least + 1)) directions) (events.Tick (node 1) (least + 1) ∷ events.Tick (node 7) (least + 1) ∷ []) (ticks_free number (least + 1) small))
+    (follow_free (generated_scenario number) (before ++ flat_map (frame (least + 1)) directions)
+    (events.Tick (node 1) (least + 1) ∷ events.Tick (node 7) (least + 1) ∷ []) (ticks_free number (least + 1) small))
 
 -- in a cycle each direction makes one frame
 makes_one : (turn : ℕ) → All (λ (d : ℕ × ℕ). polls (cycle turn) d.0 d.1 ≡ 1) directions
 unfolding cycle
-makes_one turn = all_mean (λ d. polls (cycle turn) d.0 d.1 == 1) (λ d. polls (cycle turn) d.0 d.1 ≡ 1) (λ d is. eqb-true (polls (cycle turn) d.0 d.1) 1 is) directions refl
+makes_one turn =
+    all_mean (λ d. polls (cycle turn) d.0 d.1 == 1) (λ d. polls (cycle turn) d.0 d.1 ≡ 1) (λ d is. eqb-true (polls (cycle turn) d.0 d.1) 1 is) directions refl
 
 one_more : (least : ℕ) (before made : List Event) (ds : List (ℕ × ℕ)) → HaveMade least before ds → All (λ (d : ℕ × ℕ). polls made d.0 d.1 ≡ 1) ds
     → HaveMade (least + 1) (before ++ made) ds
 one_more least before made [] enough one = All-nil (λ (d : ℕ × ℕ). least + 1 ≤ polls (before ++ made) d.0 d.1)
 one_more least before made (d ∷ ds) enough one =
     All-cons (λ (d : ℕ × ℕ). least + 1 ≤ polls (before ++ made) d.0 d.1) d ds
-    (rw (polls-append before made d.0 d.1, All-head (λ (d : ℕ × ℕ). polls made d.0 d.1 ≡ 1) d ds one) (omega (arith, All-head (λ (d : ℕ × ℕ). least ≤ polls before d.0 d.1) d ds enough)))
-    (one_more least before made ds (All-tail (λ (d : ℕ × ℕ). least ≤ polls before d.0 d.1) d ds enough) (All-tail (λ (d : ℕ × ℕ). polls made d.0 d.1 ≡ 1) d ds one))
+    (rw (polls-append before made d.0 d.1, All-head (λ (d : ℕ × ℕ). polls made d.0 d.1 ≡ 1) d ds one)
+    (omega (arith, All-head (λ (d : ℕ × ℕ). least ≤ polls before d.0 d.1) d ds enough)))
+    (one_more least before made ds (All-tail (λ (d : ℕ × ℕ). least ≤ polls before d.0 d.1) d ds enough)
+    (All-tail (λ (d : ℕ × ℕ). polls made d.0 d.1 ≡ 1) d ds one))
 
 pub cycles_follow : (number least count : ℕ) (before : List Event) → least + count < 1000 → HaveMade least before directions
     → Follow (generated_scenario number) before (flat_map cycle (range_with_len (least + 1) count))
@@ -133,7 +143,8 @@ cycles_follow number least zero before few made = tt
 cycles_follow number least (suc count) before few made =
     follow_on (generated_scenario number) before (cycle (least + 1)) (flat_map cycle (range_with_len (least + 1 + 1) count))
     (one_cycle number least before (omega (arith, few)) made)
-    (cycles_follow number (least + 1) count (before ++ cycle (least + 1)) (omega (arith, few)) (one_more least before (cycle (least + 1)) directions made (makes_one (least + 1))))
+    (cycles_follow number (least + 1) count (before ++ cycle (least + 1)) (omega (arith, few))
+    (one_more least before (cycle (least + 1)) directions made (makes_one (least + 1))))
 
 -- none is made at first
 pub none_made : (before : List Event) → HaveMade 0 before directions

@@ -17,7 +17,8 @@ use Rattle.sp_generate.proofs.Open.{cycles_follow, none_made}
 
 -- ---- how many
 
-length-turns : {X : Type 0} (f : ℕ → List X) (each : ℕ) → ((n : ℕ) → length (f n) ≡ each) → (first count : ℕ) → length (flat_map f (range_with_len first count)) ≡ count * each
+length-turns : {X : Type 0} (f : ℕ → List X) (each : ℕ) → ((n : ℕ) → length (f n) ≡ each) → (first count : ℕ)
+    → length (flat_map f (range_with_len first count)) ≡ count * each
 length-turns f each is first zero = omega arith
 length-turns f each is first (suc count) =
     length-append (f first) (flat_map f (range_with_len (first + 1) count))
@@ -40,7 +41,9 @@ have_their_length number =
     let cycled : length cycles ≡ 3900 = length-turns cycle 30 length-cycle 1 130 in
     let rest : length (cycles ++ takes) ≡ 3932 = length-append cycles takes ∙ ap (λ (n : ℕ). n + 32) cycled in
     length-append first (second ++ (hostile number ++ (cycles ++ takes)))
-    ∙ ap (λ (n : ℕ). 32 + n) (length-append second (hostile number ++ (cycles ++ takes)) ∙ ap (λ (n : ℕ). 8 + n) (length-append (hostile number) (cycles ++ takes) ∙ ap (λ (n : ℕ). 3 + n) rest))
+    ∙ ap (λ (n : ℕ). 32 + n)
+    (length-append second (hostile number ++ (cycles ++ takes))
+    ∙ ap (λ (n : ℕ). 8 + n) (length-append (hostile number) (cycles ++ takes) ∙ ap (λ (n : ℕ). 3 + n) rest))
 
 -- ---- events that may come anywhere
 
@@ -52,24 +55,53 @@ both_free : (number turn : ℕ) → All (IsFree (generated_scenario number)) (bo
 unfolding generated_scenario
 both_free number turn =
     All-cons (IsFree (generated_scenario number)) (events.Rel (node 1) (node 7) (payload number turn)) (events.Rel (node 7) (node 1) (payload number turn) ∷ [])
-    (λ before. record { values = (leb-true 1 1 refl, leb-true 1 8 refl, refl, (leb-true 1 7 refl, leb-true 7 8 refl, (payload_is number turn, tt))); joined = refl; may = refl })
+    (λ before. record {
+      values = (leb-true 1 1 refl, leb-true 1 8 refl, refl, (leb-true 1 7 refl, leb-true 7 8 refl, (payload_is number turn, tt)));
+      joined = refl;
+      may =
+          refl;
+    })
     (All-cons (IsFree (generated_scenario number)) (events.Rel (node 7) (node 1) (payload number turn)) []
-    (λ before. record { values = (leb-true 1 7 refl, leb-true 7 8 refl, refl, (leb-true 1 1 refl, leb-true 1 8 refl, (payload_is number turn, tt))); joined = refl; may = refl })
+    (λ before. record {
+      values = (leb-true 1 7 refl, leb-true 7 8 refl, refl, (leb-true 1 1 refl, leb-true 1 8 refl, (payload_is number turn, tt)));
+      joined = refl;
+      may =
+          refl;
+    })
     (All-nil (IsFree (generated_scenario number))))
 
 -- and by priority
 prio_free : (number turn : ℕ) → All (IsFree (generated_scenario number)) (by_priority number turn)
 unfolding generated_scenario
 prio_free number turn =
-    All-cons (IsFree (generated_scenario number)) (events.Prio (node 2) (node 6) 5 1000000 0 (payload number turn)) (events.Prio (node 1) (node 7) 3 1000000 2 (payload number turn) ∷ [])
+    All-cons (IsFree (generated_scenario number)) (events.Prio (node 2) (node 6) 5 1000000 0 (payload number turn))
+    (events.Prio (node 1) (node 7) 3 1000000 2 (payload number turn) ∷ [])
     (λ before. record {
-      values = (leb-true 1 2 refl, leb-true 2 8 refl, refl, (leb-true 1 6 refl, leb-true 6 8 refl, (leb-true 1 5 refl, leb-true 5 10 refl, (omega arith, omega arith, (omega arith, omega arith, (payload_is number turn, tt))))));
+      values = (
+        leb-true 1 2 refl,
+        leb-true 2 8 refl,
+        refl,
+        (
+          leb-true 1 6 refl,
+          leb-true 6 8 refl,
+          (leb-true 1 5 refl, leb-true 5 10 refl, (omega arith, omega arith, (omega arith, omega arith, (payload_is number turn, tt)))),
+        ),
+      );
       joined = refl;
       may = refl;
     })
     (All-cons (IsFree (generated_scenario number)) (events.Prio (node 1) (node 7) 3 1000000 2 (payload number turn)) []
     (λ before. record {
-      values = (leb-true 1 1 refl, leb-true 1 8 refl, refl, (leb-true 1 7 refl, leb-true 7 8 refl, (leb-true 1 3 refl, leb-true 3 10 refl, (omega arith, omega arith, (omega arith, omega arith, (payload_is number turn, tt))))));
+      values = (
+        leb-true 1 1 refl,
+        leb-true 1 8 refl,
+        refl,
+        (
+          leb-true 1 7 refl,
+          leb-true 7 8 refl,
+          (leb-true 1 3 refl, leb-true 3 10 refl, (omega arith, omega arith, (omega arith, omega arith, (payload_is number turn, tt)))),
+        ),
+      );
       joined = refl;
       may = refl;
     })
@@ -119,7 +151,11 @@ hostile_free number =
     })
     (All-cons (IsFree (generated_scenario number)) (events.Inject (node 8) (node 1) (255 ∷ 255 ∷ [])) []
     (λ before. record {
-      values = (leb-true 1 8 refl, leb-true 8 8 refl, (leb-true 1 1 refl, leb-true 1 8 refl, refl, ((leb-true 0 2 refl, leb-true 2 65507 refl, small (255 ∷ 255 ∷ []) refl), tt)));
+      values = (
+        leb-true 1 8 refl,
+        leb-true 8 8 refl,
+        (leb-true 1 1 refl, leb-true 1 8 refl, refl, ((leb-true 0 2 refl, leb-true 2 65507 refl, small (255 ∷ 255 ∷ []) refl), tt)),
+      );
       joined = refl;
       may = refl;
     })
@@ -147,7 +183,8 @@ turns_free : (number : ℕ) (f : ℕ → List Event) → ((turn : ℕ) → All (
     → All (IsFree (generated_scenario number)) (flat_map f (range_with_len first count))
 turns_free number f free first zero = All-nil (IsFree (generated_scenario number))
 turns_free number f free first (suc count) =
-    All-append (IsFree (generated_scenario number)) (f first) (flat_map f (range_with_len (first + 1) count)) (free first) (turns_free number f free (first + 1) count)
+    All-append (IsFree (generated_scenario number)) (f first) (flat_map f (range_with_len (first + 1) count)) (free first)
+    (turns_free number f free (first + 1) count)
 
 -- ---- all of them
 
@@ -162,8 +199,10 @@ all_follow number =
     let turning = cycles_follow number 0 130 ((first ++ second) ++ hostile number) (leb-true 131 1000 refl) (none_made ((first ++ second) ++ hostile number)) in
     let later = follow_on s ((first ++ second) ++ hostile number) cycles takes turning end in
     let bad = follow_on s (first ++ second) (hostile number) (cycles ++ takes) (follow_free s (first ++ second) (hostile number) (hostile_free number)) later in
-    let prio = follow_on s first second (hostile number ++ (cycles ++ takes)) (follow_free s first second (turns_free number (by_priority number) (prio_free number) 1 4)) bad in
-    follow_on s [] first (second ++ (hostile number ++ (cycles ++ takes))) (follow_free s [] first (turns_free number (both_ways number) (both_free number) 1 16)) prio
+    let prio = follow_on s first second (hostile number ++ (cycles ++ takes))
+    (follow_free s first second (turns_free number (by_priority number) (prio_free number) 1 4)) bad in
+    follow_on s [] first (second ++ (hostile number ++ (cycles ++ takes)))
+    (follow_free s [] first (turns_free number (both_ways number) (both_free number) 1 16)) prio
 
 pub are_schedules : GeneratedAreSchedules
 are_schedules number = record {

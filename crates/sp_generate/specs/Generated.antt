@@ -20,6 +20,7 @@ node u = record { 0 = u }
 abbrev pub edge : ℕ → ℕ → Edge
 edge a b = record { low = node a; high = node b; weight = 10 }
 
+-- the edges of the overlay
 abbrev pub edges : List Edge
 edges = edge 1 2 ∷ edge 1 5 ∷ edge 1 8 ∷ edge 2 3 ∷ edge 2 6 ∷ edge 3 4 ∷ edge 3 7 ∷ edge 4 5 ∷ edge 4 8 ∷ edge 5 6 ∷ edge 6 7 ∷ edge 7 8 ∷ []
 
@@ -27,6 +28,7 @@ edges = edge 1 2 ∷ edge 1 5 ∷ edge 1 8 ∷ edge 2 3 ∷ edge 2 6 ∷ edge 3 
 abbrev pub seed : ℕ → List ℕ
 seed number = replicate 28 0 ++ big_bytes 4 number
 
+-- the header of a number's schedule
 unfoldable pub generated_scenario : ℕ → Scenario
 generated_scenario number = record {
   format = FORMAT_1;
@@ -79,6 +81,7 @@ cycle turn = flat_map (frame turn) directions ++ (events.Tick (node 1) turn ∷ 
 abbrev pub takes : List Event
 takes = replicate 16 (events.Take (node 7) (node 1)) ++ replicate 16 (events.Take (node 1) (node 7))
 
+-- the events of a number's schedule
 unfoldable pub generated_events : ℕ → List Event
 generated_events number =
     flat_map (both_ways number) (range_with_len 1 16)

@@ -15,7 +15,8 @@ use Rattle.sp_graph.specs.Edges.{IsEdge, IsGraph, IsGraphIn, IsLower, IsNextEdge
 use Rattle.sp_graph.specs.Walks.{is_between}
 
 pub graph_begins : (format nodes : ℕ) → (2 ≤ nodes) × (nodes ≤ max_nodes format) → IsGraphIn format (record { nodes = nodes; edges = [] })
-graph_begins format nodes few = record { nodes = few; few = omega arith; edges = All-nil (IsEdge nodes); ascend = λ i j d less inside. absurd (omega (arith, inside)) }
+graph_begins format nodes few =
+    record { nodes = few; few = omega arith; edges = All-nil (IsEdge nodes); ascend = λ i j d less inside. absurd (omega (arith, inside)) }
 
 -- a graph of a format is in the ranges of all
 pub graph_of_any : (format : ℕ) (g : Graph) → IsGraphIn format g → IsGraph g
@@ -76,7 +77,8 @@ neither true true c d (inr e) two = absurd cc
 
 -- an edge that stands later joins other nodes
 not_between : (nodes : ℕ) (e f : Edge) → IsEdge nodes e → IsEdge nodes f → IsLower e f → is_between e.low e.high f ≡ false
-not_between nodes e f one two lower = neither (f.low.0 == e.low.0) (f.high.0 == e.high.0) (f.low.0 == e.high.0) (f.high.0 == e.low.0) (straight lower) (across lower)
+not_between nodes e f one two lower =
+    neither (f.low.0 == e.low.0) (f.high.0 == e.high.0) (f.low.0 == e.high.0) (f.high.0 == e.low.0) (straight lower) (across lower)
   where
     straight : IsLower e f → ((f.low.0 == e.low.0) ≡ false) ⊎ ((f.high.0 == e.high.0) ≡ false)
     straight (inl a) = inl (other f.low.0 e.low.0 (λ same. omega (arith, a, same)))
@@ -89,7 +91,8 @@ not_between nodes e f one two lower = neither (f.low.0 == e.low.0) (f.high.0 == 
 -- no two edges join the same nodes
 pub simple : (g : Graph) → IsGraph g → AllPairs (λ e f. is_between e.low e.high f ≡ false) g.edges
 simple g good i j d less inside =
-    not_between g.nodes (slice_index_or g.edges i d) (slice_index_or g.edges j d) (good.edges i d (omega (arith, less, inside))) (good.edges j d inside) (good.ascend i j d less inside)
+    not_between g.nodes (slice_index_or g.edges i d) (slice_index_or g.edges j d) (good.edges i d (omega (arith, less, inside))) (good.edges j d inside)
+    (good.ascend i j d less inside)
 
 -- the edge's ends are the two nodes, whichever comes first
 abbrev pub HasEnds : NodeId → NodeId → Edge → Type 0

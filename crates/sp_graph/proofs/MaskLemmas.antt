@@ -1,5 +1,6 @@
 -- A graph has one edge between two nodes, and the edges of the steps of a path make its mask.
-use Rattle.std.proofs.Common.{◌≡◌, ◌≢◌, ◌⊎◌, ℕ, zero, suc, max, ◌+◌, ◌-◌, ◌==◌, ◌||◌, ◌<◌, ◌≤◌, ◌^◌, inl, inr, cond, Bool, true, false, Option, Some, None, List, [], ◌∷◌, length, drop, take, refl, sym, ap, subst, ◌∙◌, arith}
+use Rattle.std.proofs.Common.{◌≡◌, ◌≢◌, ◌⊎◌, ℕ, zero, suc, max, ◌+◌, ◌-◌, ◌==◌, ◌||◌, ◌<◌, ◌≤◌, ◌^◌, inl, inr, cond, Bool, true, false, Option, Some, None}
+use Rattle.std.proofs.Common.{List, [], ◌∷◌, length, drop, take, refl, sym, ap, subst, ◌∙◌, arith}
 use Rattle.std.specs.Prelude.{nat_lt, position, slice_get, slice_index_or}
 use Rattle.std.specs.Int.{bit_at}
 use Rattle.std.specs.Int.RustNames.{bit_or}
@@ -61,7 +62,8 @@ not_at : (u v : NodeId) (edges : List Edge) (place : ℕ) → ((x : Edge) → pl
     → joins_at u v (slice_get edges place) ≡ false
 not_at u v edges place apart = go (slice_get_cases edges place).1
   where
-    go : ((x : Edge) × (place < length edges) × (slice_get edges place ≡ Some x) × (slice_index_or edges place x ≡ x)) ⊎ ((length edges ≤ place) × (slice_get edges place ≡ None))
+    go : ((x : Edge) × (place < length edges) × (slice_get edges place ≡ Some x) × (slice_index_or edges place x ≡ x))
+        ⊎ ((length edges ≤ place) × (slice_get edges place ≡ None))
         → joins_at u v (slice_get edges place) ≡ false
     go (inl (x, within, got, read)) = ap (joins_at u v) got ∙ apart x within read
     go (inr (far, none)) = ap (joins_at u v) none
@@ -127,6 +129,7 @@ pub named_or : (a b edge : ℕ) → names_edge (bit_or a b) edge ≡ (names_edge
 named_or a b edge =
     ap (λ (n : ℕ). n == 1) (bit_at_or a b edge) ∙ either (bit_at a edge) (bit_at b edge) (bit_at-lt a edge) (bit_at-lt b edge)
 
+-- either of three is so, however they are grouped
 pub regroup : (a b c : Bool) → ((a || b) || c) ≡ (a || (b || c))
 regroup true b c = refl
 regroup false b c = refl

@@ -14,7 +14,8 @@ use Rattle.sp_graph.specs.declared.stage.Stage.TheVariants as stages
 use Rattle.sp_graph.specs.declared.refused.GraphRefused.{GraphRefused}
 use Rattle.sp_graph.specs.declared.refused.GraphRefused.TheVariants as refusals
 use Rattle.sp_graph.specs.Edges.{IsNextEdge}
-use Rattle.sp_graph.specs.Lines.{After_end, AreFields, Edge_line, End_line, In_range, IsField, No_form, No_number, Nodes_line, Out_of_range, Says, SaysEdge, SaysNodes, Version_line, edge_form, nodes_form}
+use Rattle.sp_graph.specs.Lines.{After_end, AreFields, Edge_line, End_line, In_range, IsField, No_form, No_number, Nodes_line, Out_of_range, Says, SaysEdge}
+use Rattle.sp_graph.specs.Lines.{SaysNodes, Version_line, edge_form, nodes_form}
 use Rattle.sp_graph.specs.Readings.{Bad_line, Good_line, No_end, No_words, OneReading, Reads, Whole, first_words}
 
 -- ---- fields
@@ -38,7 +39,8 @@ one_field (Out_of_range m is small out) (Out_of_range n is_n small_n out_n) = re
 same_value : {place : At} {low high : ℕ} {word : Word} {m n : ℕ} → IsField place low high word (Ok m) → IsField place low high word (Ok n) → m ≡ n
 same_value x y = let same = one_field x y in cc
 
-same_refusal : {place : At} {low high : ℕ} {word : Word} {r q : GraphRefused} → IsField place low high word (Err r) → IsField place low high word (Err q) → r ≡ q
+same_refusal : {place : At} {low high : ℕ} {word : Word} {r q : GraphRefused} → IsField place low high word (Err r) → IsField place low high word (Err q)
+    → r ≡ q
 same_refusal x y = let same = one_field x y in cc
 
 not_both : {place : At} {low high : ℕ} {word : Word} {n : ℕ} {r : GraphRefused} → IsField place low high word (Ok n) → IsField place low high word (Err r) → ⊥
@@ -150,7 +152,8 @@ same_reading {number = number} (No_end open_end) (Bad_line words rest r first sa
 same_reading {number = number} (No_end open_end) (Good_line words rest next first says reads) = absurd (nothing_first number words rest first)
 same_reading (No_words r some first) Whole = absurd (some refl)
 same_reading (No_words r some first) (No_end open_end) = absurd (some refl)
-same_reading (No_words r some first) (No_words q some_too first_too) = let same = sym first ∙ first_too in let refused : r ≡ q = cc in ap (λ (x : TextRefused). Err (refusals.Text x)) refused
+same_reading (No_words r some first) (No_words q some_too first_too) = let same = sym first ∙ first_too in let refused : r ≡ q = cc in
+    ap (λ (x : TextRefused). Err (refusals.Text x)) refused
 same_reading (No_words r some first) (Bad_line words rest q first_too says) = absurd (let same = sym first ∙ first_too in cc)
 same_reading (No_words r some first) (Good_line words rest next first_too says reads) = absurd (let same = sym first ∙ first_too in cc)
 same_reading {number = number} (Bad_line words rest r first says) Whole = absurd (nothing_first number words rest first)
@@ -179,7 +182,8 @@ same_reading {format} {stage} {number} {b = b} (Good_line words rest next first 
     let of_rest : rest_too ≡ rest = (same_words same).1 in
     let both = one_saying says (subst (λ (ws : List Word). Says format number ws stage (Ok other)) of_words says_too) in
     let of_next : other ≡ next = cc in
-    same_reading reads (subst (λ (s : Stage). Reads format s (number + 1) rest b) of_next (subst (λ (t : List ℕ). Reads format other (number + 1) t b) of_rest reads_too))
+    same_reading reads
+    (subst (λ (s : Stage). Reads format s (number + 1) rest b) of_next (subst (λ (t : List ℕ). Reads format other (number + 1) t b) of_rest reads_too))
 
 pub one_reading : OneReading
 one_reading text a b x y = same_reading x y

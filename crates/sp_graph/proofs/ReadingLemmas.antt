@@ -34,7 +34,8 @@ unless_memory Holds (Err (refusals.AfterEnd line)) h = h
 unless_memory Holds (Err refusals.Memory) h = tt
 
 -- a refusal that is handed on
-pub handed_on : {X : Type 0} (Holds : Result X GraphRefused → Type 0) (answer : Result X GraphRefused) (refused : GraphRefused) → IsErrAnd answer (λ e. e ≡ refused)
+pub handed_on : {X : Type 0} (Holds : Result X GraphRefused → Type 0) (answer : Result X GraphRefused) (refused : GraphRefused)
+    → IsErrAnd answer (λ e. e ≡ refused)
     → Holds (Err refused) → Holds answer
 handed_on Holds (Ok x) refused is h = absurd is
 handed_on Holds (Err e) refused is h = subst (λ (r : GraphRefused). Holds (Err r)) (sym is) h
@@ -49,7 +50,8 @@ pub bad_edge : (format : ℕ) → (g : Graph) (line : ℕ) (words : List Word) (
     → IsErrAnd answer (λ e. e ≡ refused)
     → words ≡ edge_form a b w → AreFields g.nodes line a b w (Err refused) → UnlessMemory (Says format line words (stages.Edges g)) answer
 bad_edge format g line words a b w answer refused is form fields =
-    unless_memory (Says format line words (stages.Edges g)) answer (handed_on (Says format line words (stages.Edges g)) answer refused is (Edge_line a b w form (inl fields)))
+    unless_memory (Says format line words (stages.Edges g)) answer
+    (handed_on (Says format line words (stages.Edges g)) answer refused is (Edge_line a b w form (inl fields)))
 
 -- ---- one line more
 
@@ -69,7 +71,8 @@ taken count old new line given takes =
     }
 
 -- the first line has these words
-line_first : (number : ℕ) (text rest : List ℕ) (line : LineText) (words : Result (List Word) TextRefused) → line_at number text ≡ Ok (line, rest) → words_at number line.bytes ≡ words
+line_first : (number : ℕ) (text rest : List ℕ) (line : LineText) (words : Result (List Word) TextRefused) → line_at number text ≡ Ok (line, rest)
+    → words_at number line.bytes ≡ words
     → first_words number text ≡ before_rest rest words
 unfolding first_words
 line_first number text rest line words first second = rw (first, second) refl
@@ -86,7 +89,8 @@ first_line count old new line words given takes are =
     line_first (count + 1) old.rest new.rest (text_of line) words (rw given at takes.2) (subst (λ (n : ℕ). words_at n line.bytes.now ≡ words) number are)
 
 -- after a good line the rest still says what the text does
-pub goes_on : (text : List ℕ) (stage next : Stage) (count : ℕ) (old new : Unread) (line : Line) (words : List Word) → GoesOn text stage count old.rest → old.given ≡ count
+pub goes_on : (text : List ℕ) (stage next : Stage) (count : ℕ) (old new : Unread) (line : Line) (words : List Word) → GoesOn text stage count old.rest
+    → old.given ≡ count
     → TakesNext old (Ok (Some line)) new → words_at line.number line.bytes.now ≡ Ok words
     → UnlessMemory (Says (format_of text) (count + 1) words stage) (Ok next) → GoesOn text next (count + 1) new.rest
 goes_on text stage next count old new line words so_far given takes are says =
@@ -95,31 +99,38 @@ goes_on text stage next count old new line words so_far given takes are says =
 -- ---- refusals
 
 -- a refusal of the text is handed on
-text_refused : (text : List ℕ) (answer : Result Graph GraphRefused) (refused : TextRefused) → IsReading text (Err (refusals.Text refused)) → IsErrAnd answer (λ e. e ≡ of_text refused)
+text_refused : (text : List ℕ) (answer : Result Graph GraphRefused) (refused : TextRefused) → IsReading text (Err (refusals.Text refused))
+    → IsErrAnd answer (λ e. e ≡ of_text refused)
     → UnlessMemory (IsReading text) answer
 text_refused text answer texts.Memory reading is = handed_on (UnlessMemory (IsReading text)) answer refusals.Memory is tt
 text_refused text answer (texts.LineLong place) reading is = handed_on (UnlessMemory (IsReading text)) answer (refusals.Text (texts.LineLong place)) is reading
 text_refused text answer (texts.Cut place) reading is = handed_on (UnlessMemory (IsReading text)) answer (refusals.Text (texts.Cut place)) is reading
 text_refused text answer (texts.BadWord place) reading is = handed_on (UnlessMemory (IsReading text)) answer (refusals.Text (texts.BadWord place)) is reading
-text_refused text answer (texts.BadNumber place) reading is = handed_on (UnlessMemory (IsReading text)) answer (refusals.Text (texts.BadNumber place)) is reading
+text_refused text answer (texts.BadNumber place) reading is =
+    handed_on (UnlessMemory (IsReading text)) answer (refusals.Text (texts.BadNumber place)) is reading
 text_refused text answer (texts.BadHex place) reading is = handed_on (UnlessMemory (IsReading text)) answer (refusals.Text (texts.BadHex place)) is reading
 
 -- no line is there
-pub line_refused : (text : List ℕ) (stage : Stage) (count : ℕ) (old new : Unread) (answer : Result Graph GraphRefused) (refused : TextRefused) → GoesOn text stage count old.rest → old.given ≡ count
+pub line_refused : (text : List ℕ) (stage : Stage) (count : ℕ) (old new : Unread) (answer : Result Graph GraphRefused) (refused : TextRefused)
+    → GoesOn text stage count old.rest → old.given ≡ count
     → TakesNext old (Err refused) new → IsErrAnd answer (λ e. e ≡ of_text refused) → UnlessMemory (IsReading text) answer
 line_refused text stage count old new answer refused so_far given takes is =
-    text_refused text answer refused (so_far (Err (refusals.Text refused)) (No_words refused takes.0 (no_line (count + 1) old.rest refused (rw given at takes.1)))) is
+    text_refused text answer refused
+    (so_far (Err (refusals.Text refused)) (No_words refused takes.0 (no_line (count + 1) old.rest refused (rw given at takes.1)))) is
 
 -- the line isn't words
-pub words_refused : {X : Type 0} (view : X → List Word) (text : List ℕ) (stage : Stage) (count : ℕ) (old new : Unread) (line : Line) (answer : Result Graph GraphRefused) (refused : TextRefused)
-    → GoesOn text stage count old.rest → old.given ≡ count → TakesNext old (Ok (Some line)) new → GivesInMemory view (Err refused) (words_at line.number line.bytes.now)
+pub words_refused : {X : Type 0} (view : X → List Word) (text : List ℕ) (stage : Stage) (count : ℕ) (old new : Unread) (line : Line)
+    (answer : Result Graph GraphRefused) (refused : TextRefused)
+    → GoesOn text stage count old.rest → old.given ≡ count → TakesNext old (Ok (Some line)) new
+    → GivesInMemory view (Err refused) (words_at line.number line.bytes.now)
     → IsErrAnd answer (λ e. e ≡ of_text refused) → UnlessMemory (IsReading text) answer
 words_refused view text stage count old new line answer refused so_far given takes gives is = go refused gives is
   where
     at_line : (r : TextRefused) → words_at line.number line.bytes.now ≡ Err r → IsReading text (Err (refusals.Text r))
     at_line r are = so_far (Err (refusals.Text r)) (No_words r takes.0 (first_line count old new line (Err r) given takes are))
 
-    go : (r : TextRefused) → GivesInMemory view (Err r) (words_at line.number line.bytes.now) → IsErrAnd answer (λ e. e ≡ of_text r) → UnlessMemory (IsReading text) answer
+    go : (r : TextRefused) → GivesInMemory view (Err r) (words_at line.number line.bytes.now) → IsErrAnd answer (λ e. e ≡ of_text r)
+        → UnlessMemory (IsReading text) answer
     go texts.Memory are so = handed_on (UnlessMemory (IsReading text)) answer refusals.Memory so tt
     go (texts.LineLong place) are so = text_refused text answer (texts.LineLong place) (at_line (texts.LineLong place) are) so
     go (texts.Cut place) are so = text_refused text answer (texts.Cut place) (at_line (texts.Cut place) are) so
@@ -128,7 +139,8 @@ words_refused view text stage count old new line answer refused so_far given tak
     go (texts.BadHex place) are so = text_refused text answer (texts.BadHex place) (at_line (texts.BadHex place) are) so
 
 -- the words say nothing that may stand there
-pub stage_refused : (text : List ℕ) (stage : Stage) (count : ℕ) (old new : Unread) (line : Line) (words : List Word) (answer : Result Graph GraphRefused) (refused : GraphRefused)
+pub stage_refused : (text : List ℕ) (stage : Stage) (count : ℕ) (old new : Unread) (line : Line) (words : List Word) (answer : Result Graph GraphRefused)
+    (refused : GraphRefused)
     → GoesOn text stage count old.rest → old.given ≡ count → TakesNext old (Ok (Some line)) new → words_at line.number line.bytes.now ≡ Ok words
     → UnlessMemory (Says (format_of text) (count + 1) words stage) (Err refused) → IsErrAnd answer (λ e. e ≡ refused) → UnlessMemory (IsReading text) answer
 stage_refused text stage count old new line words answer refused so_far given takes are says is = go refused says is
@@ -150,7 +162,8 @@ stage_refused text stage count old new line words answer refused so_far given ta
 
 -- the text is read to its end
 pub ends : (text : List ℕ) (stage : Stage) (count : ℕ) (rest : List ℕ) (answer : Result Graph GraphRefused) → GoesOn text stage count rest → rest ≡ []
-    → IfOk answer (λ g. stage ≡ stages.End g) → IfErr answer (λ refused. (refused ≡ refusals.NoEnd (count + 1)) × (IsEnd stage → ⊥)) → UnlessMemory (IsReading text) answer
+    → IfOk answer (λ g. stage ≡ stages.End g) → IfErr answer (λ refused. (refused ≡ refusals.NoEnd (count + 1)) × (IsEnd stage → ⊥))
+    → UnlessMemory (IsReading text) answer
 ends text stage count rest answer so_far none ok err = unless_memory (IsReading text) answer (so_far answer (rw none (at_end answer ok err)))
   where
     at_end : (a : Result Graph GraphRefused) → IfOk a (λ g. stage ≡ stages.End g)

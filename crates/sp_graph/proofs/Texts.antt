@@ -81,7 +81,8 @@ spelled_first : (number : ℕ) (text rest : List ℕ) (words : List Word) → fi
 unfolding first_words
 spelled_first number text rest words first = go (line_at number text) refl (λ i. first i)
   where
-    at_words : (line : LineText) (left : List ℕ) (read : Result (List Word) TextRefused) → line_at number text ≡ Ok (line, left) → words_at number line.bytes ≡ read
+    at_words : (line : LineText) (left : List ℕ) (read : Result (List Word) TextRefused) → line_at number text ≡ Ok (line, left)
+        → words_at number line.bytes ≡ read
         → before_rest left read ≡ Ok (words, rest) → text ≡ line_text words ++ rest
     at_words line left (Ok ws) split read is =
         let pairs : (ws, left) ≡ (words, rest) = cc in
@@ -92,7 +93,8 @@ spelled_first number text rest words first = go (line_at number text) refl (λ i
         begins.0.split ∙ rw (spelled.0, same_words, same_rest) (simp append_assoc)
     at_words line left (Err refused) split read is = absurd cc
 
-    go : (read : Result (LineText × List ℕ) TextRefused) → line_at number text ≡ read → (read >>= λ line. before_rest line.1 (words_at number line.0.bytes)) ≡ Ok (words, rest)
+    go : (read : Result (LineText × List ℕ) TextRefused) → line_at number text ≡ read
+        → (read >>= λ line. before_rest line.1 (words_at number line.0.bytes)) ≡ Ok (words, rest)
         → text ≡ line_text words ++ rest
     go (Ok line) is all = at_words line.0 line.1 (words_at number line.0.bytes) is refl all
     go (Err refused) is all = absurd cc
@@ -102,7 +104,8 @@ says_graph : {format : ℕ} {stage : Stage} {number : ℕ} {text : List ℕ} {an
     → Reads format stage number text answer → answer ≡ Ok g → IsGood format stage
     → IsGraphIn format g × (flat_map line_text (lines_to format stage) ++ text ≡ graph_text format g)
 unfolding graph_text
-says_graph {format} g (Whole {g = h}) is good = let same : h ≡ g = cc in (subst (IsGraphIn format) same good, append-nil (flat_map line_text (graph_lines format h)) ∙ ap (graph_text format) same)
+says_graph {format} g (Whole {g = h}) is good = let same : h ≡ g = cc in
+    (subst (IsGraphIn format) same good, append-nil (flat_map line_text (graph_lines format h)) ∙ ap (graph_text format) same)
 says_graph g (No_end open_end) is good = absurd cc
 says_graph g (No_words r some first) is good = absurd cc
 says_graph g (Bad_line words rest r first says) is good = absurd cc
@@ -147,7 +150,13 @@ good_line : {format : ℕ} {stage next : Stage} {answer : Result Graph GraphRefu
 good_line {next = next} words rest good says reads number = Good_line words rest next (read_first number words rest good) (says number) (reads (number + 1))
 
 named : (word : Word) → list_all (λ b. nat_le 33 b && nat_le b 126) word ≡ true → 0 < length word → IsWord word
-named word test full = record { full = full; bytes = All-weaker (λ b. (nat_le 33 b && nat_le b 126) ≡ true) (λ b. (33 ≤ b) × (b ≤ 126)) within word (AllPass-from_list_all (λ b. nat_le 33 b && nat_le b 126) word test) }
+named word test full =
+    record {
+      full = full;
+      bytes =
+          All-weaker (λ b. (nat_le 33 b && nat_le b 126) ≡ true) (λ b. (33 ≤ b) × (b ≤ 126)) within word
+          (AllPass-from_list_all (λ b. nat_le 33 b && nat_le b 126) word test);
+    }
   where
     within : (b : ℕ) → (nat_le 33 b && nat_le b 126) ≡ true → (33 ≤ b) × (b ≤ 126)
     within b is = (grind (arith, nat_tests), grind (arith, nat_tests))
@@ -196,8 +205,16 @@ edge_good e low high weight =
     let w = decimal e.weight in
     record {
       some = omega arith;
-      each = four (codes "edge") a b w (named (codes "edge") refl (omega arith)) (clean_number e.low.0 low) (clean_number e.high.0 high) (clean_number e.weight weight);
-      short = omega (arith, length-append a (32 ∷ (b ++ 32 ∷ w)), length-append b (32 ∷ w), short_number e.low.0 low, short_number e.high.0 high, short_number e.weight weight);
+      each = four (codes "edge") a b w (named (codes "edge") refl (omega arith)) (clean_number e.low.0 low) (clean_number e.high.0 high)
+          (clean_number e.weight weight);
+      short = omega (
+        arith,
+        length-append a (32 ∷ (b ++ 32 ∷ w)),
+        length-append b (32 ∷ w),
+        short_number e.low.0 low,
+        short_number e.high.0 high,
+        short_number e.weight weight,
+      );
     }
 
 -- ---- the edges of a graph
@@ -240,8 +257,11 @@ pub next_of : (format : ℕ) → (g : Graph) (front back : List Edge) (e : Edge)
 next_of format g front back e good is =
     let inside : length front < length g.edges = omega (arith, ap length is, length-append front (e ∷ back)) in
     let at : slice_index_or g.edges (length front) e ≡ e = rw is (get_or_at front e back e (length front) refl) in
-    let edge : IsEdge g.nodes e = rw at at (good.edges (length front) e inside) in
-    (edge, record { ends = (edge.0, edge.1, edge.2); weight = edge.3; ascends = ascends_after format g front back e good is; few = omega (arith, inside, good.few) })
+    let edge : IsEdge g.nodes e = rw at at (good.edges (length front) e inside) in (
+      edge,
+      record
+          { ends = (edge.0, edge.1, edge.2); weight = edge.3; ascends = ascends_after format g front back e good is; few = omega (arith, inside, good.few) },
+    )
 
 -- the edges from one on lead to the graph
 edges_read : {format : ℕ} {answer : Result Graph GraphRefused} {rest : List ℕ} (g : Graph) (front back : List Edge) → IsGraphIn format g
@@ -266,15 +286,18 @@ unfolding graph_text
 reads_whole format g good =
     let edges = flat_map line_text (map edge_words g.edges) in
     let few : g.nodes ≤ 32 = omega (arith, good.nodes.1, few_nodes format) in
-    let end : (number : ℕ) → Reads format (stages.Edges g) number (line_text end_words ++ []) (Ok g) = good_line end_words [] end_good (λ n. End_line refl) (λ n. Whole) in
+    let end : (number : ℕ) → Reads format (stages.Edges g) number (line_text end_words ++ []) (Ok g) =
+    good_line end_words [] end_good (λ n. End_line refl) (λ n. Whole) in
     let none = with_edges g [] in
     let on : (number : ℕ) → Reads format (stages.Edges none) number (edges ++ (line_text end_words ++ [])) (Ok g) = edges_read g [] g.edges good refl end in
     let nodes : (number : ℕ) → Reads format stages.Version number (line_text (nodes_words g.nodes) ++ (edges ++ (line_text end_words ++ []))) (Ok g) =
     good_line (nodes_words g.nodes) (edges ++ (line_text end_words ++ [])) (nodes_good g.nodes (omega (arith, few)))
     (λ n. Nodes_line (decimal g.nodes) refl (g.nodes, in_range _ 2 (max_nodes format) g.nodes (omega (arith, few)) good.nodes.0 good.nodes.1, refl)) on in
-    let all = good_line (version_words format) (line_text (nodes_words g.nodes) ++ (edges ++ (line_text end_words ++ []))) (version_good format) (λ n. Version_line refl) nodes 1 in
+    let all = good_line (version_words format) (line_text (nodes_words g.nodes) ++ (edges ++ (line_text end_words ++ []))) (version_good format)
+    (λ n. Version_line refl) nodes 1 in
     let text : graph_text format g ≡ line_text (version_words format) ++ (line_text (nodes_words g.nodes) ++ (edges ++ (line_text end_words ++ []))) =
-    ap (λ (xs : List ℕ). line_text (version_words format) ++ (line_text (nodes_words g.nodes) ++ xs)) (flat_map-append line_text (map edge_words g.edges) (end_words ∷ [])) in
+    ap (λ (xs : List ℕ). line_text (version_words format) ++ (line_text (nodes_words g.nodes) ++ xs))
+    (flat_map-append line_text (map edge_words g.edges) (end_words ∷ [])) in
     rw text all
 
 pub texts_are_read : TextsAreRead

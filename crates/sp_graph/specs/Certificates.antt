@@ -20,15 +20,19 @@ through path = flat_map (λ step. parts.Out step.0 ∷ parts.In step.1 ∷ []) (
 abbrev pub uses : List (List NodeId) → Arc → Bool
 uses paths a = list_any (λ path. list_any (λ step. is_same step.0 a.from && is_same step.1 a.to) (steps (through path))) paths
 
+-- an arc the other way, at what it takes back
 abbrev pub turned : Arc → Arc
 turned a = record { from = a.to; to = a.from; cost = neg_ℤ a.cost }
 
+-- the arcs along which paths could still change: those that they use are turned
 abbrev pub residual : Graph → NodeId → NodeId → List (List NodeId) → List Arc
 residual g s t paths = map (λ a. cond (uses paths a) (turned a) a) (arcs_of g s t)
 
+-- what an arc costs beside what the potential rises along it
 abbrev pub reduced_cost : (Part → ℤ) → Arc → ℤ
 reduced_cost potential a = (a.cost +ℤ potential a.from) -ℤ potential a.to
 
+-- no arc along which the paths could change costs less than its potential rises
 abbrev pub IsOptimal : Graph → NodeId → NodeId → List (List NodeId) → (Part → ℤ) → Type 0
 IsOptimal g s t paths potential = All (λ a. pos 0 ≤ℤ reduced_cost potential a) (residual g s t paths)
 

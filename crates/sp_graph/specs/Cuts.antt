@@ -11,6 +11,7 @@ use Rattle.sp_graph.specs.Split.{arcs_of, is_same}
 abbrev pub is_among : List Part → Part → Bool
 is_among cut part = list_any (is_same part) cut
 
+-- a set of parts that holds the source's exit and not the destination's entry
 pub record IsCut (s t : NodeId) (cut : Part → Bool) : Type 0 where
   pub source : cut (parts.Out s) ≡ true
   pub destination : cut (parts.In t) ≡ false

@@ -17,6 +17,7 @@ IsAmong nodes e = (1 ≤ e.low.0) × (e.low.0 ≤ nodes) × (1 ≤ e.high.0) × 
 abbrev pub IsLower : Edge → Edge → Type 0
 IsLower f e = (f.low.0 < e.low.0) ⊎ ((f.low.0 ≡ e.low.0) × (f.high.0 < e.high.0))
 
+-- the last of some edges
 abbrev pub last_edge : List Edge → Option Edge
 last_edge edges = slice_get edges (length edges - 1)
 

@@ -30,6 +30,7 @@ use Rattle.sp_graph.specs.Spelling.{end_words, version_words}
 abbrev pub nodes_form : Word → List Word
 nodes_form n = codes "nodes" ∷ n ∷ []
 
+-- the words of an edge's line
 abbrev pub edge_form : Word → Word → Word → List Word
 edge_form a b w = codes "edge" ∷ a ∷ b ∷ w ∷ []
 
@@ -56,9 +57,11 @@ pub data IsField (place : At) (low high : ℕ) (word : Word) : Result ℕ GraphR
 abbrev pub place_1 : ℕ → ℕ → At
 place_1 line name = record { line = line; column = name + 2 }
 
+-- where the word after the first value of a line stands
 abbrev pub place_2 : ℕ → ℕ → Word → At
 place_2 line name a = record { line = line; column = column_after (name + 2) a }
 
+-- where the word after the second value of a line stands
 abbrev pub place_3 : ℕ → ℕ → Word → Word → At
 place_3 line name a b = record { line = line; column = column_after (column_after (name + 2) a) b }
 

@@ -15,12 +15,15 @@ use Rattle.sp_graph.specs.declared.graph.Graph.{Graph}
 abbrev pub version_words : (format : ℕ) → List Word
 version_words format = codes "graph" ∷ by_format format (codes "1") (codes "2") ∷ []
 
+-- the line that tells how many nodes there are
 abbrev pub nodes_words : ℕ → List Word
 nodes_words nodes = codes "nodes" ∷ decimal nodes ∷ []
 
+-- the line of an edge
 abbrev pub edge_words : Edge → List Word
 edge_words e = codes "edge" ∷ decimal e.low.0 ∷ decimal e.high.0 ∷ decimal e.weight ∷ []
 
+-- the line that ends a graph
 abbrev pub end_words : List Word
 end_words = codes "end" ∷ []
 
@@ -28,8 +31,10 @@ end_words = codes "end" ∷ []
 abbrev pub line_text : List Word → List ℕ
 line_text words = join_with_byte 32 words ++ 10 ∷ []
 
+-- the lines of a graph
 abbrev pub graph_lines : (format : ℕ) → Graph → List (List Word)
 graph_lines format g = version_words format ∷ nodes_words g.nodes ∷ (map edge_words g.edges ++ end_words ∷ [])
 
+-- the text of a graph
 unfoldable pub graph_text : (format : ℕ) → Graph → List ℕ
 graph_text format g = flat_map line_text (graph_lines format g)

@@ -33,6 +33,7 @@ edge_arc u v weight = record { from = parts.Out u; to = parts.In v; cost = pos w
 abbrev pub edge_arcs : Edge → List Arc
 edge_arcs e = edge_arc e.low e.high e.weight ∷ edge_arc e.high e.low e.weight ∷ []
 
+-- whether two parts are the same
 abbrev pub is_same : Part → Part → Bool
 is_same (parts.In u) (parts.In v) = u.0 == v.0
 is_same (parts.In u) (parts.Out v) = false

@@ -18,7 +18,8 @@ pub fn read(alloc: Global, text: &[u8]) -> Result<Graph, GraphRefused>
     requires { length text.now ≤ MAX_INPUT_BYTES }
     ensures reading { UnlessMemory (IsReading text.now) result }
     ensures graph { IfOk result (λ graph. IsGraphIn (format_of text.now) graph × (text.now ≡ graph_text (format_of text.now) graph)) }
-    ensures none { IfErr result (λ refused. refused ≢ GraphRefused.Memory → (g : Graph) → IsGraphIn (format_of text.now) g → text.now ≢ graph_text (format_of text.now) g) }
+    ensures none { IfErr result (λ refused. refused ≢ GraphRefused.Memory
+        → (g : Graph) → IsGraphIn (format_of text.now) g → text.now ≢ graph_text (format_of text.now) g) }
 {
     let read = read_lines(alloc, text, format_of(text));
     read

@@ -29,7 +29,8 @@ differences_more xs ys i difference lx ly before =
           take_more_same xs ys i 0 lx ly (before.0 early) (xor_none x y here),
       λ same.
           let front : take i xs ≡ take i ys = sym (take-take i (i + 1) xs (omega arith)) ∙ ap (take i) same ∙ take-take i (i + 1) ys (omega arith) in
-          let equal : x ≡ y = sym (get_or-take (i + 1) xs i 0 (omega arith)) ∙ ap (λ (zs : List ℕ). get_or zs i 0) same ∙ get_or-take (i + 1) ys i 0 (omega arith) in
+          let equal : x ≡ y =
+          sym (get_or-take (i + 1) xs i 0 (omega arith)) ∙ ap (λ (zs : List ℕ). get_or zs i 0) same ∙ get_or-take (i + 1) ys i 0 (omega arith) in
           rw (before.1 front, equal, xor_self y) refl,
     )
 

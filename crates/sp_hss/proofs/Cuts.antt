@@ -30,14 +30,17 @@ pub record IsCutAt (place : ℕ) (upper lower_key lower signature : List ℕ) : 
   pub lower_key_is : lower_key ≡ take 56 (drop place signature)
   pub lower_is : lower ≡ drop (place + 56) signature
 
-pub cut_at : (upper lower_key lower : List ℕ) (place : ℕ) → length upper ≡ place → length lower_key ≡ 56 → IsCutAt place upper lower_key lower (upper ++ lower_key ++ lower)
+pub cut_at : (upper lower_key lower : List ℕ) (place : ℕ) → length upper ≡ place → length lower_key ≡ 56
+    → IsCutAt place upper lower_key lower (upper ++ lower_key ++ lower)
 cut_at upper lower_key lower place first second =
     let whole : upper ++ lower_key ++ lower ≡ upper ++ (lower_key ++ lower) = append_assoc upper lower_key lower in
     let both : length (upper ++ lower_key) ≡ place + 56 = omega (arith, length-append upper lower_key) in
     record {
       long = omega (arith, length-append (upper ++ lower_key) lower, both);
       upper_is = sym (ap (take place) whole ∙ take_at upper (lower_key ++ lower) place first);
-      lower_key_is = sym (ap (λ (xs : List ℕ). take 56 (drop place xs)) whole ∙ ap (take 56) (drop_at upper (lower_key ++ lower) place first) ∙ take_at lower_key lower 56 second);
+      lower_key_is =
+          sym (ap (λ (xs : List ℕ). take 56 (drop place xs)) whole ∙ ap (take 56) (drop_at upper (lower_key ++ lower) place first)
+          ∙ take_at lower_key lower 56 second);
       lower_is = sym (drop_at (upper ++ lower_key) lower (place + 56) both);
     }
 
@@ -79,6 +82,7 @@ both_long public message signature valid = elim valid [
   | inr two ↦
       let signed = two.signed.3 in
       let long : length (drop 4 signature) ≡ length two.signed.0 + length two.signed.1 + length two.signed.2 =
-      ap length signed.parts ∙ length-append (two.signed.0 ++ two.signed.1) two.signed.2 ∙ ap (λ (n : ℕ). n + length two.signed.2) (length-append two.signed.0 two.signed.1) in
+      ap length signed.parts ∙ length-append (two.signed.0 ++ two.signed.1) two.signed.2
+      ∙ ap (λ (n : ℕ). n + length two.signed.2) (length-append two.signed.0 two.signed.1) in
       (omega (arith, signed.upper_valid.2.length_is, length-drop 4 public), omega (arith, long, signed.lower_valid.2.length_is, length-drop 4 signature))
 ]

@@ -122,14 +122,16 @@ record By (lms : LmsParam) (w : OtsParam) (public message signature : List ℕ) 
   types : HasTypes lms w public
   valid : IsValidUnder lms w (id_of public) (root_of public) message signature
 
-by_decides : (lms : LmsParam) (w : OtsParam) (public message signature : List ℕ) → Decides (is_by lms w public message signature) (By lms w public message signature)
+by_decides : (lms : LmsParam) (w : OtsParam) (public message signature : List ℕ)
+    → Decides (is_by lms w public message signature) (By lms w public message signature)
 by_decides lms w public message signature =
     let both = Decides-and _ _ (types_decide lms w public) (under_decides lms w (id_of public) (root_of public) message signature) in
     (λ e. let p = both.0 e in record { types = p.0; valid = p.1 }, λ b. both.1 (b.types, b.valid))
 
 tree_decides : (public message signature : List ℕ) → Decides (is_by_tree public message signature) (tree.IsValid public message signature)
 tree_decides public message signature =
-    let some = some_decides (λ lms w. is_by lms w public message signature) (λ lms w. By lms w public message signature) (λ lms w. by_decides lms w public message signature) in (
+    let some = some_decides (λ lms w. is_by lms w public message signature) (λ lms w. By lms w public message signature)
+    (λ lms w. by_decides lms w public message signature) in (
       λ e. let s = some.0 e in (s.lms, s.one_time, s.holds.types, s.holds.valid),
       λ v. some.1 (record { lms = v.0; one_time = v.1; holds = record { types = v.2; valid = v.3 } }),
     )
@@ -140,7 +142,8 @@ record ByTwo (lms : LmsParam) (w : OtsParam) (upper_key message signature : List
   upper : By lms w upper_key (take 56 (drop (signature_len lms w) signature)) (take (signature_len lms w) signature)
   lower : tree.IsValid (take 56 (drop (signature_len lms w) signature)) message (drop (signature_len lms w + 56) signature)
 
-two_decides : (lms : LmsParam) (w : OtsParam) (upper_key message signature : List ℕ) → Decides (is_by_two lms w upper_key message signature) (ByTwo lms w upper_key message signature)
+two_decides : (lms : LmsParam) (w : OtsParam) (upper_key message signature : List ℕ)
+    → Decides (is_by_two lms w upper_key message signature) (ByTwo lms w upper_key message signature)
 two_decides lms w upper_key message signature =
     let place = signature_len lms w in
     let lower_key = take 56 (drop place signature) in
@@ -177,7 +180,8 @@ levels_decide upper_key message signature =
           holds = record {
             upper = record {
               types = own.2;
-              valid = subst (λ (key : List ℕ). IsValidUnder own.0 own.1 (id_of upper_key) (root_of upper_key) key (take (signature_len own.0 own.1) signature)) stand.lower_key_is
+              valid = subst (λ (key : List ℕ). IsValidUnder own.0 own.1 (id_of upper_key) (root_of upper_key) key (take (signature_len own.0 own.1) signature))
+                  stand.lower_key_is
                   (subst (λ (u : List ℕ). IsValidUnder own.0 own.1 (id_of upper_key) (root_of upper_key) s.1 u) stand.upper_is own.3);
             };
             lower = subst (λ (key : List ℕ). tree.IsValid key message (drop (signature_len own.0 own.1 + 56) signature)) stand.lower_key_is
@@ -188,15 +192,19 @@ levels_decide upper_key message signature =
 -- ---- one or two levels
 
 one_decides : (public message signature : List ℕ)
-    → Decides ((number_of public == 1) && ((number_of signature == 0) && is_by_tree (drop 4 public) message (drop 4 signature))) (IsValidAtOneLevel public message signature)
+    → Decides ((number_of public == 1) && ((number_of signature == 0) && is_by_tree (drop 4 public) message (drop 4 signature)))
+    (IsValidAtOneLevel public message signature)
 one_decides public message signature =
-    let all = Decides-and _ _ (Decides-eqb (number_of public) 1) (Decides-and _ _ (Decides-eqb (number_of signature) 0) (tree_decides (drop 4 public) message (drop 4 signature))) in
+    let all = Decides-and _ _ (Decides-eqb (number_of public) 1)
+    (Decides-and _ _ (Decides-eqb (number_of signature) 0) (tree_decides (drop 4 public) message (drop 4 signature))) in
     (λ e. let p = all.0 e in record { levels = p.0; levels_below = p.1.0; signed = p.1.1 }, λ v. all.1 (v.levels, (v.levels_below, v.signed)))
 
 second_decides : (public message signature : List ℕ)
-    → Decides ((number_of public == 2) && ((number_of signature == 1) && is_by_levels (drop 4 public) message (drop 4 signature))) (IsValidAtTwoLevels public message signature)
+    → Decides ((number_of public == 2) && ((number_of signature == 1) && is_by_levels (drop 4 public) message (drop 4 signature)))
+    (IsValidAtTwoLevels public message signature)
 second_decides public message signature =
-    let all = Decides-and _ _ (Decides-eqb (number_of public) 2) (Decides-and _ _ (Decides-eqb (number_of signature) 1) (levels_decide (drop 4 public) message (drop 4 signature))) in
+    let all = Decides-and _ _ (Decides-eqb (number_of public) 2)
+    (Decides-and _ _ (Decides-eqb (number_of signature) 1) (levels_decide (drop 4 public) message (drop 4 signature))) in
     (λ e. let p = all.0 e in record { levels = p.0; levels_below = p.1.0; signed = p.1.1 }, λ v. all.1 (v.levels, (v.levels_below, v.signed)))
 
 pub decided : ValidIsDecided

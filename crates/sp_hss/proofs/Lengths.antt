@@ -16,8 +16,10 @@ use Rattle.sp_hss.specs.KeyTree.{tree_id, tree_seed, tree_key, tree_signature, f
 use Rattle.sp_hss.proofs.Validity.{length-tree_id}
 
 length-tree_key : (h : LmsParam) (seed : List ℕ) (tree : Tree) → length (tree_key h seed tree) ≡ 56
-length-tree_key h seed tree = (lms.seed_signatures_are_valid h W4 (tree_id seed tree) (tree_seed seed tree) [] 0 (length-tree_id seed tree) (pow_pos (height h))).2.length_is
+length-tree_key h seed tree =
+    (lms.seed_signatures_are_valid h W4 (tree_id seed tree) (tree_seed seed tree) [] 0 (length-tree_id seed tree) (pow_pos (height h))).2.length_is
 
+-- the front of each signature under a key of this height has the length `front_len`
 pub length-front_of : (h : LmsParam) (seed : List ℕ) (t : ℕ) → length (front_of h seed t) ≡ front_len h
 unfolding front_of
 length-front_of h seed t =

@@ -54,8 +54,11 @@ seed_signatures_are_valid h seed message index within =
         lower,
         record {
           parts = ap (drop 4) behind ∙ parts.1;
-          upper_valid = rw key.1 (lms.seed_signatures_are_valid h W4 (tree_id seed Upper) (tree_seed seed Upper) lower_key t (length-tree_id seed Upper) tree_is);
-          lower_valid = lms.seed_signatures_are_valid h W4 (tree_id seed (Lower t)) (tree_seed seed (Lower t)) message (index % n) (length-tree_id seed (Lower t)) leaf_is;
+          upper_valid =
+              rw key.1 (lms.seed_signatures_are_valid h W4 (tree_id seed Upper) (tree_seed seed Upper) lower_key t (length-tree_id seed Upper) tree_is);
+          lower_valid =
+              lms.seed_signatures_are_valid h W4 (tree_id seed (Lower t)) (tree_seed seed (Lower t)) message (index % n) (length-tree_id seed (Lower t))
+              leaf_is;
         },
       );
     }

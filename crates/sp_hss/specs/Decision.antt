@@ -16,6 +16,7 @@ use Rattle.sp_hss.specs.Validity.{number_of}
 abbrev pub all_trees : List LmsParam
 all_trees = H5 ∷ H10 ∷ H15 ∷ []
 
+-- the four parameter sets of one-time signatures
 abbrev pub all_one_time : List OtsParam
 all_one_time = W1 ∷ W2 ∷ W4 ∷ W8 ∷ []
 
@@ -23,6 +24,7 @@ all_one_time = W1 ∷ W2 ∷ W4 ∷ W8 ∷ []
 abbrev pub some_types : (LmsParam → OtsParam → Bool) → Bool
 some_types test = list_any (λ lms. list_any (test lms) all_one_time) all_trees
 
+-- whether two lists of bytes are the same
 abbrev pub same_bytes : List ℕ → List ℕ → Bool
 same_bytes xs ys = pointwise nat_eq xs ys
 
@@ -31,6 +33,7 @@ abbrev pub has_types : LmsParam → OtsParam → List ℕ → Bool
 has_types lms one_time public =
     (length public == 56) && ((str_to_u32 (slice_range public 0 4) == typecode lms) && (str_to_u32 (slice_range public 4 8) == ots.typecode one_time))
 
+-- whether one tree's signature is valid under these types, this id and this root
 abbrev pub is_valid_under : LmsParam → OtsParam → (id root message signature : List ℕ) → Bool
 is_valid_under lms one_time id root message signature =
     (length signature == signature_len lms one_time)
@@ -44,6 +47,7 @@ abbrev pub is_by : LmsParam → OtsParam → (public message signature : List �
 is_by lms one_time public message signature =
     has_types lms one_time public && is_valid_under lms one_time (id_of public) (root_of public) message signature
 
+-- whether a signature is one tree's of any types
 abbrev pub is_by_tree : (public message signature : List ℕ) → Bool
 is_by_tree public message signature = some_types (λ lms one_time. is_by lms one_time public message signature)
 
@@ -54,6 +58,7 @@ is_by_two lms one_time upper_key message signature =
     let lower_key = take 56 (drop place signature) in
     is_by lms one_time upper_key lower_key (take place signature) && is_by_tree lower_key message (drop (place + 56) signature)
 
+-- whether a signature is one of two levels of any types
 abbrev pub is_by_levels : (public message signature : List ℕ) → Bool
 is_by_levels public message signature = some_types (λ lms one_time. is_by_two lms one_time public message signature)
 

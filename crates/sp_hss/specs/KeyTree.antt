@@ -59,5 +59,6 @@ signature h seed index message =
 abbrev pub front_len : LmsParam → ℕ
 front_len h = 4 + lms.signature_len h W4 + 56
 
+-- how long each signature under a key of this height is
 abbrev pub signature_len : LmsParam → ℕ
 signature_len h = front_len h + lms.signature_len h W4

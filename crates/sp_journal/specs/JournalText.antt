@@ -37,14 +37,17 @@ abbrev pub entries_from : ℕ → List Entry → List ℕ
 entries_from number [] = []
 entries_from number (entry ∷ entries) = entry_text number entry ++ entries_from (number + 1) entries
 
+-- the first line of a journal
 abbrev pub version_words : List Word
 version_words = codes "journal" ∷ codes "1" ∷ []
 
+-- the lines of a journal, without its last
 abbrev pub journal_lines : List Entry → List ℕ
 journal_lines journal = line_text version_words ++ entries_from 1 journal
 
 -- ---- the summary
 
+-- whether a reply accepts a message
 abbrev pub is_accepted : Reply → Bool
 is_accepted (replies.Accepted seq) = true
 is_accepted _ = false
@@ -54,10 +57,12 @@ abbrev pub is_rel_body : Effect → Bool
 is_rel_body (effects.Signed body) = slice_index body 0 == 2
 is_rel_body _ = false
 
+-- whether the first effect is the signature of a reliable message
 abbrev pub starts_rel : List Effect → Bool
 starts_rel [] = false
 starts_rel (e ∷ es) = is_rel_body e
 
+-- whether a reply that accepts is one to a reliable message
 abbrev pub if_accepted : Bool → List Effect → Bool
 if_accepted true es = starts_rel es
 if_accepted false es = false
@@ -66,6 +71,7 @@ if_accepted false es = false
 unfoldable pub is_sent : Entry → Bool
 is_sent entry = if_accepted (is_accepted entry.reply) entry.effects
 
+-- whether a reply is a frame
 abbrev pub is_frame_reply : Reply → Bool
 is_frame_reply (replies.Frame number length digest) = true
 is_frame_reply _ = false
@@ -74,10 +80,12 @@ is_frame_reply _ = false
 unfoldable pub is_frame : Entry → Bool
 is_frame entry = is_frame_reply entry.reply
 
+-- whether an effect delivers a reliable message
 abbrev pub is_delivered : Effect → Bool
 is_delivered (effects.Delivered src seq payload) = true
 is_delivered _ = false
 
+-- whether an effect delivers a priority message
 abbrev pub is_delivered_prio : Effect → Bool
 is_delivered_prio (effects.DeliveredPrio src seq payload) = true
 is_delivered_prio _ = false
@@ -86,6 +94,7 @@ is_delivered_prio _ = false
 abbrev pub delivered_in : Entry → List Effect
 delivered_in entry = filter is_delivered entry.effects
 
+-- the priority messages that an entry delivers
 abbrev pub priority_in : Entry → List Effect
 priority_in entry = filter is_delivered_prio entry.effects
 
@@ -93,12 +102,15 @@ priority_in entry = filter is_delivered_prio entry.effects
 abbrev pub sent_count : List Entry → ℕ
 sent_count journal = length (filter is_sent journal)
 
+-- how many reliable messages were delivered
 abbrev pub delivered_count : List Entry → ℕ
 delivered_count journal = length (flat_map delivered_in journal)
 
+-- how many priority messages were delivered
 abbrev pub priority_count : List Entry → ℕ
 priority_count journal = length (flat_map priority_in journal)
 
+-- how many frames were made
 abbrev pub frame_count : List Entry → ℕ
 frame_count journal = length (filter is_frame journal)
 
@@ -108,6 +120,7 @@ summary_of events sent delivered priority frames =
     codes "summary" ∷ codes "events" ∷ decimal events ∷ codes "sent" ∷ decimal sent ∷ codes "delivered" ∷ decimal delivered
     ∷ codes "priority" ∷ decimal priority ∷ codes "frames" ∷ decimal frames ∷ []
 
+-- the last line of a journal
 abbrev pub summary_words : List Entry → List Word
 summary_words journal = summary_of (length journal) (sent_count journal) (delivered_count journal) (priority_count journal) (frame_count journal)
 

@@ -51,6 +51,7 @@ answer_word answers.BadSig = codes "badsig"
 answer_word answers.Bad = codes "bad"
 answer_word answers.Strange = codes "strange"
 
+-- the word of an object's answer
 abbrev pub item_word : ItemWord → Word
 item_word (items.Weight answer) = codes "weight:" ++ answer_word answer
 item_word (items.Prio answer) = codes "prio:" ++ answer_word answer
@@ -59,6 +60,7 @@ item_word (items.Rel answer) = codes "rel:" ++ answer_word answer
 item_word (items.Epoch answer) = codes "epoch:" ++ answer_word answer
 item_word (items.Document answer) = codes "document:" ++ answer_word answer
 
+-- the word of what is wrong with sections
 abbrev pub section_word : SectionWord → Word
 section_word sections.Cut = codes "cut"
 section_word sections.Count = codes "count"
@@ -80,6 +82,7 @@ link_name (links.Section why) = codes "section"
 link_name links.Withdrawn = codes "withdrawn"
 link_name links.Fresh = codes "fresh"
 
+-- the words behind the name of what a link says
 abbrev pub link_fields : LinkWord → List Word
 link_fields (links.Short need left) = decimal need ∷ decimal left ∷ []
 link_fields (links.Learned boot) = decimal boot ∷ []
@@ -112,6 +115,7 @@ reply_name replies.Down = codes "down"
 reply_name (replies.Adopted version) = codes "adopted"
 reply_name replies.DocumentOld = codes "document"
 
+-- the words behind the name of a reply
 abbrev pub reply_fields : Reply → List Word
 reply_fields (replies.Accepted seq) = decimal seq ∷ []
 reply_fields (replies.Full base have) = decimal base ∷ decimal have ∷ []
@@ -135,11 +139,13 @@ reply_fields replies.Down = []
 reply_fields (replies.Adopted version) = decimal version ∷ []
 reply_fields replies.DocumentOld = codes "old" ∷ []
 
+-- the words of a reply
 abbrev pub reply_words : Reply → List Word
 reply_words reply = reply_name reply ∷ reply_fields reply
 
 -- ---- effects
 
+-- the word of why an entry left
 abbrev pub why_word : Why → Word
 why_word whys.Evicted = codes "evicted"
 why_word whys.Expired = codes "expired"
@@ -158,5 +164,6 @@ effect_fields (effects.WeightHeld origin edge seq weight) = codes "weight" ∷ d
 effect_fields (effects.Ended flow) = codes "ended" ∷ decimal flow.src.0 ∷ decimal flow.dst.0 ∷ []
 effect_fields (effects.Version version) = codes "version" ∷ decimal version ∷ []
 
+-- the words of an effect
 abbrev pub effect_words : Effect → List Word
 effect_words effect = codes "+" ∷ effect_fields effect

@@ -104,7 +104,8 @@ found_fits test (x ∷ all) found is =
       | inr fails ↦ found_fits test all found (rw fails at is)
     ]
 
-form_read : (form : Form) (words : List Word) (e : Effect) → fits (cells form) words ≡ true → read_form form words ≡ Ok e → IsInRange e × (words ≡ effect_fields e)
+form_read : (form : Form) (words : List Word) (e : Effect) → fits (cells form) words ≡ true → read_form form words ≡ Ok e
+    → IsInRange e × (words ≡ effect_fields e)
 unfolding read_form
 form_read form words e fit read =
     let step = then_ok (row_at (cells form) words) (λ xs. Ok (effect_of form xs)) e read in
@@ -115,7 +116,8 @@ form_read form words e fit read =
     let all : IsInRange (effect_of form step.0) × (words ≡ effect_fields (effect_of form step.0)) = (of.ranges row.0, row.1 ∙ sym of.words) in
     subst (λ (f : Effect). IsInRange f × (words ≡ effect_fields f)) is all
 
-effect_read : (words : List Word) (e : Effect) (found : Option Form) → form_for words ≡ found → read_for found words ≡ Ok e → IsInRange e × (words ≡ effect_fields e)
+effect_read : (words : List Word) (e : Effect) (found : Option Form) → form_for words ≡ found → read_for found words ≡ Ok e
+    → IsInRange e × (words ≡ effect_fields e)
 effect_read words e None is read = absurd cc
 effect_read words e (Some form) is read = form_read form words e (found_fits (λ f. fits (cells f) words) forms.forms form is) read
 
@@ -123,7 +125,8 @@ effect_back_read : (e : Effect) → IsInRange e → read_effect (effect_fields e
 unfolding read_form
 effect_back_read e is =
     let row = row_back (cells (form_of e)) (values_of e) (good_row_room (cells (form_of e)) (good_form (form_of e))) is in
-    let at : row_at (cells (form_of e)) (effect_fields e) ≡ Ok (values_of e) = subst (λ (ws : List Word). row_at (cells (form_of e)) ws ≡ Ok (values_of e)) (row_words e) row in
+    let at : row_at (cells (form_of e)) (effect_fields e) ≡ Ok (values_of e) =
+    subst (λ (ws : List Word). row_at (cells (form_of e)) ws ≡ Ok (values_of e)) (row_words e) row in
     rw (form_again e) (rw at (rw (effect_back e) refl))
 
 pub effects_have_one_line : EffectsHaveOneLine

@@ -22,14 +22,16 @@ from_lines : (journal : List Entry) (rest : List ℕ) (stop : Stop Fault) → Is
 from_lines journal rest stop good on =
     let follows = journal_follows journal good in
     subst (λ (t : List ℕ). Leads says stages.Start 1 (t ++ rest) (stages.End journal) (1 + length (journal_of_lines journal)) stop) (journal_spelled journal)
-    (leads_on says (journal_of_lines journal) stages.Start (stages.End journal) follows.follows follows.good rest (stages.End journal) stop (1 + length (journal_of_lines journal)) 1 on)
+    (leads_on says (journal_of_lines journal) stages.Start (stages.End journal) follows.follows follows.good rest (stages.End journal) stop
+    (1 + length (journal_of_lines journal)) 1 on)
 
 pub good_journals_are_read : GoodJournalsAreRead
 good_journals_are_read journal good =
     let all = from_lines journal [] Nothing_left good At_end in
     record {
       line = 1 + length (journal_of_lines journal);
-      leads = subst (λ (t : List ℕ). Leads says stages.Start 1 t (stages.End journal) (1 + length (journal_of_lines journal)) Nothing_left) (append-nil (journal_text journal)) all;
+      leads = subst (λ (t : List ℕ). Leads says stages.Start 1 t (stages.End journal) (1 + length (journal_of_lines journal)) Nothing_left)
+          (append-nil (journal_text journal)) all;
     }
 
 late : (journal : List Entry) (stage : Stage) (stop : Stop Fault) → stages.End journal ≡ stage → Nothing_left ≡ stop → is_early stage stop ≡ true → ⊥
@@ -62,6 +64,7 @@ no_other_begins_there journal other rest others good good_other same =
     let after_other = stops_there says (stages.End other) faults.Form (λ words. refl) (1 + length (journal_of_lines other)) others in
     let first = from_lines journal rest after.stop good after.leads in
     let second = from_lines other others after_other.stop good_other after_other.leads in
-    let again = subst (λ (text : List ℕ). Leads says stages.Start 1 text (stages.End other) (1 + length (journal_of_lines other)) after_other.stop) (sym same) second in
+    let again = subst (λ (text : List ℕ). Leads says stages.Start 1 text (stages.End other) (1 + length (journal_of_lines other)) after_other.stop) (sym same)
+    second in
     let one : stages.End journal ≡ stages.End other = (one_lead says first again).stage in
     cc

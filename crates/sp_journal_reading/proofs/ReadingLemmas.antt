@@ -17,14 +17,21 @@ abbrev pub SoFar : List ℕ → Stage → ℕ → List ℕ → Type 0
 SoFar text stage count rest = GoesOn says stages.Start text stage count rest
 
 -- nothing is left
-pub ends_at_end : (text : List ℕ) (stage : Stage) (count : ℕ) (rest : List ℕ) (answer : Result (List Entry) JournalRefused) → SoFar text stage count rest → rest ≡ [] → answer ≡ ended stage (count + 1)
+pub ends_at_end : (text : List ℕ) (stage : Stage) (count : ℕ) (rest : List ℕ) (answer : Result (List Entry) JournalRefused) → SoFar text stage count rest
+    → rest ≡ [] → answer ≡ ended stage (count + 1)
     → IsRead text answer
 ends_at_end text (stages.End journal) count rest answer so_far none is =
     rw is (record { line = count + 1; leads = so_far (stages.End journal) (count + 1) Nothing_left (rw none At_end) })
 ends_at_end text stages.Start count rest answer so_far none is =
     rw is (record { stage = stages.Start; stop = Nothing_left; leads = so_far stages.Start (count + 1) Nothing_left (rw none At_end); early = refl })
 ends_at_end text (stages.Entries done last) count rest answer so_far none is =
-    rw is (record { stage = stages.Entries done last; stop = Nothing_left; leads = so_far (stages.Entries done last) (count + 1) Nothing_left (rw none At_end); early = refl })
+    rw is (record {
+      stage = stages.Entries done last;
+      stop = Nothing_left;
+      leads = so_far (stages.Entries done last) (count + 1) Nothing_left (rw none At_end);
+      early =
+          refl;
+    })
 
 -- no text ends at a line that stands there
 early_line : (stage : Stage) (refused : TextRefused) → is_early stage (No_words refused) ≡ true
@@ -47,14 +54,19 @@ at_line text stage count old refused so_far given line = record {
 }
 
 -- the next line isn't words
-pub ends_at_line : (text : List ℕ) (stage : Stage) (count : ℕ) (old : Unread) (refused : TextRefused) (answer : JournalRefused) → SoFar text stage count old.rest → old.given ≡ count
+pub ends_at_line : (text : List ℕ) (stage : Stage) (count : ℕ) (old : Unread) (refused : TextRefused) (answer : JournalRefused)
+    → SoFar text stage count old.rest → old.given ≡ count
     → NoLine old refused → answer ≡ no_words refused (count + 1) → IsRead text (Err answer)
 ends_at_line text stage count old texts.Memory answer so_far given takes is = rw is tt
-ends_at_line text stage count old (texts.LineLong place) answer so_far given takes is = rw is (at_line text stage count old (texts.LineLong place) so_far given takes)
+ends_at_line text stage count old (texts.LineLong place) answer so_far given takes is =
+    rw is (at_line text stage count old (texts.LineLong place) so_far given takes)
 ends_at_line text stage count old (texts.Cut place) answer so_far given takes is = rw is (at_line text stage count old (texts.Cut place) so_far given takes)
-ends_at_line text stage count old (texts.BadWord place) answer so_far given takes is = rw is (at_line text stage count old (texts.BadWord place) so_far given takes)
-ends_at_line text stage count old (texts.BadNumber place) answer so_far given takes is = rw is (at_line text stage count old (texts.BadNumber place) so_far given takes)
-ends_at_line text stage count old (texts.BadHex place) answer so_far given takes is = rw is (at_line text stage count old (texts.BadHex place) so_far given takes)
+ends_at_line text stage count old (texts.BadWord place) answer so_far given takes is =
+    rw is (at_line text stage count old (texts.BadWord place) so_far given takes)
+ends_at_line text stage count old (texts.BadNumber place) answer so_far given takes is =
+    rw is (at_line text stage count old (texts.BadNumber place) so_far given takes)
+ends_at_line text stage count old (texts.BadHex place) answer so_far given takes is =
+    rw is (at_line text stage count old (texts.BadHex place) so_far given takes)
 
 -- the next line may not stand there
 pub ends_at_words : (text : List ℕ) (stage : Stage) (fault : Fault) (count : ℕ) (old rest : List ℕ) (words : List Word) → SoFar text stage count old

@@ -19,7 +19,8 @@ use Rattle.sp_lines.proofs.WidthLemmas.{good_row_room}
 use Rattle.sp_lines.proofs.Words.{same_words}
 use Rattle.sp_journal_reading.specs.Laws.{EntriesHaveOneLine, RepliesHaveOneLine}
 use Rattle.sp_journal_reading.specs.ReplyTable as forms
-use Rattle.sp_journal_reading.specs.ReplyTable.{Form, IsGoodReply, IsItem, Of_items, Of_row, all_items, cells, form_for, item_among, item_at, items_at, or_form, read_for, read_form, read_fresh, read_reply, reply_of}
+use Rattle.sp_journal_reading.specs.ReplyTable.{Form, IsGoodReply, IsItem, Of_items, Of_row, all_items, cells, form_for, item_among, item_at, items_at, or_form}
+use Rattle.sp_journal_reading.specs.ReplyTable.{read_for, read_form, read_fresh, read_reply, reply_of}
 use Rattle.sp_journal.specs.Words.{item_word, reply_words}
 use Rattle.sp_journal_reading.specs.declared.item_words.TheConstants.{MAX_ITEMS}
 use Rattle.sp_journal.specs.declared.entry.ItemWord.{ItemWord}
@@ -111,7 +112,8 @@ good_form forms.Withdrawn = refl
 pub row_words : (form : Form) (xs : Values (cells form)) → reply_words (reply_of form xs) ≡ spelled (cells form) xs
 row_words form xs = (of_form form xs).words
 
-form_read : (form : Form) (words : List Word) (reply : Reply) → fits (cells form) words ≡ true → read_form form words ≡ Ok reply → IsGoodReply reply × (words ≡ reply_words reply)
+form_read : (form : Form) (words : List Word) (reply : Reply) → fits (cells form) words ≡ true → read_form form words ≡ Ok reply
+    → IsGoodReply reply × (words ≡ reply_words reply)
 unfolding read_form
 form_read form words reply fit read =
     let step = then_ok (row_at (cells form) words) (λ xs. Ok (reply_of form xs)) reply read in
@@ -120,7 +122,8 @@ form_read form words reply fit read =
     let is : reply_of form step.0 ≡ reply = let same_ok : Ok (reply_of form step.0) ≡ Ok reply = step.2 in cc in
     (Of_row form step.0 row.0 (sym is), row.1 ∙ sym (row_words form step.0) ∙ ap reply_words is)
 
-row_reply_read : (words : List Word) (reply : Reply) (found : Option Form) → form_for words ≡ found → read_for found words ≡ Ok reply → IsGoodReply reply × (words ≡ reply_words reply)
+row_reply_read : (words : List Word) (reply : Reply) (found : Option Form) → form_for words ≡ found → read_for found words ≡ Ok reply
+    → IsGoodReply reply × (words ≡ reply_words reply)
 row_reply_read words reply None is read = absurd cc
 row_reply_read words reply (Some form) is read = form_read form words reply (found_fits (λ f. fits (cells f) words) forms.forms form is) read
 
@@ -133,7 +136,8 @@ row_reply_back form xs are =
 
 -- ---- items
 
-item_found : (word : Word) (item : ItemWord) (found : Option ItemWord) → item_among all_items word ≡ found → or_form found ≡ Ok item → IsItem item × (word ≡ item_word item)
+item_found : (word : Word) (item : ItemWord) (found : Option ItemWord) → item_among all_items word ≡ found → or_form found ≡ Ok item
+    → IsItem item × (word ≡ item_word item)
 item_found word item None is read = absurd cc
 item_found word item (Some one) is read =
     let same_item : one ≡ item = let same_ok : Ok one ≡ Ok item = read in cc in
@@ -223,7 +227,8 @@ replies_have_one_line words reply = (λ read. reply_read words reply read, λ is
 
 -- ---- with the number
 
-entry_read : (words : List Word) (number : ℕ) (reply : Reply) → read_entry words ≡ Ok (number, reply) → ((1 ≤ number) × (number ≤ MAX_ENTRIES) × IsGoodReply reply) × (words ≡ decimal number ∷ reply_words reply)
+entry_read : (words : List Word) (number : ℕ) (reply : Reply) → read_entry words ≡ Ok (number, reply)
+    → ((1 ≤ number) × (number ≤ MAX_ENTRIES) × IsGoodReply reply) × (words ≡ decimal number ∷ reply_words reply)
 entry_read [] number reply read = absurd cc
 entry_read (word ∷ words) number reply read =
     let one = then_ok (number_at 1 MAX_ENTRIES word) (λ n. read_reply words >>= λ r. Ok (n, r)) (number, reply) read in
@@ -234,7 +239,8 @@ entry_read (word ∷ words) number reply read =
     subst (λ (p : ℕ × Reply). ((1 ≤ p.0) × (p.0 ≤ MAX_ENTRIES) × IsGoodReply p.1) × ((word ∷ words) ≡ decimal p.0 ∷ reply_words p.1)) pair
     ((first.1, first.2, more.0), cons_words word (decimal one.0) words (reply_words two.0) first.0 more.1)
 
-pub entry_back : (number : ℕ) (reply : Reply) → 1 ≤ number → number ≤ MAX_ENTRIES → IsGoodReply reply → read_entry (decimal number ∷ reply_words reply) ≡ Ok (number, reply)
+pub entry_back : (number : ℕ) (reply : Reply) → 1 ≤ number → number ≤ MAX_ENTRIES → IsGoodReply reply
+    → read_entry (decimal number ∷ reply_words reply) ≡ Ok (number, reply)
 entry_back number reply low high good =
     rw (number_at_back 1 MAX_ENTRIES number (omega arith) low high) (rw (reply_back reply good) refl)
 

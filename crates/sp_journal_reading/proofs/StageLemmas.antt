@@ -1,5 +1,6 @@
 -- The lines that lead to a stage: they are those of what was read.
-use Rattle.std.proofs.Common.{◌≡◌, ◌⊎◌, ◌≤◌, ◌+◌, ◌&&◌, ◌==◌, ℕ, Bool, true, false, List, [], ◌∷◌, ◌++◌, length, map, Option, Some, None, Ok, Err, inl, inr, refl, sym, ap, ◌∙◌, subst, arith, append_assoc, append-nil, length-append, if◌then◌else◌}
+use Rattle.std.proofs.Common.{◌≡◌, ◌⊎◌, ◌≤◌, ◌+◌, ◌&&◌, ◌==◌, ℕ, Bool, true, false, List, [], ◌∷◌, ◌++◌, length, map, Option, Some, None, Ok, Err, inl, inr}
+use Rattle.std.proofs.Common.{refl, sym, ap, ◌∙◌, subst, arith, append_assoc, append-nil, length-append, if◌then◌else◌}
 use Rattle.std.specs.Prelude.{All, codes}
 use Rattle.std.specs.Fmt.{decimal}
 use Rattle.std.proofs.lemmas.Bool.{and_parts}
@@ -18,7 +19,8 @@ use Rattle.sp_lines.proofs.Words.{same_words}
 use Rattle.sp_msg.specs.declared.effect.Effect.{Effect}
 use Rattle.sp_journal_reading.specs.EffectTable.{IsInRange, read_effect}
 use Rattle.sp_journal.specs.JournalText.{delivered_count, frame_count, priority_count, sent_count, summary_of, summary_words, version_words}
-use Rattle.sp_journal_reading.specs.Reading.{IsGoodEntry, IsJournal, after_all, are_counts, closed, effect_more, entry_more, says, summary_cells, summary_more, version_cells, with_effect}
+use Rattle.sp_journal_reading.specs.Reading.{IsGoodEntry, IsJournal, after_all, are_counts, closed, effect_more, entry_more, says, summary_cells, summary_more}
+use Rattle.sp_journal_reading.specs.Reading.{version_cells, with_effect}
 use Rattle.sp_journal_reading.specs.ReplyTable.{IsGoodReply, MAX_ENTRIES, read_entry}
 use Rattle.sp_journal.specs.Words.{effect_fields, effect_words, reply_words}
 use Rattle.sp_journal.specs.declared.entry.Entry.{Entry}
@@ -41,11 +43,13 @@ lines_from number (entry ∷ entries) = entry_lines number entry ++ lines_from (
 abbrev pub journal_of_lines : List Entry → List (List Word)
 journal_of_lines journal = version_words ∷ (lines_from 1 journal ++ summary_words journal ∷ [])
 
-pub lines_append : (number : ℕ) (front back : List Entry) → lines_from number (front ++ back) ≡ lines_from number front ++ lines_from (number + length front) back
+pub lines_append : (number : ℕ) (front back : List Entry)
+    → lines_from number (front ++ back) ≡ lines_from number front ++ lines_from (number + length front) back
 lines_append number [] back = let at : number ≡ number + length {A = Entry} [] = omega arith in ap (λ (n : ℕ). lines_from n back) at
 lines_append number (entry ∷ front) back =
     let count : (number + 1) + length front ≡ number + length (entry ∷ front) = omega arith in
-    ap (λ (xs : List (List Word)). entry_lines number entry ++ xs) (lines_append (number + 1) front back ∙ ap (λ (n : ℕ). lines_from (number + 1) front ++ lines_from n back) count)
+    ap (λ (xs : List (List Word)). entry_lines number entry ++ xs)
+    (lines_append (number + 1) front back ∙ ap (λ (n : ℕ). lines_from (number + 1) front ++ lines_from n back) count)
     ∙ sym (append_assoc (entry_lines number entry) (lines_from (number + 1) front) (lines_from (number + length (entry ∷ front)) back))
 
 -- the lines of one entry more
@@ -54,7 +58,8 @@ one_entry done entry =
     lines_append 1 done (entry ∷ []) ∙ ap (λ (xs : List (List Word)). lines_from 1 done ++ xs) (append-nil (entry_lines (1 + length done) entry))
 
 -- and of one effect more
-one_effect : (number : ℕ) (entry : Entry) (effect : Effect) → entry_lines number (with_effect entry effect) ≡ entry_lines number entry ++ effect_words effect ∷ []
+one_effect : (number : ℕ) (entry : Entry) (effect : Effect)
+    → entry_lines number (with_effect entry effect) ≡ entry_lines number entry ++ effect_words effect ∷ []
 one_effect number entry effect =
     ap (λ (xs : List (List Word)). (decimal number ∷ reply_words entry.reply) ∷ xs) (map-append effect_words entry.effects (effect ∷ []))
 
@@ -91,14 +96,16 @@ if_cases false a b c is = inr (refl, is)
 abbrev Leads_to : Stage → List Word → Stage → Type 0
 Leads_to stage words next = IsGood next × (lines_to next ≡ lines_to stage ++ words ∷ [])
 
-effect_said : (done : List Entry) (last : Option Entry) (effect : Effect) (words : List Word) (next : Stage) → IsSoFar done last → IsInRange effect → words ≡ effect_words effect
+effect_said : (done : List Entry) (last : Option Entry) (effect : Effect) (words : List Word) (next : Stage) → IsSoFar done last → IsInRange effect
+    → words ≡ effect_words effect
     → effect_more done last effect ≡ Ok next → Leads_to (stages.Entries done last) words next
 effect_said done None effect words next good range spelled is = absurd cc
 effect_said done (Some entry) effect words next good range word is =
     let to : stages.Entries done (Some (with_effect entry effect)) ≡ next = cc in
     let lines : lines_from 1 (done ++ with_effect entry effect ∷ []) ≡ lines_from 1 (done ++ entry ∷ []) ++ words ∷ [] =
     one_entry done (with_effect entry effect) ∙ ap (λ (xs : List (List Word)). lines_from 1 done ++ xs) (one_effect (1 + length done) entry effect)
-    ∙ sym (append_assoc (lines_from 1 done) (entry_lines (1 + length done) entry) (effect_words effect ∷ [])) ∙ ap (λ (xs : List (List Word)). xs ++ effect_words effect ∷ []) (sym (one_entry done entry))
+    ∙ sym (append_assoc (lines_from 1 done) (entry_lines (1 + length done) entry) (effect_words effect ∷ []))
+    ∙ ap (λ (xs : List (List Word)). xs ++ effect_words effect ∷ []) (sym (one_entry done entry))
     ∙ ap (λ (w : List Word). lines_from 1 (done ++ entry ∷ []) ++ w ∷ []) (sym word) in
     subst (Leads_to (stages.Entries done (Some entry)) words) to (
       record {
@@ -112,7 +119,8 @@ effect_said done (Some entry) effect words next good range word is =
       ap (λ (xs : List (List Word)). version_words ∷ xs) lines,
     )
 
-entry_said : (done : List Entry) (last : Option Entry) (pair : ℕ × Reply) (words : List Word) (next : Stage) → IsSoFar done last → pair.0 ≤ MAX_ENTRIES → IsGoodReply pair.1
+entry_said : (done : List Entry) (last : Option Entry) (pair : ℕ × Reply) (words : List Word) (next : Stage) → IsSoFar done last → pair.0 ≤ MAX_ENTRIES
+    → IsGoodReply pair.1
     → words ≡ decimal pair.0 ∷ reply_words pair.1 → entry_more (closed done last) pair ≡ Ok next → Leads_to (stages.Entries done last) words next
 entry_said done last pair words next good low reply word is =
     let entry : Entry = record { reply = pair.1; effects = [] } in
@@ -122,7 +130,8 @@ entry_said done last pair words next good low reply word is =
           let number : pair.0 ≡ 1 + length all = grind (arith, nat_tests, fit.0) in
           let to : stages.Entries all (Some entry) ≡ next = let same_ok : Ok (stages.Entries all (Some entry)) ≡ Ok next = fit.1 in cc in
           let lines : lines_from 1 (all ++ entry ∷ []) ≡ lines_from 1 all ++ words ∷ [] =
-          one_entry all entry ∙ ap (λ (n : ℕ). lines_from 1 all ++ (decimal n ∷ reply_words pair.1) ∷ []) (sym number) ∙ ap (λ (w : List Word). lines_from 1 all ++ w ∷ []) (sym word) in
+          one_entry all entry ∙ ap (λ (n : ℕ). lines_from 1 all ++ (decimal n ∷ reply_words pair.1) ∷ []) (sym number)
+          ∙ ap (λ (w : List Word). lines_from 1 all ++ w ∷ []) (sym word) in
           subst (Leads_to (stages.Entries done last) words) to (
             record {
               entries = good_closed done last good;
@@ -148,8 +157,11 @@ same_number {a} {b} is = grind (arith, nat_tests, is)
 
 counted : (journal : List Entry) (x : Values summary_cells) → are_counts journal x ≡ true → AreCounts journal x
 counted journal x are =
-    let one = and_parts (x.0 == length journal) ((x.1.0 == sent_count journal) && ((x.1.1.0 == delivered_count journal) && ((x.1.1.1.0 == priority_count journal) && (x.1.1.1.1.0 == frame_count journal)))) are in
-    let two = and_parts (x.1.0 == sent_count journal) ((x.1.1.0 == delivered_count journal) && ((x.1.1.1.0 == priority_count journal) && (x.1.1.1.1.0 == frame_count journal))) one.1 in
+    let one = and_parts (x.0 == length journal)
+    ((x.1.0 == sent_count journal)
+    && ((x.1.1.0 == delivered_count journal) && ((x.1.1.1.0 == priority_count journal) && (x.1.1.1.1.0 == frame_count journal)))) are in
+    let two = and_parts (x.1.0 == sent_count journal)
+    ((x.1.1.0 == delivered_count journal) && ((x.1.1.1.0 == priority_count journal) && (x.1.1.1.1.0 == frame_count journal))) one.1 in
     let three = and_parts (x.1.1.0 == delivered_count journal) ((x.1.1.1.0 == priority_count journal) && (x.1.1.1.1.0 == frame_count journal)) two.1 in
     let four = and_parts (x.1.1.1.0 == priority_count journal) (x.1.1.1.1.0 == frame_count journal) three.1 in
     record { events = same_number one.0; sent = same_number two.0; delivered = same_number three.0; priority = same_number four.0; frames = same_number four.1 }
@@ -157,7 +169,8 @@ counted journal x are =
 same_summary : {a b c d e v w x y z : ℕ} → a ≡ v → b ≡ w → c ≡ x → d ≡ y → e ≡ z → summary_of a b c d e ≡ summary_of v w x y z
 same_summary p q r s t = rw (p, q, r, s, t) refl
 
-summary_said : (done : List Entry) (last : Option Entry) (words : List Word) (next : Stage) → IsSoFar done last → summary_more (closed done last) words ≡ Ok next
+summary_said : (done : List Entry) (last : Option Entry) (words : List Word) (next : Stage) → IsSoFar done last
+    → summary_more (closed done last) words ≡ Ok next
     → Leads_to (stages.Entries done last) words next
 unfolding summary_more
 summary_said done last words next good is =
@@ -197,13 +210,16 @@ says_more (stages.Entries done last) (name ∷ words) next good is =
       | inl plus ↦ (
           let step = then_ok (read_effect words) (effect_more done last) next plus.1 in
           let read = (effects_have_one_line words step.0).0 step.1 in
-          effect_said done last step.0 (name ∷ words) next good read.0 (cons_words name (codes "+") words (effect_fields step.0) (same_words name (codes "+") plus.0) read.1) step.2
+          effect_said done last step.0 (name ∷ words) next good read.0
+          (cons_words name (codes "+") words (effect_fields step.0) (same_words name (codes "+") plus.0) read.1) step.2
           )
       | inr other ↦
-          elim (if_cases (same name (codes "summary")) (summary_more (closed done last) (codes "summary" ∷ words)) (read_entry (name ∷ words) >>= entry_more (closed done last)) (Ok next) other.1) [
+          elim (if_cases (same name (codes "summary")) (summary_more (closed done last) (codes "summary" ∷ words))
+          (read_entry (name ∷ words) >>= entry_more (closed done last)) (Ok next) other.1) [
             | inl summary ↦ (
                 let named = same_words name (codes "summary") summary.0 in
-                subst (λ (w : Word). Leads_to (stages.Entries done last) (w ∷ words) next) (sym named) (summary_said done last (codes "summary" ∷ words) next good summary.1)
+                subst (λ (w : Word). Leads_to (stages.Entries done last) (w ∷ words) next) (sym named)
+                (summary_said done last (codes "summary" ∷ words) next good summary.1)
                 )
             | inr entry ↦ (
                 let step = then_ok (read_entry (name ∷ words)) (entry_more (closed done last)) next entry.1 in
@@ -218,7 +234,8 @@ says_more (stages.Entries done last) (name ∷ words) next good is =
 says_more (stages.End journal) words next good is = absurd cc
 
 -- all lines that were read
-all_lines : (lines : List (List Word)) (stage last : Stage) → IsGood stage → follow_all says stage lines ≡ Ok last → (lines_to last ≡ lines_to stage ++ lines) × IsGood last
+all_lines : (lines : List (List Word)) (stage last : Stage) → IsGood stage → follow_all says stage lines ≡ Ok last
+    → (lines_to last ≡ lines_to stage ++ lines) × IsGood last
 all_lines [] stage last good is =
     let same_stage : stage ≡ last = cc in
     subst (λ (z : Stage). (lines_to z ≡ lines_to stage ++ []) × IsGood z) same_stage (sym (append-nil (lines_to stage)), good)
@@ -229,7 +246,8 @@ all_lines (words ∷ lines) stage last good is =
     (more.0 ∙ ap (λ (xs : List (List Word)). xs ++ lines) one.1 ∙ append_assoc (lines_to stage) (words ∷ []) lines, more.1)
 
 -- lines that lead from the start to the end of a journal are its lines, and it is good
-pub lines_of_end : (lines : List (List Word)) (journal : List Entry) → follow_all says stages.Start lines ≡ Ok (stages.End journal) → IsJournal journal × (lines ≡ journal_of_lines journal)
+pub lines_of_end : (lines : List (List Word)) (journal : List Entry) → follow_all says stages.Start lines ≡ Ok (stages.End journal)
+    → IsJournal journal × (lines ≡ journal_of_lines journal)
 lines_of_end lines journal is =
     let all = all_lines lines stages.Start (stages.End journal) tt is in
     (all.1, sym all.0)

@@ -1,5 +1,6 @@
 -- The lines of a good journal lead to its end, each good in its place.
-use Rattle.std.proofs.Common.{◌≡◌, ◌≤◌, ◌<◌, ◌+◌, ◌*◌, ◌^◌, ◌&&◌, ◌==◌, ℕ, Bool, true, false, List, [], ◌∷◌, ◌++◌, length, map, Option, Some, None, Ok, inl, inr, refl, sym, ap, ◌∙◌, subst, arith, append_assoc, append-nil, length-append}
+use Rattle.std.proofs.Common.{◌≡◌, ◌≤◌, ◌<◌, ◌+◌, ◌*◌, ◌^◌, ◌&&◌, ◌==◌, ℕ, Bool, true, false, List, [], ◌∷◌, ◌++◌, length, map, Option, Some, None, Ok, inl}
+use Rattle.std.proofs.Common.{inr, refl, sym, ap, ◌∙◌, subst, arith, append_assoc, append-nil, length-append}
 use Rattle.std.specs.Prelude.{All, codes, filter, nat_le}
 use Rattle.std.specs.Fmt.{decimal}
 use Rattle.std.specs.List.{list_all}
@@ -52,13 +53,15 @@ pub record Follows (stage : Stage) (lines : List (List Word)) (last : Stage) : T
 none : (stage : Stage) → Follows stage [] stage
 none stage = record { good = All-nil IsGoodLine; follows = refl }
 
-first : (words : List Word) (lines : List (List Word)) (stage mid last : Stage) → IsGoodLine words → says stage words ≡ Ok mid → Follows mid lines last → Follows stage (words ∷ lines) last
+first : (words : List Word) (lines : List (List Word)) (stage mid last : Stage) → IsGoodLine words → says stage words ≡ Ok mid → Follows mid lines last
+    → Follows stage (words ∷ lines) last
 first words lines stage mid last good is more = record {
   good = All-cons IsGoodLine words lines good more.good;
   follows = rw is more.follows;
 }
 
-follow_then : (front back : List (List Word)) (stage mid last : Stage) → follow_all says stage front ≡ Ok mid → follow_all says mid back ≡ Ok last → follow_all says stage (front ++ back) ≡ Ok last
+follow_then : (front back : List (List Word)) (stage mid last : Stage) → follow_all says stage front ≡ Ok mid → follow_all says mid back ≡ Ok last
+    → follow_all says stage (front ++ back) ≡ Ok last
 follow_then [] back stage mid last one two = let at : stage ≡ mid = cc in subst (λ (z : Stage). follow_all says z back ≡ Ok last) (sym at) two
 follow_then (words ∷ front) back stage mid last one two =
     let step = then_ok (says stage words) (λ next. follow_all says next front) mid one in
@@ -92,16 +95,19 @@ effect_line effect is =
     (good_row_line (Name (codes "+") ∷ effect_forms.cells (form_of effect)) (values_of effect) (good_plus (form_of effect)) is)
 
 effects_follow : (done : List Entry) (reply : Reply) (before effects : List Effect) → All IsInRange effects
-    → Follows (stages.Entries done (Some (record { reply = reply; effects = before }))) (map effect_words effects) (stages.Entries done (Some (record { reply = reply; effects = before ++ effects })))
+    → Follows (stages.Entries done (Some (record { reply = reply; effects = before }))) (map effect_words effects)
+    (stages.Entries done (Some (record { reply = reply; effects = before ++ effects })))
 effects_follow done reply before [] are =
-    subst (λ (es : List Effect). Follows (stages.Entries done (Some (record { reply = reply; effects = before }))) [] (stages.Entries done (Some (record { reply = reply; effects = es })))) (sym (append-nil before))
+    subst (λ (es : List Effect). Follows (stages.Entries done (Some (record { reply = reply; effects = before }))) []
+    (stages.Entries done (Some (record { reply = reply; effects = es })))) (sym (append-nil before))
     (none (stages.Entries done (Some (record { reply = reply; effects = before }))))
 effects_follow done reply before (effect ∷ effects) are =
     let range = All-head IsInRange effect effects are in
     let at : (es : List Effect) → Stage = λ es. stages.Entries done (Some (record { reply = reply; effects = es })) in
     let read = (effects_have_one_line (effect_fields effect) effect).1 (range, refl) in
     let more = effects_follow done reply (before ++ effect ∷ []) effects (All-tail IsInRange effect effects are) in
-    first (effect_words effect) (map effect_words effects) (at before) (at (before ++ effect ∷ [])) (at (before ++ effect ∷ effects)) (effect_line effect range) (rw read refl)
+    first (effect_words effect) (map effect_words effects) (at before) (at (before ++ effect ∷ [])) (at (before ++ effect ∷ effects)) (effect_line effect range)
+    (rw read refl)
     (subst (λ (es : List Effect). Follows (at (before ++ effect ∷ [])) (map effect_words effects) (at es)) (append_assoc before (effect ∷ []) effects) more)
 
 -- ---- the line of an entry
@@ -308,7 +314,8 @@ entry_line number reply low high (Of_items each are few is) =
 
 -- ---- entries
 
-entry_follows : (done : List Entry) (last : Option Entry) (number : ℕ) (entry : Entry) → number ≡ length (closed done last) + 1 → number ≤ MAX_ENTRIES → IsGoodEntry entry
+entry_follows : (done : List Entry) (last : Option Entry) (number : ℕ) (entry : Entry) → number ≡ length (closed done last) + 1 → number ≤ MAX_ENTRIES
+    → IsGoodEntry entry
     → Follows (stages.Entries done last) (entry_lines number entry) (stages.Entries (closed done last) (Some entry))
 entry_follows done last number entry next high good =
     let bare : Entry = record { reply = entry.reply; effects = [] } in
@@ -317,8 +324,10 @@ entry_follows done last number entry next high good =
     let summary = not_word (codes "summary") not_summary number (omega (arith, high)) in
     let read = entry_back number entry.reply low high good.reply in
     let count : (number == length (closed done last) + 1) ≡ true = grind (arith, nat_tests, next) in
-    let said : says (stages.Entries done last) (decimal number ∷ reply_words entry.reply) ≡ Ok (stages.Entries (closed done last) (Some bare)) = rw plus (rw summary (rw read (rw count refl))) in
-    first (decimal number ∷ reply_words entry.reply) (map effect_words entry.effects) (stages.Entries done last) (stages.Entries (closed done last) (Some bare)) (stages.Entries (closed done last) (Some entry))
+    let said : says (stages.Entries done last) (decimal number ∷ reply_words entry.reply) ≡ Ok (stages.Entries (closed done last) (Some bare)) =
+    rw plus (rw summary (rw read (rw count refl))) in
+    first (decimal number ∷ reply_words entry.reply) (map effect_words entry.effects) (stages.Entries done last) (stages.Entries (closed done last) (Some bare))
+    (stages.Entries (closed done last) (Some entry))
     (entry_line number entry.reply low high good.reply) said (effects_follow (closed done last) entry.reply [] entry.effects good.effects)
 
 -- entries after others
@@ -328,7 +337,8 @@ record Walked (done : List Entry) (last : Option Entry) (number : ℕ) (entries 
   follows : Follows (stages.Entries done last) (lines_from number entries) (stages.Entries front newest)
   all : closed front newest ≡ closed done last ++ entries
 
-entries_follow : (entries : List Entry) (done : List Entry) (last : Option Entry) (number : ℕ) → number ≡ length (closed done last) + 1 → length (closed done last) + length entries ≤ MAX_ENTRIES
+entries_follow : (entries : List Entry) (done : List Entry) (last : Option Entry) (number : ℕ) → number ≡ length (closed done last) + 1
+    → length (closed done last) + length entries ≤ MAX_ENTRIES
     → All IsGoodEntry entries → Walked done last number entries
 entries_follow [] done last number next high are =
     record { front = done; newest = last; follows = none (stages.Entries done last); all = sym (append-nil (closed done last)) }
@@ -336,11 +346,13 @@ entries_follow (entry ∷ entries) done last number next high are =
     let before = closed done last in
     let count : length (before ++ entry ∷ []) ≡ length before + 1 = omega (arith, length-append before (entry ∷ [])) in
     let one = entry_follows done last number entry next (omega (arith, next, high)) (All-head IsGoodEntry entry entries are) in
-    let more = entries_follow entries before (Some entry) (number + 1) (omega (arith, count, next)) (omega (arith, count, high)) (All-tail IsGoodEntry entry entries are) in
+    let more = entries_follow entries before (Some entry) (number + 1) (omega (arith, count, next)) (omega (arith, count, high))
+    (All-tail IsGoodEntry entry entries are) in
     record {
       front = more.front;
       newest = more.newest;
-      follows = both (entry_lines number entry) (lines_from (number + 1) entries) (stages.Entries done last) (stages.Entries before (Some entry)) (stages.Entries more.front more.newest) one more.follows;
+      follows = both (entry_lines number entry) (lines_from (number + 1) entries) (stages.Entries done last) (stages.Entries before (Some entry))
+          (stages.Entries more.front more.newest) one more.follows;
       all = more.all ∙ append_assoc before (entry ∷ []) entries;
     }
 
@@ -360,15 +372,23 @@ counts journal = (length journal, (sent_count journal, (delivered_count journal,
 counts_in : (journal : List Entry) → IsJournal journal → AreIn summary_cells (counts journal)
 counts_in journal is =
     let some = few_pass is_sent journal in
-    let made = few_pass is_frame journal in
-    (omega arith, omega (arith, is.few), (omega arith, omega (arith, is.few, some), (omega arith, omega (arith, is.delivered), (omega arith, omega (arith, is.priority), (omega arith, omega (arith, is.few, made), tt)))))
+    let made = few_pass is_frame journal in (
+      omega arith,
+      omega (arith, is.few),
+      (
+        omega arith,
+        omega (arith, is.few, some),
+        (omega arith, omega (arith, is.delivered), (omega arith, omega (arith, is.priority), (omega arith, omega (arith, is.few, made), tt))),
+      ),
+    )
 
 equal : (n : ℕ) → (n == n) ≡ true
 equal n = grind (arith, nat_tests)
 
 are_own : (journal : List Entry) → are_counts journal (counts journal) ≡ true
 are_own journal =
-    rw (equal (length journal)) (rw (equal (sent_count journal)) (rw (equal (delivered_count journal)) (rw (equal (priority_count journal)) (equal (frame_count journal)))))
+    rw (equal (length journal))
+    (rw (equal (sent_count journal)) (rw (equal (delivered_count journal)) (rw (equal (priority_count journal)) (equal (frame_count journal)))))
 
 summary_said : (journal : List Entry) → IsJournal journal → summary_more journal (summary_words journal) ≡ Ok (stages.End journal)
 unfolding summary_more
@@ -385,6 +405,9 @@ journal_follows journal is =
     let all : closed walked.front walked.newest ≡ journal = walked.all in
     let said : says (stages.Entries walked.front walked.newest) (summary_words journal) ≡ Ok (stages.End journal) =
     subst (λ (es : List Entry). summary_more es (summary_words journal) ≡ Ok (stages.End journal)) (sym all) (summary_said journal is) in
-    let end = first (summary_words journal) [] (stages.Entries walked.front walked.newest) (stages.End journal) (stages.End journal) (summary_line journal is) said (none (stages.End journal)) in
-    first version_words (lines_from 1 journal ++ summary_words journal ∷ []) stages.Start (stages.Entries [] None) (stages.End journal) (good_row_line version_cells tt refl tt) refl
-    (both (lines_from 1 journal) (summary_words journal ∷ []) (stages.Entries [] None) (stages.Entries walked.front walked.newest) (stages.End journal) walked.follows end)
+    let end = first (summary_words journal) [] (stages.Entries walked.front walked.newest) (stages.End journal) (stages.End journal) (summary_line journal is)
+    said (none (stages.End journal)) in
+    first version_words (lines_from 1 journal ++ summary_words journal ∷ []) stages.Start (stages.Entries [] None) (stages.End journal)
+    (good_row_line version_cells tt refl tt) refl
+    (both (lines_from 1 journal) (summary_words journal ∷ []) (stages.Entries [] None) (stages.Entries walked.front walked.newest) (stages.End journal)
+    walked.follows end)

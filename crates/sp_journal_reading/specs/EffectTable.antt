@@ -34,6 +34,7 @@ pub data Form : Type 0 where
 
 -- ---- places
 
+-- any number of 64 bits
 abbrev pub any_number : Cell
 any_number = Number 0 (2 ^ 64 - 1)
 
@@ -45,12 +46,15 @@ small_number = Number 0 (2 ^ 32 - 1)
 abbrev pub place : Cell
 place = Number 0 MAX_NODES_2
 
+-- a node of either format
 abbrev pub node : Cell
 node = Number 1 MAX_NODES_2
 
+-- a sequence number
 abbrev pub seq : Cell
 seq = Number 1 MAX_SEQ
 
+-- a payload
 abbrev pub payload : Cell
 payload = Bytes 0 MAX_PAYLOAD_BYTES
 
@@ -79,9 +83,11 @@ forms =
 
 -- ---- effects
 
+-- a node by its number
 abbrev pub id : ℕ → NodeId
 id n = record { 0 = n }
 
+-- a flow by the numbers of its ends
 abbrev pub flow : (src dst : ℕ) → Flow
 flow src dst = record { src = id src; dst = id dst }
 
@@ -124,6 +130,7 @@ IsInRange e = AreIn (cells (form_of e)) (values_of e)
 
 -- ---- reading
 
+-- the form of an effect with these words
 abbrev pub form_for : List Word → Option Form
 form_for words = form_among cells forms words
 
@@ -131,6 +138,7 @@ form_for words = form_among cells forms words
 unfoldable pub read_form : Form → List Word → Result Effect Fault
 read_form form words = row_at (cells form) words >>= λ xs. Ok (effect_of form xs)
 
+-- the effect that words of a form say, or the first fault
 abbrev pub read_for : Option Form → List Word → Result Effect Fault
 read_for None words = Err faults.Form
 read_for (Some form) words = read_form form words

@@ -44,9 +44,11 @@ pub record IsJournal (journal : List Entry) : Type 0 where
 
 -- ---- lines
 
+-- the first line of a journal
 abbrev pub version_cells : List Cell
 version_cells = Name (codes "journal") ∷ Name (codes "1") ∷ []
 
+-- the last line of a journal
 abbrev pub summary_cells : List Cell
 summary_cells =
     Name (codes "summary") ∷ Name (codes "events") ∷ any_number ∷ Name (codes "sent") ∷ any_number ∷ Name (codes "delivered") ∷ any_number

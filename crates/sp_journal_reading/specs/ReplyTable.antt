@@ -165,18 +165,23 @@ reply_of Withdrawn x = without_items links.Withdrawn
 abbrev pub weight_answers : List AnswerWord
 weight_answers = answers.New ∷ answers.Foreign ∷ answers.Low ∷ answers.Old ∷ answers.BadSig ∷ []
 
+-- what may be answered to a priority message
 abbrev pub prio_answers : List AnswerWord
 prio_answers = answers.New ∷ answers.BadEnd ∷ answers.Epoch ∷ answers.Expired ∷ answers.Seen ∷ answers.BadSig ∷ []
 
+-- what may be answered to an acknowledgement
 abbrev pub ack_answers : List AnswerWord
 ack_answers = answers.New ∷ answers.BadEnd ∷ answers.Epoch ∷ answers.Old ∷ answers.Ahead ∷ answers.BadSig ∷ []
 
+-- what may be answered to a reliable message
 abbrev pub rel_answers : List AnswerWord
 rel_answers = answers.New ∷ answers.BadEnd ∷ answers.Epoch ∷ answers.Old ∷ answers.Ahead ∷ answers.Gap ∷ answers.Full ∷ answers.InboxFull ∷ answers.BadSig ∷ []
 
+-- what may be answered to an Epoch object
 abbrev pub epoch_answers : List AnswerWord
 epoch_answers = answers.New ∷ answers.BadEnd ∷ answers.Old ∷ answers.BadSig ∷ []
 
+-- what may be answered to a document
 abbrev pub document_answers : List AnswerWord
 document_answers = answers.New ∷ answers.Bad ∷ answers.Old ∷ answers.BadSig ∷ answers.Strange ∷ []
 
@@ -191,6 +196,7 @@ all_items =
 abbrev pub item_among : List ItemWord → Word → Option ItemWord
 item_among among word = find (λ item. same word (item_word item)) among
 
+-- the answer of a word, if it is one
 abbrev pub or_form : Option ItemWord → Result ItemWord Fault
 or_form None = Err faults.Form
 or_form (Some item) = Ok item
@@ -215,6 +221,7 @@ pub data IsGoodReply (reply : Reply) : Type 0 where
   Of_row : (form : Form) (xs : Values (cells form)) → AreIn (cells form) xs → reply ≡ reply_of form xs → IsGoodReply reply
   Of_items : (each : List ItemWord) → All IsItem each → length each ≤ MAX_ITEMS → reply ≡ replies.Arrived links.Fresh each → IsGoodReply reply
 
+-- the form of a reply with these words
 abbrev pub form_for : List Word → Option Form
 form_for words = form_among cells forms words
 
@@ -222,6 +229,7 @@ form_for words = form_among cells forms words
 unfoldable pub read_form : Form → List Word → Result Reply Fault
 read_form form words = row_at (cells form) words >>= λ xs. Ok (reply_of form xs)
 
+-- the reply that words of a form say, or the first fault
 abbrev pub read_for : Option Form → List Word → Result Reply Fault
 read_for None words = Err faults.Form
 read_for (Some form) words = read_form form words

@@ -13,14 +13,16 @@ use Rattle.sp_keystate.proofs.Since.{since_on, since_weaker}
 use Rattle.sp_keystate.proofs.SlotLemmas.{opened_piece}
 
 -- a slot of which all bytes were read
-pub slot_read : (E : Type 0) (d : Option Disk) (at count : ℕ) (buf : List ℕ) (numbers : Option Numbers) → length buf ≡ 25 → GivesBytes {E = E} d at (Ok count) buf
+pub slot_read : (E : Type 0) (d : Option Disk) (at count : ℕ) (buf : List ℕ) (numbers : Option Numbers) → length buf ≡ 25
+    → GivesBytes {E = E} d at (Ok count) buf
     → numbers ≡ opened_at (take count buf) 0 → IfSome d (λ disk. numbers ≡ opened_at (bytes_of disk) at)
 slot_read E None at count buf numbers size gives is = tt
 slot_read E (Some disk) at count buf numbers size gives is =
     is ∙ ap (λ (l : List ℕ). opened_at l 0) (gives ∙ ap (λ (n : ℕ). take n (drop at (bytes_of disk))) size) ∙ opened_piece (bytes_of disk) at
 
 -- what is read after a sync leaves no more than could be left before
-pub leaves_on : (E : Type 0) (d m : Option Disk) (p q t : Option (List Disk)) (x : Unit {0}) → Synced {E = E} d m (Ok x) → LeavesWithin d p q → LeavesWithin m q t → LeavesWithin d p t
+pub leaves_on : (E : Type 0) (d m : Option Disk) (p q t : Option (List Disk)) (x : Unit {0}) → Synced {E = E} d m (Ok x) → LeavesWithin d p q
+    → LeavesWithin m q t → LeavesWithin d p t
 leaves_on E None m p q t x synced before after = tt
 leaves_on E (Some d) None p q t x synced before after = absurd synced
 leaves_on E (Some d) (Some m) p q t x synced before after =
@@ -33,8 +35,10 @@ leaves_more None n p q t same before after = tt
 leaves_more (Some m) n p q t same before after = since_on p q t (IsImage m) before (subst (λ (o : Option Disk). LeavesWithin o q t) same after)
 
 -- both slots are those of the file
-pub finds : (E : Type 0) (d m n e : Option Disk) (x : Unit {0}) (first second : Option Numbers) (found : Option InUse) → Synced {E = E} d m (Ok x) → n ≡ m → e ≡ n
-    → IfSome m (λ disk. first ≡ opened_at (bytes_of disk) 0) → IfSome n (λ disk. second ≡ opened_at (bytes_of disk) 64) → found ≡ latest first second → Finds d e found
+pub finds : (E : Type 0) (d m n e : Option Disk) (x : Unit {0}) (first second : Option Numbers) (found : Option InUse) → Synced {E = E} d m (Ok x) → n ≡ m
+    → e ≡ n
+    → IfSome m (λ disk. first ≡ opened_at (bytes_of disk) 0) → IfSome n (λ disk. second ≡ opened_at (bytes_of disk) 64) → found ≡ latest first second
+    → Finds d e found
 finds E None None n e x first second found synced n_is e_is one two is = e_is ∙ n_is
 finds E None (Some m) n e x first second found synced n_is e_is one two is = absurd synced
 finds E (Some d) None n e x first second found synced n_is e_is one two is = absurd synced

@@ -1,5 +1,6 @@
 -- An open slot, and what becomes of it where the other one is torn.
-use Rattle.std.proofs.Common.{◌≡◌, ℕ, zero, suc, ◌+◌, ◌-◌, ◌<◌, ◌≤◌, ◌⊎◌, inl, inr, min, Bool, true, false, List, [], ◌∷◌, length, take, drop, Option, None, Some, refl, sym, ap, ◌∙◌, arith}
+use Rattle.std.proofs.Common.{◌≡◌, ℕ, zero, suc, ◌+◌, ◌-◌, ◌<◌, ◌≤◌, ◌⊎◌, inl, inr, min, Bool, true, false, List, [], ◌∷◌, length, take, drop, Option, None}
+use Rattle.std.proofs.Common.{Some, refl, sym, ap, ◌∙◌, arith}
 use Rattle.std.specs.Prelude.{◌==◌, ◌&&◌, if◌then◌else◌, slice_get}
 use Rattle.std.proofs.Common.{length-drop}
 use Rattle.std.proofs.lemmas.List.{length-take}
@@ -49,13 +50,16 @@ get_drop (suc n) (x ∷ xs) i = let e : suc (n + i) ≡ suc n + i = omega arith 
 
 -- a body of the same bytes
 pub behind_same : (f c : List ℕ) (at : ℕ) → ((i : ℕ) → at + 1 ≤ i → i < at + 25 → slice_get c i ≡ slice_get f i) → behind c at ≡ behind f at
-behind_same f c at same = take_same 24 (drop (at + 1) c) (drop (at + 1) f) (λ i h. get_drop (at + 1) c i ∙ same (at + 1 + i) (omega arith) (omega (arith, h)) ∙ sym (get_drop (at + 1) f i))
+behind_same f c at same =
+    take_same 24 (drop (at + 1) c) (drop (at + 1) f)
+    (λ i h. get_drop (at + 1) c i ∙ same (at + 1 + i) (omega arith) (omega (arith, h)) ∙ sym (get_drop (at + 1) f i))
 
 pub if_same : {X : Type 0} (a b : Bool) (x y : X) → a ≡ b → x ≡ y → (let o : Option X = if a then Some x else None in o ≡ (if b then Some y else None))
 if_same a b x y is same = rw (is, same) refl
 
 pub opened_by : (f c : List ℕ) (at : ℕ) → slice_get c at ≡ slice_get f at → behind c at ≡ behind f at → opened_at c at ≡ opened_at f at
-opened_by f c at gate body = if_same (is_open c at) (is_open f at) (numbers_in (behind c at)) (numbers_in (behind f at)) (rw (gate, body) refl) (ap numbers_in body)
+opened_by f c at gate body =
+    if_same (is_open c at) (is_open f at) (numbers_in (behind c at)) (numbers_in (behind f at)) (rw (gate, body) refl) (ap numbers_in body)
 
 -- ---- a torn slot, and one beside it
 
@@ -67,10 +71,12 @@ beside a b at n i (inl h) from to low high = inl (omega (arith, h, from, high))
 beside a b at n i (inr h) from to low high = inr (omega (arith, h, to, low))
 
 -- the slot beside stays open
-pub stays_open : (f c bs : List ℕ) (a b at : ℕ) (s : Numbers) → IsApart a b → b ≤ at → at + length bs ≤ b + 25 → opened_at f a ≡ Some s → IsTorn f at bs c → opened_at c a ≡ Some s
+pub stays_open : (f c bs : List ℕ) (a b at : ℕ) (s : Numbers) → IsApart a b → b ≤ at → at + length bs ≤ b + 25 → opened_at f a ≡ Some s → IsTorn f at bs c
+    → opened_at c a ≡ Some s
 stays_open f c bs a b at s apart from to is torn =
     let size = opened_size f a s is in
-    let same : (i : ℕ) → a ≤ i → i < a + 25 → slice_get c i ≡ slice_get f i = λ i low high. torn_same f at bs c i torn (beside a b at (length bs) i apart from to low high) (omega (arith, size, high)) in
+    let same : (i : ℕ) → a ≤ i → i < a + 25 → slice_get c i ≡ slice_get f i =
+    λ i low high. torn_same f at bs c i torn (beside a b at (length bs) i apart from to low high) (omega (arith, size, high)) in
     opened_by f c a (same a (omega arith) (omega arith)) (behind_same f c a (λ i low high. same i (omega (arith, low)) high)) ∙ is
 
 -- what is open there does no harm
@@ -82,9 +88,11 @@ fine_if : (s t : Numbers) (b : Bool) → (b ≡ true → IsFine s t) → FineOpt
 fine_if s t true f = f refl
 fine_if s t false f = tt
 
-pub fine_open : (s : Numbers) (c : List ℕ) (at : ℕ) → (is_gate (slice_get c at) ≡ true → length (behind c at) ≡ 24 → IsFine s (numbers_in (behind c at))) → FineOpt s (opened_at c at)
+pub fine_open : (s : Numbers) (c : List ℕ) (at : ℕ) → (is_gate (slice_get c at) ≡ true → length (behind c at) ≡ 24 → IsFine s (numbers_in (behind c at)))
+    → FineOpt s (opened_at c at)
 fine_open s c at f =
-    fine_if s (numbers_in (behind c at)) (is_open c at) (λ yes. let both = and_both (is_gate (slice_get c at)) (length (behind c at) == 24) yes in f both.0 (eqb-true (length (behind c at)) 24 both.1))
+    fine_if s (numbers_in (behind c at)) (is_open c at)
+    (λ yes. let both = and_both (is_gate (slice_get c at)) (length (behind c at) == 24) yes in f both.0 (eqb-true (length (behind c at)) 24 both.1))
 
 -- a closed gate
 pub closed_fine : (s : Numbers) (c : List ℕ) (at : ℕ) → slice_get c at ≡ Some 0 → FineOpt s (opened_at c at)
@@ -120,10 +128,12 @@ opened_piece f at =
     gate = get_drop at f 0 ∙ ap (slice_get f) start
 
     body : behind (drop at f) 0 ≡ behind f at
-    body = take_same 24 (drop 1 (drop at f)) (drop (at + 1) f) (λ i h. get_drop 1 (drop at f) i ∙ get_drop at f (1 + i) ∙ ap (slice_get f) (omega arith) ∙ sym (get_drop (at + 1) f i))
+    body = take_same 24 (drop 1 (drop at f)) (drop (at + 1) f)
+        (λ i h. get_drop 1 (drop at f) i ∙ get_drop at f (1 + i) ∙ ap (slice_get f) (omega arith) ∙ sym (get_drop (at + 1) f i))
 
     moved : opened_at (drop at f) 0 ≡ opened_at f at
-    moved = if_same (is_open (drop at f) 0) (is_open f at) (numbers_in (behind (drop at f) 0)) (numbers_in (behind f at)) (rw (gate, body) refl) (ap numbers_in body)
+    moved = if_same (is_open (drop at f) 0) (is_open f at) (numbers_in (behind (drop at f) 0)) (numbers_in (behind f at)) (rw (gate, body) refl)
+        (ap numbers_in body)
 
 pub open_numbers : (f : List ℕ) (at : ℕ) (s : Numbers) → opened_at f at ≡ Some s → numbers_in (behind f at) ≡ s
 open_numbers f at s is = go (is_open f at) refl is

@@ -1,5 +1,6 @@
 -- What a changed file stands for.
-use Rattle.std.proofs.Common.{◌≡◌, ℕ, ◌+◌, ◌<◌, ◌≤◌, inl, inr, Bool, true, false, List, [], ◌∷◌, ◌++◌, length, take, drop, Option, None, Some, refl, sym, ap, subst, ◌∙◌, append_assoc, lit<, lit≤, arith}
+use Rattle.std.proofs.Common.{◌≡◌, ℕ, ◌+◌, ◌<◌, ◌≤◌, inl, inr, Bool, true, false, List, [], ◌∷◌, ◌++◌, length, take, drop, Option, None, Some, refl, sym, ap}
+use Rattle.std.proofs.Common.{subst, ◌∙◌, append_assoc, lit<, lit≤, arith}
 use Rattle.std.specs.Prelude.{if◌then◌else◌, nat_lt, slice_get}
 use Rattle.std.proofs.Common.{length-append}
 use Rattle.std.proofs.Math.Seq.{drop-append_seam}
@@ -27,7 +28,8 @@ length_in n =
     let a = length-bytes_high_first 8 n.serial in
     let b = length-bytes_high_first 8 n.bound in
     let c = length-bytes_high_first 8 n.boot in
-    length-append (big_bytes 8 n.serial ++ big_bytes 8 n.bound) (big_bytes 8 n.boot) ∙ omega (arith, a, b, c, length-append (big_bytes 8 n.serial) (big_bytes 8 n.bound))
+    length-append (big_bytes 8 n.serial ++ big_bytes 8 n.bound) (big_bytes 8 n.boot)
+    ∙ omega (arith, a, b, c, length-append (big_bytes 8 n.serial) (big_bytes 8 n.bound))
 
 drop_by : (n : ℕ) (xs ys : List ℕ) → length xs ≡ n → drop n (xs ++ ys) ≡ ys
 drop_by n xs ys is = subst (λ (m : ℕ). drop m (xs ++ ys) ≡ ys) is (drop-append_seam xs ys)
@@ -53,7 +55,8 @@ reads_back n range = rw (serial, bound, boot) refl
     serial = ap (λ (l : List ℕ). big_number 8 l) whole ∙ big_number-reads_back 8 n.serial (b ++ c) (omega (arith, range.serial))
 
     bound : big_number 8 (drop 8 ((a ++ b) ++ c)) ≡ n.bound
-    bound = ap (λ (l : List ℕ). big_number 8 l) (ap (λ (l : List ℕ). drop 8 l) whole ∙ drop_by 8 a (b ++ c) (length-bytes_high_first 8 n.serial)) ∙ big_number-reads_back 8 n.bound c (omega (arith, range.bound))
+    bound = ap (λ (l : List ℕ). big_number 8 l) (ap (λ (l : List ℕ). drop 8 l) whole ∙ drop_by 8 a (b ++ c) (length-bytes_high_first 8 n.serial))
+        ∙ big_number-reads_back 8 n.bound c (omega (arith, range.bound))
 
     long : length (a ++ b) ≡ 16
     long = length-append a b ∙ omega (arith, length-bytes_high_first 8 n.serial, length-bytes_high_first 8 n.bound)
@@ -99,7 +102,8 @@ head_at g at b is = sym (go (drop at g) is ∙ same)
 
 -- the numbers stand behind the gate
 pub numbered_body : (f : List ℕ) (at : ℕ) (next : Numbers) → behind (numbered f at next) at ≡ bytes_in next
-numbered_body f at next = subst (λ (n : ℕ). take n (drop (at + 1) (numbered f at next)) ≡ bytes_in next) (length_in next) (patched_has (closed f at) (at + 1) (bytes_in next))
+numbered_body f at next =
+    subst (λ (n : ℕ). take n (drop (at + 1) (numbered f at next)) ≡ bytes_in next) (length_in next) (patched_has (closed f at) (at + 1) (bytes_in next))
 
 pub numbered_size : (f : List ℕ) (at : ℕ) (next : Numbers) → at + 25 ≤ length (numbered f at next)
 numbered_size f at next =
@@ -115,22 +119,27 @@ pub changed_there : (f : List ℕ) (at : ℕ) (next : Numbers) → IsInRange nex
 changed_there f at next range =
     let m = changed f at next in
     let gate : slice_get m at ≡ Some 0xa5 = head_at m at 0xa5 (patched_has (numbered f at next) at (0xa5 ∷ [])) in
-    let body : behind m at ≡ bytes_in next = gate_leaves (numbered f at next) m at 0xa5 (patched_torn (numbered f at next) at (0xa5 ∷ [])) ∙ numbered_body f at next in
+    let body : behind m at ≡ bytes_in next =
+    gate_leaves (numbered f at next) m at 0xa5 (patched_torn (numbered f at next) at (0xa5 ∷ [])) ∙ numbered_body f at next in
     let full : length (behind m at) ≡ 24 = ap (λ (l : List ℕ). length l) body ∙ length_in next in
     if_same (is_open m at) true (numbers_in (behind m at)) next (rw (gate, full) refl) (ap numbers_in body ∙ reads_back next range)
 
 -- the one beside it stays
-pub changed_here : (f : List ℕ) (slot : Slot) (s next : Numbers) → opened_at f (place slot) ≡ Some s → opened_at (changed f (place (other slot)) next) (place slot) ≡ Some s
+pub changed_here : (f : List ℕ) (slot : Slot) (s next : Numbers) → opened_at f (place slot) ≡ Some s
+    → opened_at (changed f (place (other slot)) next) (place slot) ≡ Some s
 changed_here f slot s next is =
     let at = place (other slot) in
     let size = length_in next in
     let one = stays_open f (closed f at) (0 ∷ []) (place slot) at at s (apart slot) (omega arith) (omega arith) is (patched_torn f at (0 ∷ [])) in
-    let two = stays_open (closed f at) (numbered f at next) (bytes_in next) (place slot) at (at + 1) s (apart slot) (omega arith) (omega (arith, size)) one (patched_torn (closed f at) (at + 1) (bytes_in next)) in
-    stays_open (numbered f at next) (changed f at next) (0xa5 ∷ []) (place slot) at at s (apart slot) (omega arith) (omega arith) two (patched_torn (numbered f at next) at (0xa5 ∷ []))
+    let two = stays_open (closed f at) (numbered f at next) (bytes_in next) (place slot) at (at + 1) s (apart slot) (omega arith) (omega (arith, size)) one
+    (patched_torn (closed f at) (at + 1) (bytes_in next)) in
+    stays_open (numbered f at next) (changed f at next) (0xa5 ∷ []) (place slot) at at s (apart slot) (omega arith) (omega arith) two
+    (patched_torn (numbered f at next) at (0xa5 ∷ []))
 
 -- ---- the slot in use
 
-pub next_in_use : (m : List ℕ) (slot : Slot) (s next : Numbers) → s.serial < next.serial → opened_at m (place slot) ≡ Some s → opened_at m (place (other slot)) ≡ Some next → in_use m ≡ Some (in_slot (other slot) next)
+pub next_in_use : (m : List ℕ) (slot : Slot) (s next : Numbers) → s.serial < next.serial → opened_at m (place slot) ≡ Some s
+    → opened_at m (place (other slot)) ≡ Some next → in_use m ≡ Some (in_slot (other slot) next)
 next_in_use m First s next up here there =
     let lt : nat_lt s.serial next.serial ≡ true = grind (arith, nat_tests) in rw (here, there, lt) refl
 next_in_use m Second s next up here there =
@@ -153,8 +162,10 @@ latest_here None (Some b) slot s is =
 latest_here (Some a) (Some b) slot s is = go (nat_lt a.serial b.serial) is
   where
     go : (t : Bool) → (if t then Some (in_slot Second b) else Some (in_slot First a)) ≡ Some (in_slot slot s) → of_slot slot (Some a) (Some b) ≡ Some s
-    go true e = let both = same_slot Second slot b s e in subst (λ (x : Slot). of_slot x (Some a) (Some b) ≡ Some s) both.0 (ap (λ (n : Numbers). Some n) both.1)
-    go false e = let both = same_slot First slot a s e in subst (λ (x : Slot). of_slot x (Some a) (Some b) ≡ Some s) both.0 (ap (λ (n : Numbers). Some n) both.1)
+    go true e = let both = same_slot Second slot b s e in
+        subst (λ (x : Slot). of_slot x (Some a) (Some b) ≡ Some s) both.0 (ap (λ (n : Numbers). Some n) both.1)
+    go false e = let both = same_slot First slot a s e in
+        subst (λ (x : Slot). of_slot x (Some a) (Some b) ≡ Some s) both.0 (ap (λ (n : Numbers). Some n) both.1)
 
 pub here_of : (f : List ℕ) (slot : Slot) (s : Numbers) → in_use f ≡ Some (in_slot slot s) → opened_at f (place slot) ≡ Some s
 here_of f First s is = latest_here (opened_at f 0) (opened_at f 64) First s is
@@ -164,7 +175,8 @@ here_of f Second s is = latest_here (opened_at f 0) (opened_at f 64) Second s is
 pub changed_in_use : (f : List ℕ) (slot : Slot) (s next : Numbers) → IsInRange next → s.serial < next.serial → in_use f ≡ Some (in_slot slot s)
     → in_use (changed f (place (other slot)) next) ≡ Some (in_slot (other slot) next)
 changed_in_use f slot s next range up is =
-    next_in_use (changed f (place (other slot)) next) slot s next up (changed_here f slot s next (here_of f slot s is)) (changed_there f (place (other slot)) next range)
+    next_in_use (changed f (place (other slot)) next) slot s next up (changed_here f slot s next (here_of f slot s is))
+    (changed_there f (place (other slot)) next range)
 
 -- ---- a formatted file
 
@@ -181,6 +193,7 @@ latest_none (Some a) (Some b) is = go (nat_lt a.serial b.serial) is
 first_in_range : IsInRange first_numbers
 first_in_range = record { serial = lit< tt; bound = lit< tt; boot = lit< tt }
 
+-- where no slot was in use, the first one is once it is written
 pub formatted_in_use : (f : List ℕ) → in_use f ≡ None → in_use (changed f (place First) first_numbers) ≡ Some (in_slot First first_numbers)
 formatted_in_use f is = rw (changed_there f 0 first_numbers first_in_range, beside) refl
   where
@@ -191,10 +204,12 @@ formatted_in_use f is = rw (changed_there f 0 first_numbers first_in_range, besi
     one = past_open f (closed f 0) 0 64 (0 ∷ []) (patched_torn f 0 (0 ∷ [])) (lit≤ tt)
 
     two : opened_at (numbered f 0 first_numbers) 64 ≡ opened_at (closed f 0) 64
-    two = past_open (closed f 0) (numbered f 0 first_numbers) (0 + 1) 64 (bytes_in first_numbers) (patched_torn (closed f 0) (0 + 1) (bytes_in first_numbers)) (omega (arith, size))
+    two = past_open (closed f 0) (numbered f 0 first_numbers) (0 + 1) 64 (bytes_in first_numbers) (patched_torn (closed f 0) (0 + 1) (bytes_in first_numbers))
+        (omega (arith, size))
 
     three : opened_at (changed f 0 first_numbers) 64 ≡ opened_at (numbered f 0 first_numbers) 64
-    three = past_open (numbered f 0 first_numbers) (changed f 0 first_numbers) 0 64 (0xa5 ∷ []) (patched_torn (numbered f 0 first_numbers) 0 (0xa5 ∷ [])) (lit≤ tt)
+    three = past_open (numbered f 0 first_numbers) (changed f 0 first_numbers) 0 64 (0xa5 ∷ []) (patched_torn (numbered f 0 first_numbers) 0 (0xa5 ∷ []))
+        (lit≤ tt)
 
     beside : opened_at (changed f 0 first_numbers) 64 ≡ None
     beside = three ∙ two ∙ one ∙ latest_none (opened_at f 0) (opened_at f 64) is

@@ -14,7 +14,8 @@ use Rattle.sp_keystate.specs.declared.starts.Started.{Started}
 use Rattle.sp_keystate.specs.Slots.{in_slot, in_use, other, place}
 use Rattle.sp_keystate.specs.Changes.{Changes, changed}
 use Rattle.sp_keystate.specs.Soundness.{IsSound, Keeps}
-use Rattle.sp_keystate.specs.States.{Finds, IsChangeAnswer, IsOpenAnswer, IsSoundAt, KeepsMeanwhile, SoundAs, boot_end, changed_state, next_numbers, numbers_of, reserve_end, serial_end}
+use Rattle.sp_keystate.specs.States.{Finds, IsChangeAnswer, IsOpenAnswer, IsSoundAt, KeepsMeanwhile, SoundAs, boot_end, changed_state, next_numbers, numbers_of}
+use Rattle.sp_keystate.specs.States.{reserve_end, serial_end}
 use Rattle.sp_keystate.specs.declared.refused.KeyRefused.{KeyRefused}
 use Rattle.sp_keystate.specs.declared.refused.KeyRefused.TheVariants.{KeeperFault, Unformatted, Formatted, Exhausted}
 use Rattle.sp_keystate.specs.Starting.{AreSpent, BeginsAt, IsSpent, KeepsAll, NoStart, Starts, StartsSafely, booted}
@@ -47,7 +48,8 @@ no_last opened is = go (nat_le (2 ^ 63 - 1) opened.boot) refl is
 pub changed_file : (told after : Option Disk) (file : List ℕ) (at : ℕ) (next : Numbers) → told ≡ Some (still file) → Changes told after at next
     → after ≡ Some (still (changed file at next))
 changed_file None after file at next is changes = absurd (none-some (still file) is)
-changed_file (Some d) after file at next is changes = changes ∙ ap (λ (l : List ℕ). Some (still (changed l at next))) (ap bytes_of (same_some d (still file) is) ∙ bytes_of-still file)
+changed_file (Some d) after file at next is changes =
+    changes ∙ ap (λ (l : List ℕ). Some (still (changed l at next))) (ap bytes_of (same_some d (still file) is) ∙ bytes_of-still file)
 
 -- the two changes of a start
 changed_twice : (d : Disk) (e f g : Option Disk) (opened next last : KeyState) (bound : ℕ) → e ≡ Some (still (bytes_of d))
@@ -117,7 +119,8 @@ sound_told : (e : Option Disk) (state : KeyState) → IsTold e → IfSome e (Sou
 sound_told None state told sound = absurd told
 sound_told (Some e) state told sound = sound
 
-pub starts_safely : (d e f g : Option Disk) (o : Option InUse) (at to : ℕ) (next later : Numbers) (started : Started) → Finds d e o → Changes e f at next → Changes f g to later
+pub starts_safely : (d e f g : Option Disk) (o : Option InUse) (at to : ℕ) (next later : Numbers) (started : Started) → Finds d e o → Changes e f at next
+    → Changes f g to later
     → IfSome g (SoundAs started.state) → StartsSafely d g started
 starts_safely None e f g o at to next later started finds boots reserves sound = tt
 starts_safely (Some d) e f g o at to next later started finds boots reserves sound = λ slot numbers is.
@@ -139,21 +142,33 @@ keeps_open (Some d) p q leaves file slot numbers told sound =
     leaves
 
 -- the state that was opened of a sound file
-opened_as : (d e : Option Disk) (opened : KeyState) (file : List ℕ) (slot : Slot) (numbers : Numbers) → Finds d e (Some (in_slot opened.slot (numbers_of opened))) → d ≡ Some (still file) → IsSound slot numbers file
+opened_as : (d e : Option Disk) (opened : KeyState) (file : List ℕ) (slot : Slot) (numbers : Numbers)
+    → Finds d e (Some (in_slot opened.slot (numbers_of opened))) → d ≡ Some (still file) → IsSound slot numbers file
     → (e ≡ Some (still file)) × (in_slot opened.slot (numbers_of opened) ≡ in_slot slot numbers)
 opened_as None e opened file slot numbers finds told sound = absurd (none-some (still file) told)
 opened_as (Some d) e opened file slot numbers finds told sound =
-    let bytes : bytes_of d ≡ file = ap bytes_of (same_some d (still file) told) ∙ bytes_of-still file in
-    (finds.0 ∙ ap (λ (l : List ℕ). Some (still l)) bytes, same_some (in_slot opened.slot (numbers_of opened)) (in_slot slot numbers) (finds.1 ∙ ap in_use bytes ∙ sound.stands))
+    let bytes : bytes_of d ≡ file = ap bytes_of (same_some d (still file) told) ∙ bytes_of-still file in (
+      finds.0 ∙ ap (λ (l : List ℕ). Some (still l)) bytes,
+      same_some (in_slot opened.slot (numbers_of opened)) (in_slot slot numbers) (finds.1 ∙ ap in_use bytes ∙ sound.stands),
+    )
 
-keeps_on : (p q t : Option (List Disk)) (bound boot : ℕ) (bound_now boot_now : ℕ) → bound ≤ bound_now → boot ≤ boot_now → AllSince p q (Keeps bound boot) → AllSince q t (Keeps bound_now boot_now) → AllSince p t (Keeps bound boot)
+keeps_on : (p q t : Option (List Disk)) (bound boot : ℕ) (bound_now boot_now : ℕ) → bound ≤ bound_now → boot ≤ boot_now → AllSince p q (Keeps bound boot)
+    → AllSince q t (Keeps bound_now boot_now) → AllSince p t (Keeps bound boot)
 keeps_on p q t bound boot bound_now boot_now a b before after =
     since_on p q t (Keeps bound boot) before
     (since_weaker q t (Keeps bound_now boot_now) (Keeps bound boot)
-    (λ c k. record { slot = k.slot; numbers = k.numbers; sound = k.sound; bound_kept = (let h = k.bound_kept in omega (arith, h, a)); boot_kept = (let h = k.boot_kept in omega (arith, h, b)) }) after)
+    (λ c k. record {
+      slot = k.slot;
+      numbers = k.numbers;
+      sound = k.sound;
+      bound_kept = (let h = k.bound_kept in omega (arith, h, a));
+      boot_kept =
+          (let h = k.boot_kept in omega (arith, h, b));
+    }) after)
 
 -- while the boot is taken
-pub keeps_boot : (d e : Option Disk) (p q t : Option (List Disk)) (opened : KeyState) → Finds d e (Some (in_slot opened.slot (numbers_of opened))) → KeepsAll d p q
+pub keeps_boot : (d e : Option Disk) (p q t : Option (List Disk)) (opened : KeyState) → Finds d e (Some (in_slot opened.slot (numbers_of opened)))
+    → KeepsAll d p q
     → KeepsMeanwhile e q t opened → KeepsAll d p t
 keeps_boot d e p q t opened finds before during file slot numbers told sound =
     let found = opened_as d e opened file slot numbers finds told sound in
@@ -162,7 +177,8 @@ keeps_boot d e p q t opened finds before during file slot numbers told sound =
     keeps_on p q t numbers.bound numbers.boot opened.bound opened.boot (omega (arith, bound)) (omega (arith, boot)) (before file slot numbers told sound)
     (during file found.0 (subst (λ (u : InUse). IsSound u.slot u.numbers file) (sym found.1) sound))
 
-sound_there : (f : Option Disk) (now : KeyState) (d : Disk) → f ≡ Some d → IfSome f (SoundAs now) → (file : List ℕ) × (f ≡ Some (still file)) × IsSound now.slot (numbers_of now) file
+sound_there : (f : Option Disk) (now : KeyState) (d : Disk) → f ≡ Some d → IfSome f (SoundAs now)
+    → (file : List ℕ) × (f ≡ Some (still file)) × IsSound now.slot (numbers_of now) file
 sound_there None now d is sound = absurd (none-some d is)
 sound_there (Some f) now d is sound = (sound.file, ap (λ (k : Disk). Some k) sound.still, sound.sound)
 
@@ -171,15 +187,18 @@ changes_there None f at next file is changes = absurd (none-some (still file) is
 changes_there (Some e) f at next file is changes = (still (changed (bytes_of e) at next), changes)
 
 -- while the indexes are reserved
-pub keeps_reserve : (d e f : Option Disk) (p t u : Option (List Disk)) (opened booted : KeyState) (at : ℕ) (next : Numbers) → Finds d e (Some (in_slot opened.slot (numbers_of opened)))
-    → booted ≡ changed_state opened opened.bound (opened.boot + 1) → Changes e f at next → IfSome f (SoundAs booted) → KeepsAll d p t → KeepsMeanwhile f t u booted → KeepsAll d p u
+pub keeps_reserve : (d e f : Option Disk) (p t u : Option (List Disk)) (opened booted : KeyState) (at : ℕ) (next : Numbers)
+    → Finds d e (Some (in_slot opened.slot (numbers_of opened)))
+    → booted ≡ changed_state opened opened.bound (opened.boot + 1) → Changes e f at next → IfSome f (SoundAs booted) → KeepsAll d p t
+    → KeepsMeanwhile f t u booted → KeepsAll d p u
 keeps_reserve d e f p t u opened booted at next finds is changes safe before during file slot numbers told sound =
     let found = opened_as d e opened file slot numbers finds told sound in
     let there = changes_there e f at next file found.0 changes in
     let now = sound_there f booted there.0 there.1 safe in
     let bound : numbers.bound ≡ booted.bound = ap (λ (u : InUse). u.numbers.bound) (sym found.1) ∙ sym (ap (λ (s : KeyState). s.bound) is) in
     let boot : numbers.boot + 1 ≡ booted.boot = ap (λ (u : InUse). u.numbers.boot + 1) (sym found.1) ∙ sym (ap (λ (s : KeyState). s.boot) is) in
-    keeps_on p t u numbers.bound numbers.boot booted.bound booted.boot (omega (arith, bound)) (omega (arith, boot)) (before file slot numbers told sound) (during now.0 now.1 now.2)
+    keeps_on p t u numbers.bound numbers.boot booted.bound booted.boot (omega (arith, bound)) (omega (arith, boot)) (before file slot numbers told sound)
+    (during now.0 now.1 now.2)
 
 -- ---- why there is no start
 
@@ -187,16 +206,19 @@ unformatted : (d e : Option Disk) → Finds d e None → IfSome d (λ disk. in_u
 unformatted None e finds = tt
 unformatted (Some d) e finds = sym finds.1
 
-pub unopened : (d e : Option Disk) (total : ℕ) (refused : KeyRefused) → IsOpenAnswer {T = Unit {0}} (Err refused) → (refused ≡ Unformatted → Finds d e None) → NoStart d total refused
+pub unopened : (d e : Option Disk) (total : ℕ) (refused : KeyRefused) → IsOpenAnswer {T = Unit {0}} (Err refused) → (refused ≡ Unformatted → Finds d e None)
+    → NoStart d total refused
 unopened d e total KeeperFault answer finds = tt
 unopened d e total Unformatted answer finds = unformatted d e (finds refl)
 unopened d e total Formatted answer finds = absurd answer
 unopened d e total (Exhausted number) answer finds = absurd answer
 
-spent : (d e : Option Disk) (total : ℕ) (opened : KeyState) → Finds d e (Some (in_slot opened.slot (numbers_of opened))) → AreSpent total (numbers_of opened) → IfSome d (IsSpent total)
+spent : (d e : Option Disk) (total : ℕ) (opened : KeyState) → Finds d e (Some (in_slot opened.slot (numbers_of opened))) → AreSpent total (numbers_of opened)
+    → IfSome d (IsSpent total)
 spent None e total opened finds is = tt
 spent (Some d) e total opened finds is = record { found = in_slot opened.slot (numbers_of opened); stood = sym finds.1; spent = is }
 
+-- only the last serial number ends a key file
 pub last_serial : (serial number : ℕ) → (if serial == 2 ^ 64 - 1 then Some serial else None) ≡ Some number → serial ≡ 2 ^ 64 - 1
 last_serial serial number is = go (serial == 2 ^ 64 - 1) refl is
   where
@@ -207,11 +229,13 @@ last_serial serial number is = go (serial == 2 ^ 64 - 1) refl is
 no_boot : (total number : ℕ) (opened : KeyState) → boot_end opened ≡ Some number → AreSpent total (numbers_of opened)
 no_boot total number opened is = go (nat_le (2 ^ 63 - 1) opened.boot) refl is
   where
-    go : (t : Bool) → nat_le (2 ^ 63 - 1) opened.boot ≡ t → (if t then Some opened.boot else serial_end opened) ≡ Some number → AreSpent total (numbers_of opened)
+    go : (t : Bool) → nat_le (2 ^ 63 - 1) opened.boot ≡ t → (if t then Some opened.boot else serial_end opened) ≡ Some number
+        → AreSpent total (numbers_of opened)
     go true most e = inl (grind (arith, nat_tests))
     go false less e = inr (inr (let last = last_serial opened.serial number e in omega (arith, last)))
 
-no_index : (total number : ℕ) (opened booted : KeyState) → booted ≡ changed_state opened opened.bound (opened.boot + 1) → reserve_end booted total ≡ Some number → AreSpent total (numbers_of opened)
+no_index : (total number : ℕ) (opened booted : KeyState) → booted ≡ changed_state opened opened.bound (opened.boot + 1) → reserve_end booted total ≡ Some number
+    → AreSpent total (numbers_of opened)
 no_index total number opened booted boots is = go (nat_le total booted.bound) refl is
   where
     bound : booted.bound ≡ opened.bound
@@ -232,7 +256,8 @@ unbooted d e total opened Formatted finds answer = absurd answer
 unbooted d e total opened (Exhausted number) finds answer = spent d e total opened finds (no_boot total number opened answer)
 
 pub unreserved : (d e : Option Disk) (total : ℕ) (opened booted : KeyState) (refused : KeyRefused) → Finds d e (Some (in_slot opened.slot (numbers_of opened)))
-    → booted ≡ changed_state opened opened.bound (opened.boot + 1) → IsChangeAnswer {T = Unit {0}} (reserve_end booted total) (Err refused) → NoStart d total refused
+    → booted ≡ changed_state opened opened.bound (opened.boot + 1) → IsChangeAnswer {T = Unit {0}} (reserve_end booted total) (Err refused)
+    → NoStart d total refused
 unreserved d e total opened booted KeeperFault finds boots answer = tt
 unreserved d e total opened booted Unformatted finds boots answer = absurd answer
 unreserved d e total opened booted Formatted finds boots answer = absurd answer

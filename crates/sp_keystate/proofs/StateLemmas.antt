@@ -12,7 +12,8 @@ use Rattle.sp_keystate.specs.declared.slot.Slot.TheVariants.{First}
 use Rattle.sp_keystate.specs.declared.key_state.KeyState.{KeyState}
 use Rattle.sp_keystate.specs.Slots.{IsInRange, in_slot, in_use, other, place}
 use Rattle.sp_keystate.specs.Changes.{ChangeMoments, Changes, MayLeave, changed}
-use Rattle.sp_keystate.specs.States.{Finds, FormatMoments, Formats, FormatsSafely, KeepsMeanwhile, OpensAs, OpensSafely, SoundAs, StandsFor, changed_state, first_numbers, next_numbers, numbers_of}
+use Rattle.sp_keystate.specs.States.{Finds, FormatMoments, Formats, FormatsSafely, KeepsMeanwhile, OpensAs, OpensSafely, SoundAs, StandsFor, changed_state}
+use Rattle.sp_keystate.specs.States.{first_numbers, next_numbers, numbers_of}
 use Rattle.sp_keystate.proofs.Pieces.{same_some}
 use Rattle.sp_keystate.proofs.Since.{since_on, since_weaker}
 use Rattle.sp_keystate.specs.Soundness.{IsSound, Keeps}
@@ -36,7 +37,8 @@ opens_after (Some d) (Some e) state bound boot range opens changes =
 
 pub stands_after : (d e : Option Disk) (state : KeyState) (bound boot : ℕ) → IsInRange (next_numbers state bound boot) → StandsFor d state
     → Changes d e (place (other state.slot)) (next_numbers state bound boot) → StandsFor e (changed_state state bound boot)
-stands_after d e state bound boot range stands changes = record { is_current = stands.is_current; opens = opens_after d e state bound boot range stands.opens changes }
+stands_after d e state bound boot range stands changes =
+    record { is_current = stands.is_current; opens = opens_after d e state bound boot range stands.opens changes }
 
 -- ---- a state that was made of what was found
 
@@ -44,8 +46,10 @@ opens_same : (a b : KeyState) (o : Option Disk) → in_slot b.slot (numbers_of b
 opens_same a b None same opens = tt
 opens_same a b (Some disk) same opens = record { file = opens.file; still = opens.still; opens = opens.opens ∙ ap (λ (u : InUse). Some u) (sym same) }
 
-pub stands_found : (d e : Option Disk) (state found : KeyState) (slot : Slot) (bound boot : ℕ) → slot ≡ other state.slot → IsInRange (next_numbers state bound boot) → StandsFor d state
-    → Changes d e (place slot) (next_numbers state bound boot) → in_slot found.slot (numbers_of found) ≡ in_slot slot (next_numbers state bound boot) → found.is_current ≡ true → StandsFor e found
+pub stands_found : (d e : Option Disk) (state found : KeyState) (slot : Slot) (bound boot : ℕ) → slot ≡ other state.slot
+    → IsInRange (next_numbers state bound boot) → StandsFor d state
+    → Changes d e (place slot) (next_numbers state bound boot) → in_slot found.slot (numbers_of found) ≡ in_slot slot (next_numbers state bound boot)
+    → found.is_current ≡ true → StandsFor e found
 stands_found d e state found slot bound boot is range stands changes same current =
     record {
       is_current = current;
@@ -62,7 +66,8 @@ not_found (Some x) is = absurd (true_not_false is)
     true_not_false : true ≡ false → ⊥
     true_not_false wrong = cc
 
-some_of : (d : Disk) (m : Option Disk) → m ≡ Some (still (bytes_of d)) → (e : Option Disk) (at : ℕ) (next : Numbers) → Changes m e at next → e ≡ Some (still (changed (bytes_of d) at next))
+some_of : (d : Disk) (m : Option Disk) → m ≡ Some (still (bytes_of d)) → (e : Option Disk) (at : ℕ) (next : Numbers) → Changes m e at next
+    → e ≡ Some (still (changed (bytes_of d) at next))
 some_of d None is e at next changes = absurd (none-some (still (bytes_of d)) is)
 some_of d (Some m) is e at next changes =
     changes ∙ ap (λ (l : List ℕ). Some (still (changed l at next))) (ap bytes_of (same_some m (still (bytes_of d)) is) ∙ bytes_of-still (bytes_of d))
@@ -75,7 +80,8 @@ pub formats : (d m e : Option Disk) (found : Option InUse) → Finds d m found �
 formats None m e found finds is changes = none_of m e (place First) first_numbers finds changes
 formats (Some d) m e found finds is changes = (sym finds.1 ∙ not_found found is, some_of d m finds.0 e (place First) first_numbers changes)
 
-pub format_stands : (d e : Option Disk) (state : KeyState) → Formats d e → in_slot state.slot (numbers_of state) ≡ in_slot First first_numbers → state.is_current ≡ true → StandsFor e state
+pub format_stands : (d e : Option Disk) (state : KeyState) → Formats d e → in_slot state.slot (numbers_of state) ≡ in_slot First first_numbers
+    → state.is_current ≡ true → StandsFor e state
 format_stands d e state formats same current = record { is_current = current; opens = go d e formats }
   where
     go : (a b : Option Disk) → Formats a b → IfSome b (OpensAs state)
@@ -91,17 +97,21 @@ format_stands d e state formats same current = record { is_current = current; op
 -- what the sync and the reads leave, and what the change leaves
 pub format_finding : (d : Option Disk) (p q : Option (List Disk)) → LeavesWithin d p q → FormatMoments d p q
 format_finding None p q leaves = tt
-format_finding (Some d) p q leaves = since_weaker p q (IsImage d) (λ image. IsImage d image ⊎ MayLeave (bytes_of d) (place First) first_numbers image) (λ c h. inl h) leaves
+format_finding (Some d) p q leaves =
+    since_weaker p q (IsImage d) (λ image. IsImage d image ⊎ MayLeave (bytes_of d) (place First) first_numbers image) (λ c h. inl h) leaves
 
-pub format_changing : (d m : Option Disk) (p q t : Option (List Disk)) (found : Option InUse) → Finds d m found → LeavesWithin d p q → ChangeMoments m q t (place First) first_numbers → FormatMoments d p t
+pub format_changing : (d m : Option Disk) (p q t : Option (List Disk)) (found : Option InUse) → Finds d m found → LeavesWithin d p q
+    → ChangeMoments m q t (place First) first_numbers → FormatMoments d p t
 format_changing None m p q t found finds leaves moments = tt
 format_changing (Some d) m p q t found finds leaves moments =
     let P : List ℕ → Type 0 = λ image. IsImage d image ⊎ MayLeave (bytes_of d) (place First) first_numbers image in
-    since_on p q t P (format_finding (Some d) p q leaves) (since_weaker q t (MayLeave (bytes_of d) (place First) first_numbers) P (λ c h. inr h) (moments (bytes_of d) finds.0))
+    since_on p q t P (format_finding (Some d) p q leaves)
+    (since_weaker q t (MayLeave (bytes_of d) (place First) first_numbers) P (λ c h. inr h) (moments (bytes_of d) finds.0))
 
 -- ---- sound files
 
-pub keeps_meanwhile : (d : Option Disk) (p q : Option (List Disk)) (state : KeyState) (slot : Slot) (bound boot : ℕ) → slot ≡ other state.slot → IsInRange (next_numbers state bound boot) → state.bound ≤ bound → state.boot ≤ boot
+pub keeps_meanwhile : (d : Option Disk) (p q : Option (List Disk)) (state : KeyState) (slot : Slot) (bound boot : ℕ) → slot ≡ other state.slot
+    → IsInRange (next_numbers state bound boot) → state.bound ≤ bound → state.boot ≤ boot
     → ChangeMoments d p q (place slot) (next_numbers state bound boot) → KeepsMeanwhile d p q state
 keeps_meanwhile d p q state slot bound boot is range bound_up boot_up moments file told sound =
     let next = next_numbers state bound boot in
@@ -109,11 +119,14 @@ keeps_meanwhile d p q state slot bound boot is range bound_up boot_up moments fi
     (λ c left. change_keeps state.slot (numbers_of state) next file c sound range (record { serial = omega arith; bound = bound_up; boot = boot_up })
     (subst (λ (x : Slot). MayLeave file (place x) next c) is left)) (moments file told)
 
-sound_same : (state : KeyState) (slot : Slot) (numbers : Numbers) (file : List ℕ) → in_slot state.slot (numbers_of state) ≡ in_slot slot numbers → IsSound slot numbers file → IsSound state.slot (numbers_of state) file
+sound_same : (state : KeyState) (slot : Slot) (numbers : Numbers) (file : List ℕ) → in_slot state.slot (numbers_of state) ≡ in_slot slot numbers
+    → IsSound slot numbers file → IsSound state.slot (numbers_of state) file
 sound_same state slot numbers file same sound = subst (λ (u : InUse). IsSound u.slot u.numbers file) (sym same) sound
 
-pub sound_after : (d e : Option Disk) (state found : KeyState) (slot : Slot) (bound boot : ℕ) → slot ≡ other state.slot → IsInRange (next_numbers state bound boot) → StandsFor d state
-    → Changes d e (place slot) (next_numbers state bound boot) → in_slot found.slot (numbers_of found) ≡ in_slot slot (next_numbers state bound boot) → IfSome e (SoundAs found)
+pub sound_after : (d e : Option Disk) (state found : KeyState) (slot : Slot) (bound boot : ℕ) → slot ≡ other state.slot
+    → IsInRange (next_numbers state bound boot) → StandsFor d state
+    → Changes d e (place slot) (next_numbers state bound boot) → in_slot found.slot (numbers_of found) ≡ in_slot slot (next_numbers state bound boot)
+    → IfSome e (SoundAs found)
 sound_after d None state found slot bound boot is range stands changes same = tt
 sound_after None (Some e) state found slot bound boot is range stands changes same = absurd (none-some e (sym changes))
 sound_after (Some d) (Some e) state found slot bound boot is range stands changes same =
@@ -136,7 +149,8 @@ opens_safely (Some d) (Some e) state finds = λ slot numbers sound. record {
   sound = sound_same state slot numbers (bytes_of d) (same_some (in_slot state.slot (numbers_of state)) (in_slot slot numbers) (finds.1 ∙ sound.stands)) sound;
 }
 
-pub formats_safely : (d e : Option Disk) (state : KeyState) → Formats d e → in_slot state.slot (numbers_of state) ≡ in_slot First first_numbers → FormatsSafely d e state
+pub formats_safely : (d e : Option Disk) (state : KeyState) → Formats d e → in_slot state.slot (numbers_of state) ≡ in_slot First first_numbers
+    → FormatsSafely d e state
 formats_safely None e state formats same = tt
 formats_safely (Some d) None state formats same = λ empty. tt
 formats_safely (Some d) (Some e) state formats same = λ empty. record {

@@ -1,5 +1,6 @@
 -- What an image of a torn file still has.
-use Rattle.std.proofs.Common.{◌≡◌, ℕ, zero, suc, ◌+◌, ◌<◌, ◌≤◌, ◌⊎◌, inl, inr, max, true, false, List, [], ◌∷◌, length, take, drop, Option, None, Some, refl, sym, ap, subst, ◌∙◌, arith}
+use Rattle.std.proofs.Common.{◌≡◌, ℕ, zero, suc, ◌+◌, ◌<◌, ◌≤◌, ◌⊎◌, inl, inr, max, true, false, List, [], ◌∷◌, length, take, drop, Option, None, Some, refl}
+use Rattle.std.proofs.Common.{sym, ap, subst, ◌∙◌, arith}
 use Rattle.std.specs.Prelude.{◌==◌, slice_get}
 use Rattle.std.proofs.lemmas.Bool.Decides.{nat_tests}
 use Rattle.std.proofs.lemmas.Option.{none-some}
@@ -81,7 +82,9 @@ torn_kept (x ∷ f) (suc at) b (y ∷ c) h is = torn_kept f at b c h.1 is
 
 -- it is one of its own images
 pub patched_torn : (f : List ℕ) (at : ℕ) (bs : List ℕ) → IsTorn f at bs (patched f at bs)
-patched_torn f at bs = subst (IsTorn f at bs) (bytes_of-after_write (still f) at bs ∙ ap (λ (l : List ℕ). patched l at bs) (bytes_of-still f)) (own_image (after_write (still f) at bs))
+patched_torn f at bs =
+    subst (IsTorn f at bs) (bytes_of-after_write (still f) at bs ∙ ap (λ (l : List ℕ). patched l at bs) (bytes_of-still f))
+    (own_image (after_write (still f) at bs))
 
 -- the patch stands in it
 pub patched_has : (f : List ℕ) (at : ℕ) (bs : List ℕ) → take (length bs) (drop at (patched f at bs)) ≡ bs

@@ -10,9 +10,11 @@ use Rattle.sp_keystate.specs.Slots.{bytes_in}
 abbrev pub closed : List ℕ → ℕ → List ℕ
 closed file at = patched file at (0 ∷ [])
 
+-- the file once the numbers are written behind a closed gate
 abbrev pub numbered : List ℕ → ℕ → Numbers → List ℕ
 numbered file at next = patched (closed file at) (at + 1) (bytes_in next)
 
+-- the file once the gate is open again
 abbrev pub changed : List ℕ → ℕ → Numbers → List ℕ
 changed file at next = patched (numbered file at next) at (0xa5 ∷ [])
 

@@ -23,6 +23,7 @@ abbrev pub place : Slot → ℕ
 place First = 0
 place Second = 64
 
+-- the slot that isn't this one
 abbrev pub other : Slot → Slot
 other First = Second
 other Second = First
@@ -31,6 +32,7 @@ other Second = First
 unfoldable pub bytes_in : Numbers → List ℕ
 bytes_in numbers = (big_bytes 8 numbers.serial ++ big_bytes 8 numbers.bound) ++ big_bytes 8 numbers.boot
 
+-- the numbers in a slot's bytes behind its gate
 unfoldable pub numbers_in : List ℕ → Numbers
 numbers_in bytes = record { serial = big_number 8 bytes; bound = big_number 8 (drop 8 bytes); boot = big_number 8 (drop 16 bytes) }
 
@@ -38,6 +40,7 @@ numbers_in bytes = record { serial = big_number 8 bytes; bound = big_number 8 (d
 abbrev pub behind : List ℕ → ℕ → List ℕ
 behind file at = take 24 (drop (at + 1) file)
 
+-- whether a byte is an open gate
 abbrev pub is_gate : Option ℕ → Bool
 is_gate None = false
 is_gate (Some b) = b == 0xa5

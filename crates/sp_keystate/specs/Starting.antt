@@ -29,6 +29,7 @@ pub record BeginsAt (after : Option Disk) (started : Started) (disk : Disk) : Ty
   pub changes : after ≡ Some (still (changed (changed (bytes_of disk) (place (other found.slot)) (booted found.numbers)) (place found.slot)
       (numbers_of started.state)))
 
+-- what a start leaves in the key file: indexes that are reserved from its first on, and its number
 pub record Starts (told after : Option Disk) (n total : ℕ) (started : Started) : Type 0 where
   pub begins : IfSome told (BeginsAt after started)
   -- some indexes are reserved, so many at most, and none from the total on
@@ -43,6 +44,7 @@ pub record Starts (told after : Option Disk) (n total : ℕ) (started : Started)
 abbrev pub AreSpent : ℕ → Numbers → Type 0
 AreSpent total found = (2 ^ 63 - 1 ≤ found.boot) ⊎ ((total ≤ found.bound) ⊎ (2 ^ 64 - 2 ≤ found.serial))
 
+-- the key file stands, and all of its indexes are used up
 pub record IsSpent (total : ℕ) (disk : Disk) : Type 0 where
   pub found : InUse
   pub stood : in_use (bytes_of disk) ≡ Some found

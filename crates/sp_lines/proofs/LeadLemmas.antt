@@ -30,7 +30,9 @@ module _ {S K : Type 0} (says : S → List Word → Result S K) where
     pub line : m ≡ k
     pub stop : a ≡ b
 
-  pub one_lead : {s t u : S} {number m k : ℕ} {text : List ℕ} {a b : Stop K} → Leads says s number text t m a → Leads says s number text u k b → IsOne t u m k a b
+  -- from one stage a text leads to one stage, at one line, with one end
+  pub one_lead : {s t u : S} {number m k : ℕ} {text : List ℕ} {a b : Stop K} → Leads says s number text t m a → Leads says s number text u k b
+      → IsOne t u m k a b
   one_lead At_end At_end = record { stage = refl; line = refl; stop = refl }
   one_lead At_end (At_line r some first) = absurd (some refl)
   one_lead {number = number} At_end (At_words words rest r first bad) = absurd (nothing_first number words rest first)
@@ -65,10 +67,12 @@ module _ {S K : Type 0} (says : S → List Word → Result S K) where
       let again : says s words ≡ Ok other = subst (λ (ws : List Word). says s ws ≡ Ok other) same.0 good_too in
       let both = sym again ∙ good in
       let of_next : other ≡ next = cc in
-      one_lead on (subst (λ (z : S). Leads says z (number + 1) rest u k b) of_next (subst (λ (t : List ℕ). Leads says other (number + 1) t u k b) same.1 on_too))
+      one_lead on (subst (λ (z : S). Leads says z (number + 1) rest u k b) of_next
+      (subst (λ (t : List ℕ). Leads says other (number + 1) t u k b) same.1 on_too))
 
   -- lines that are good one after the other are read, and lead on
-  pub leads_on : (lines : List (List Word)) (s t : S) → follow_all says s lines ≡ Ok t → All IsGoodLine lines → (rest : List ℕ) (last : S) (stop : Stop K) (end number : ℕ)
+  pub leads_on : (lines : List (List Word)) (s t : S) → follow_all says s lines ≡ Ok t → All IsGoodLine lines
+      → (rest : List ℕ) (last : S) (stop : Stop K) (end number : ℕ)
       → Leads says t (number + length lines) rest last end stop → Leads says s number (flat_map line_text lines ++ rest) last end stop
   leads_on [] s t follows good rest last stop end number on =
       let same : s ≡ t = cc in
@@ -77,9 +81,11 @@ module _ {S K : Type 0} (says : S → List Word → Result S K) where
   leads_on (words ∷ lines) s t follows good rest last stop end number on =
       let step = then_ok (says s words) (λ next. follow_all says next lines) t follows in
       let count : number + length (words ∷ lines) ≡ (number + 1) + length lines = omega arith in
-      let more = leads_on lines step.0 t step.2 (All-tail IsGoodLine words lines good) rest last stop end (number + 1) (subst (λ (n : ℕ). Leads says t n rest last end stop) count on) in
+      let more = leads_on lines step.0 t step.2 (All-tail IsGoodLine words lines good) rest last stop end (number + 1)
+      (subst (λ (n : ℕ). Leads says t n rest last end stop) count on) in
       rw append_assoc
-      (Good words (flat_map line_text lines ++ rest) step.0 (read_first number words (flat_map line_text lines ++ rest) (All-head IsGoodLine words lines good)) step.1 more)
+      (Good words (flat_map line_text lines ++ rest) step.0 (read_first number words (flat_map line_text lines ++ rest) (All-head IsGoodLine words lines good))
+      step.1 more)
 
   -- a text that leads somewhere begins with lines that do
   pub record IsLed (s t : S) (number end : ℕ) (text : List ℕ) : Type 0 where
@@ -89,6 +95,7 @@ module _ {S K : Type 0} (says : S → List Word → Result S K) where
     pub follows : follow_all says s lines ≡ Ok t
     pub count : end ≡ number + length lines
 
+  -- what a text leads to is reached by the lines that it has
   pub led_by : {s t : S} {number end : ℕ} {text : List ℕ} {stop : Stop K} → Leads says s number text t end stop → IsLed s t number end text
   led_by At_end = record { lines = []; rest = _; spelled = refl; follows = refl; count = omega arith }
   led_by (At_line r some first) = record { lines = []; rest = _; spelled = refl; follows = refl; count = omega arith }
@@ -96,7 +103,8 @@ module _ {S K : Type 0} (says : S → List Word → Result S K) where
   led_by {s} {t} {number} {end} {text} (Good words rest next first good on) =
       let more = led_by on in
       let spelled : text ≡ flat_map line_text (words ∷ more.lines) ++ more.rest =
-      spelled_first number text rest words first ∙ ap (λ (xs : List ℕ). line_text words ++ xs) more.spelled ∙ sym (append_assoc (line_text words) (flat_map line_text more.lines) more.rest) in
+      spelled_first number text rest words first ∙ ap (λ (xs : List ℕ). line_text words ++ xs) more.spelled
+      ∙ sym (append_assoc (line_text words) (flat_map line_text more.lines) more.rest) in
       record {
         lines = words ∷ more.lines;
         rest = more.rest;
@@ -111,6 +119,7 @@ module _ {S K : Type 0} (says : S → List Word → Result S K) where
     pub spelled : text ≡ flat_map line_text lines
     pub follows : follow_all says s lines ≡ Ok t
 
+  -- a text of which nothing is left has been read in whole lines
   pub whole_lines : {s t : S} {number end : ℕ} {text : List ℕ} {stop : Stop K} → Leads says s number text t end stop → stop ≡ Nothing_left → IsLines s t text
   whole_lines At_end is = record { lines = []; spelled = refl; follows = refl }
   whole_lines (At_line r some first) is = absurd (cc)
@@ -128,6 +137,7 @@ module _ {S K : Type 0} (says : S → List Word → Result S K) where
     pub stop : Stop K
     pub leads : Leads says t number text t number stop
 
+  -- where each line is refused, a text stops at its first one
   pub stops_there : (t : S) (refused : K) → ((words : List Word) → says t words ≡ Err refused) → (number : ℕ) (text : List ℕ) → Stops t number text
   stops_there t refused bad number [] = record { stop = Nothing_left; leads = At_end }
   stops_there t refused bad number (b ∷ text) = go (first_words number (b ∷ text)) refl
@@ -138,7 +148,8 @@ module _ {S K : Type 0} (says : S → List Word → Result S K) where
 
   -- whatever the rest leads to after so many good lines, the text leads to
   abbrev pub GoesOn : S → List ℕ → S → ℕ → List ℕ → Type 0
-  GoesOn start text stage count rest = (last : S) (end : ℕ) (stop : Stop K) → Leads says stage (count + 1) rest last end stop → Leads says start 1 text last end stop
+  GoesOn start text stage count rest =
+      (last : S) (end : ℕ) (stop : Stop K) → Leads says stage (count + 1) rest last end stop → Leads says start 1 text last end stop
 
   -- and after one more
   pub goes_on : (start : S) (text : List ℕ) (stage next : S) (count : ℕ) (old rest : List ℕ) (words : List Word) → GoesOn start text stage count old

@@ -1,5 +1,6 @@
 -- The words of the next line, from the line that was taken.
-use Rattle.std.proofs.Common.{◌≡◌, ◌≢◌, ◌≤◌, ◌+◌, ℕ, List, [], ◌∷◌, length, Result, Ok, Err, Option, Some, None, refl, sym, ap, subst, ◌∙◌, arith, length-append}
+use Rattle.std.proofs.Common.{◌≡◌, ◌≢◌, ◌≤◌, ◌+◌, ℕ, List, [], ◌∷◌, length, Result, Ok, Err, Option, Some, None, refl, sym, ap, subst, ◌∙◌, arith}
+use Rattle.std.proofs.Common.{length-append}
 use Rattle.std.specs.Prelude.{IsErrAnd}
 use Rattle.sp_text.specs.Spelling.{Word}
 use Rattle.sp_text.specs.Texts.{GivesInMemory, TakesNext, line_at, text_of, words_at}
@@ -27,12 +28,14 @@ taken old new line takes =
     }
 
 -- the first line has these words
-line_first : (number : ℕ) (text rest : List ℕ) (line : LineText) (words : Result (List Word) TextRefused) → line_at number text ≡ Ok (line, rest) → words_at number line.bytes ≡ words
+line_first : (number : ℕ) (text rest : List ℕ) (line : LineText) (words : Result (List Word) TextRefused) → line_at number text ≡ Ok (line, rest)
+    → words_at number line.bytes ≡ words
     → first_words number text ≡ before_rest rest words
 unfolding first_words
 line_first number text rest line words first second = rw (first, second) refl
 
-first_line : (old new : Unread) (line : Line) (words : Result (List Word) TextRefused) → TakesNext old (Ok (Some line)) new → words_at line.number line.bytes.now ≡ words
+first_line : (old new : Unread) (line : Line) (words : Result (List Word) TextRefused) → TakesNext old (Ok (Some line)) new
+    → words_at line.number line.bytes.now ≡ words
     → first_words (old.given + 1) old.rest ≡ before_rest new.rest words
 first_line old new line words takes are =
     let number : line.number ≡ old.given + 1 = (taken old new line takes).number in
@@ -48,7 +51,8 @@ no_line : (number : ℕ) (text : List ℕ) (refused : TextRefused) → line_at n
 unfolding first_words
 no_line number text refused first = rw first refl
 
-pub line_refused : {X : Type 0} (view : X → List Word) (old new left : Unread) (refused : TextRefused) (answer : Result (Option X) TextRefused) → TakesNext old (Err refused) new
+pub line_refused : {X : Type 0} (view : X → List Word) (old new left : Unread) (refused : TextRefused) (answer : Result (Option X) TextRefused)
+    → TakesNext old (Err refused) new
     → IsErrAnd answer (λ e. e ≡ refused) → TakesWords view old answer left
 line_refused view old new left refused (Ok x) takes is = absurd is
 line_refused view old new left refused (Err texts.Memory) takes is = tt
@@ -68,7 +72,8 @@ bad_words view old new left line (texts.BadWord place) takes gives = (takes.0, f
 bad_words view old new left line (texts.BadNumber place) takes gives = (takes.0, first_line old new line (Err (texts.BadNumber place)) takes gives)
 bad_words view old new left line (texts.BadHex place) takes gives = (takes.0, first_line old new line (Err (texts.BadHex place)) takes gives)
 
-pub words_refused : {X : Type 0} (view : X → List Word) (old new left : Unread) (line : Line) (refused : TextRefused) (answer : Result (Option X) TextRefused) → TakesNext old (Ok (Some line)) new
+pub words_refused : {X : Type 0} (view : X → List Word) (old new left : Unread) (line : Line) (refused : TextRefused) (answer : Result (Option X) TextRefused)
+    → TakesNext old (Ok (Some line)) new
     → GivesInMemory view (Err refused) (words_at line.number line.bytes.now) → IsErrAnd answer (λ e. e ≡ refused) → TakesWords view old answer left
 words_refused view old new left line refused (Ok x) takes gives is = absurd is
 words_refused view old new left line refused (Err e) takes gives is =

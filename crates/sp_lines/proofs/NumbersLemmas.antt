@@ -1,5 +1,6 @@
 -- Numbers with commas between: what is spelled is read, and what is read is spelled.
-use Rattle.std.proofs.Common.{◌≡◌, ℕ, ◌+◌, ◌*◌, ◌<◌, ◌≤◌, ◌^◌, ◌==◌, Bool, true, false, inl, inr, List, [], ◌∷◌, ◌++◌, length, map, Option, Some, None, Ok, refl, sym, ap, subst, ◌∙◌, arith, append-nil, append_assoc}
+use Rattle.std.proofs.Common.{◌≡◌, ℕ, ◌+◌, ◌*◌, ◌<◌, ◌≤◌, ◌^◌, ◌==◌, Bool, true, false, inl, inr, List, [], ◌∷◌, ◌++◌, length, map, Option, Some, None, Ok}
+use Rattle.std.proofs.Common.{refl, sym, ap, subst, ◌∙◌, arith, append-nil, append_assoc}
 use Rattle.std.specs.Prelude.{All, codes}
 use Rattle.std.specs.List.{flat_map, join_with_byte, list_all}
 use Rattle.std.specs.Fmt.{decimal}
@@ -162,7 +163,8 @@ clean_joined (n ∷ m ∷ ns) some small =
     let joined = join_with_byte 44 (map decimal (m ∷ ns)) in
     record {
       full = omega (arith, length-append (decimal n) (44 ∷ joined));
-      bytes = All-append InWord (decimal n) (44 ∷ joined) (clean_number n (head_small n (m ∷ ns) small)).bytes (All-cons InWord 44 joined (omega arith, omega arith) rest.bytes);
+      bytes = All-append InWord (decimal n) (44 ∷ joined) (clean_number n (head_small n (m ∷ ns) small)).bytes
+          (All-cons InWord 44 joined (omega arith, omega arith) rest.bytes);
     }
 
 short_joined : (ns : List ℕ) → 0 < length ns → AreSmall ns → length (join_with_byte 44 (map decimal ns)) + 1 ≤ length ns * 21

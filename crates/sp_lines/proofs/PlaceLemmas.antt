@@ -1,5 +1,6 @@
 -- One place: what is spelled is read, and what is read is spelled.
-use Rattle.std.proofs.Common.{◌≡◌, ℕ, ◌<◌, ◌≤◌, ◌^◌, ◌&&◌, Bool, true, false, inl, inr, List, [], length, Ok, Err, Option, Some, None, refl, sym, ap, ap₂, subst, take, drop, ◌++◌, ◌==◌, ◌∙◌, arith, if◌then◌else◌, append-nil}
+use Rattle.std.proofs.Common.{◌≡◌, ℕ, ◌<◌, ◌≤◌, ◌^◌, ◌&&◌, Bool, true, false, inl, inr, List, [], length, Ok, Err, Option, Some, None, refl, sym, ap, ap₂}
+use Rattle.std.proofs.Common.{subst, take, drop, ◌++◌, ◌==◌, ◌∙◌, arith, if◌then◌else◌, append-nil}
 use Rattle.std.specs.Prelude.{nat_le, nat_lt}
 use Rattle.std.specs.Fmt.{decimal}
 use Rattle.std.proofs.lemmas.Bool.{and_parts, cases_Bool}
@@ -14,12 +15,14 @@ use Rattle.sp_base.specs.declared.limits.TheConstants.{MAX_EDGES}
 use Rattle.sp_base.proofs.NumberLemmas.{AreBytes-big_bytes, bytes_back as number_bytes, number_fits}
 use Rattle.sp_base.proofs.RefusalLemmas.{then_ok}
 use Rattle.sp_text.specs.Spelling.{Word, hex_word}
-use Rattle.sp_lines.specs.Cells.{AreSoMany, IsMask, bytes_at, bytes_of, in_range, mask_at, mask_word, narrow_mask_at, number_at, number_of, of_length, tested_at, wide_mask_at}
+use Rattle.sp_lines.specs.Cells.{AreSoMany, IsMask, bytes_at, bytes_of, in_range, mask_at, mask_word, narrow_mask_at, number_at, number_of, of_length}
+use Rattle.sp_lines.specs.Cells.{tested_at, wide_mask_at}
 use Rattle.sp_lines.specs.declared.fault.Fault.TheVariants as faults
 use Rattle.sp_lines.proofs.Words.{bytes_back, bytes_read, number_back, number_read}
 
 -- ---- what is spelled is read
 
+-- a number in its range is read back from its spelling
 pub number_at_back : (low high n : ℕ) → high < 2 ^ 64 → low ≤ n → n ≤ high → number_at low high (decimal n) ≡ Ok n
 unfolding number_at
 number_at_back low high n room above below =
@@ -31,6 +34,7 @@ pub tested_at_back : (low high n : ℕ) (test : ℕ → Bool) → high < 2 ^ 64 
 unfolding tested_at
 tested_at_back low high n test room above below good = rw (number_at_back low high n room above below) (rw good refl)
 
+-- so many bytes are read back from their spelling
 pub bytes_at_back : (low high : ℕ) (bs : List ℕ) → AreSoMany low high bs → bytes_at low high (hex_word bs) ≡ Ok bs
 unfolding bytes_at
 bytes_at_back low high bs is =
@@ -96,6 +100,7 @@ in_range_read low high n (Some m) e = elim (cases_Bool (nat_le low m && nat_le m
       (cc, grind (arith, nat_tests, is), grind (arith, nat_tests, is))
 ]
 
+-- a word that is read as a number is that number's one spelling, and the number is in its range
 pub number_at_read : (low high n : ℕ) (w : Word) → number_at low high w ≡ Ok n → (w ≡ decimal n) × (low ≤ n) × (n ≤ high)
 unfolding number_at
 number_at_read low high n w e =
@@ -106,7 +111,8 @@ tested_read : (t : Bool) (n m : ℕ) → (if t then Ok m else Err faults.Range) 
 tested_read true n m e = (cc, refl)
 tested_read false n m e = absurd (cc)
 
-pub tested_at_read : (low high n : ℕ) (test : ℕ → Bool) (w : Word) → tested_at low high test w ≡ Ok n → (w ≡ decimal n) × (low ≤ n) × (n ≤ high) × (test n ≡ true)
+pub tested_at_read : (low high n : ℕ) (test : ℕ → Bool) (w : Word) → tested_at low high test w ≡ Ok n
+    → (w ≡ decimal n) × (low ≤ n) × (n ≤ high) × (test n ≡ true)
 unfolding tested_at
 tested_at_read low high n test w e =
     let step = then_ok (number_at low high w) (λ m. if test m then Ok m else Err faults.Range) n e in
@@ -126,6 +132,7 @@ of_length_read low high bs (Some cs) e = elim (cases_Bool (nat_le low (length cs
       (cc, grind (arith, nat_tests, long), grind (arith, nat_tests, long))
 ]
 
+-- a word that is read as bytes is their one spelling, and they are so many
 pub bytes_at_read : (low high : ℕ) (bs : List ℕ) (w : Word) → bytes_at low high w ≡ Ok bs → (w ≡ hex_word bs) × AreSoMany low high bs
 unfolding bytes_at
 bytes_at_read low high bs w e =

@@ -12,10 +12,12 @@ use Rattle.sp_lines.specs.declared.fault.Fault.{Fault}
 use Rattle.sp_lines.specs.declared.fault.Fault.TheVariants as faults
 use Rattle.sp_lines.proofs.NumbersLemmas.{cons_same, numbers_at_back, numbers_at_read}
 use Rattle.sp_lines.proofs.Words.{same_self, same_words}
-use Rattle.sp_lines.proofs.PlaceLemmas.{bytes_at_back, bytes_at_read, mask_at_back, mask_at_read, number_at_back, number_at_read, tested_at_back, tested_at_read}
+use Rattle.sp_lines.proofs.PlaceLemmas.{bytes_at_back, bytes_at_read, mask_at_back, mask_at_read, number_at_back, number_at_read, tested_at_back}
+use Rattle.sp_lines.proofs.PlaceLemmas.{tested_at_read}
 
 -- ---- what is spelled is read
 
+-- values in their ranges are read back from the words that spell them
 pub row_back : (cs : List Cell) (xs : Values cs) → HaveRoom cs → AreIn cs xs → row_at cs (spelled cs xs) ≡ Ok xs
 row_back [] xs room are = refl
 row_back (Name w ∷ cs) xs room are = row_back cs xs room are
@@ -68,7 +70,8 @@ row_read (Number low high ∷ cs) (x ∷ ws) xs long agree e =
     let first = number_at_read low high one.0 x one.1 in
     let more = row_read cs ws two.0 (omega (arith, long)) agree two.1 in
     let pair : (one.0, two.0) ≡ xs = let f : Ok (one.0, two.0) ≡ Ok xs = two.2 in cc in
-    let both : AreIn (Number low high ∷ cs) (one.0, two.0) × ((x ∷ ws) ≡ spelled (Number low high ∷ cs) (one.0, two.0)) = ((first.1, first.2, more.0), cons_same _ _ _ _ first.0 more.1) in
+    let both : AreIn (Number low high ∷ cs) (one.0, two.0) × ((x ∷ ws) ≡ spelled (Number low high ∷ cs) (one.0, two.0)) =
+    ((first.1, first.2, more.0), cons_same _ _ _ _ first.0 more.1) in
     subst (λ (z : Values (Number low high ∷ cs)). AreIn (Number low high ∷ cs) z × ((x ∷ ws) ≡ spelled (Number low high ∷ cs) z)) pair both
 row_read (Tested low high test ∷ cs) (x ∷ ws) xs long agree e =
     let one = then_ok (tested_at low high test x) (λ n. row_at cs ws >>= λ ns. Ok (n, ns)) xs e in
@@ -85,7 +88,8 @@ row_read (Bytes low high ∷ cs) (x ∷ ws) xs long agree e =
     let first = bytes_at_read low high one.0 x one.1 in
     let more = row_read cs ws two.0 (omega (arith, long)) agree two.1 in
     let pair : (one.0, two.0) ≡ xs = let f : Ok (one.0, two.0) ≡ Ok xs = two.2 in cc in
-    let both : AreIn (Bytes low high ∷ cs) (one.0, two.0) × ((x ∷ ws) ≡ spelled (Bytes low high ∷ cs) (one.0, two.0)) = ((first.1, more.0), cons_same _ _ _ _ first.0 more.1) in
+    let both : AreIn (Bytes low high ∷ cs) (one.0, two.0) × ((x ∷ ws) ≡ spelled (Bytes low high ∷ cs) (one.0, two.0)) =
+    ((first.1, more.0), cons_same _ _ _ _ first.0 more.1) in
     subst (λ (z : Values (Bytes low high ∷ cs)). AreIn (Bytes low high ∷ cs) z × ((x ∷ ws) ≡ spelled (Bytes low high ∷ cs) z)) pair both
 row_read (Mask format ∷ cs) (x ∷ ws) xs long agree e =
     let one = then_ok (mask_at format x) (λ n. row_at cs ws >>= λ ns. Ok (n, ns)) xs e in
@@ -93,7 +97,8 @@ row_read (Mask format ∷ cs) (x ∷ ws) xs long agree e =
     let first = mask_at_read format one.0 x one.1 in
     let more = row_read cs ws two.0 (omega (arith, long)) agree two.1 in
     let pair : (one.0, two.0) ≡ xs = let f : Ok (one.0, two.0) ≡ Ok xs = two.2 in cc in
-    let both : AreIn (Mask format ∷ cs) (one.0, two.0) × ((x ∷ ws) ≡ spelled (Mask format ∷ cs) (one.0, two.0)) = ((first.1, more.0), cons_same _ _ _ _ first.0 more.1) in
+    let both : AreIn (Mask format ∷ cs) (one.0, two.0) × ((x ∷ ws) ≡ spelled (Mask format ∷ cs) (one.0, two.0)) =
+    ((first.1, more.0), cons_same _ _ _ _ first.0 more.1) in
     subst (λ (z : Values (Mask format ∷ cs)). AreIn (Mask format ∷ cs) z × ((x ∷ ws) ≡ spelled (Mask format ∷ cs) z)) pair both
 row_read (Numbers count high ∷ cs) (x ∷ ws) xs long agree e =
     let one = then_ok (numbers_at count high x) (λ n. row_at cs ws >>= λ ns. Ok (n, ns)) xs e in
@@ -101,7 +106,8 @@ row_read (Numbers count high ∷ cs) (x ∷ ws) xs long agree e =
     let first = numbers_at_read count high one.0 x one.1 in
     let more = row_read cs ws two.0 (omega (arith, long)) agree two.1 in
     let pair : (one.0, two.0) ≡ xs = let f : Ok (one.0, two.0) ≡ Ok xs = two.2 in cc in
-    let both : AreIn (Numbers count high ∷ cs) (one.0, two.0) × ((x ∷ ws) ≡ spelled (Numbers count high ∷ cs) (one.0, two.0)) = ((first.1, more.0), cons_same _ _ _ _ first.0 more.1) in
+    let both : AreIn (Numbers count high ∷ cs) (one.0, two.0) × ((x ∷ ws) ≡ spelled (Numbers count high ∷ cs) (one.0, two.0)) =
+    ((first.1, more.0), cons_same _ _ _ _ first.0 more.1) in
     subst (λ (z : Values (Numbers count high ∷ cs)). AreIn (Numbers count high ∷ cs) z × ((x ∷ ws) ≡ spelled (Numbers count high ∷ cs) z)) pair both
 
 -- words that fit a row: their count and their names
@@ -114,12 +120,14 @@ if_fits : {X : Type 0} (t : Bool) (r : Result X Fault) (x : X) → (if t then r 
 if_fits true r x e = (refl, e)
 if_fits false r x e = absurd (cc)
 
+-- a line that is read is the one spelling of its values, and they are in their ranges
 pub line_read : (cs : List Cell) (ws : List Word) (xs : Values cs) → line_of cs ws ≡ Ok xs → AreIn cs xs × (ws ≡ spelled cs xs)
 line_read cs ws xs e =
     let parts = if_fits (fits cs ws) (row_at cs ws) xs e in
     let fit = fit_parts cs ws parts.0 in
     row_read cs ws xs fit.0 fit.1 parts.1
 
+-- values in their ranges are read back from the line that spells them
 pub line_back : (cs : List Cell) (xs : Values cs) → HaveRoom cs → AreIn cs xs → line_of cs (spelled cs xs) ≡ Ok xs
 line_back cs xs room are = rw (fits_spelled cs xs) (row_back cs xs room are)
 

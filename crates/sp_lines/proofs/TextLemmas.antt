@@ -27,7 +27,8 @@ pub spelled_first : (number : ℕ) (text rest : List ℕ) (words : List Word) �
 unfolding first_words
 spelled_first number text rest words first = go (line_at number text) refl (λ i. first i)
   where
-    at_words : (line : LineText) (left : List ℕ) (read : Result (List Word) TextRefused) → line_at number text ≡ Ok (line, left) → words_at number line.bytes ≡ read
+    at_words : (line : LineText) (left : List ℕ) (read : Result (List Word) TextRefused) → line_at number text ≡ Ok (line, left)
+        → words_at number line.bytes ≡ read
         → before_rest left read ≡ Ok (words, rest) → text ≡ line_text words ++ rest
     at_words line left (Ok ws) split read is =
         let pairs : (ws, left) ≡ (words, rest) = cc in
@@ -38,7 +39,8 @@ spelled_first number text rest words first = go (line_at number text) refl (λ i
         begins.0.split ∙ rw (spelled.0, same_words, same_rest) (simp append_assoc)
     at_words line left (Err refused) split read is = absurd cc
 
-    go : (read : Result (LineText × List ℕ) TextRefused) → line_at number text ≡ read → (read >>= λ line. before_rest line.1 (words_at number line.0.bytes)) ≡ Ok (words, rest)
+    go : (read : Result (LineText × List ℕ) TextRefused) → line_at number text ≡ read
+        → (read >>= λ line. before_rest line.1 (words_at number line.0.bytes)) ≡ Ok (words, rest)
         → text ≡ line_text words ++ rest
     go (Ok line) is all = at_words line.0 line.1 (words_at number line.0.bytes) is refl all
     go (Err refused) is all = absurd cc
@@ -77,7 +79,12 @@ short_number n small = length-decimal-le 20 n (omega arith) (omega arith) small
 
 -- a name is a word
 pub clean_name : (word : Word) → list_all is_word_byte word ≡ true → 0 < length word → IsWord word
-clean_name word test full = record { full = full; bytes = All-weaker (λ b. is_word_byte b ≡ true) (λ b. (33 ≤ b) × (b ≤ 126)) within word (AllPass-from_list_all is_word_byte word test) }
+clean_name word test full =
+    record {
+      full = full;
+      bytes =
+          All-weaker (λ b. is_word_byte b ≡ true) (λ b. (33 ≤ b) × (b ≤ 126)) within word (AllPass-from_list_all is_word_byte word test);
+    }
   where
     within : (b : ℕ) → is_word_byte b ≡ true → (33 ≤ b) × (b ≤ 126)
     within b is = (grind (arith, nat_tests), grind (arith, nat_tests))

@@ -1,5 +1,6 @@
 -- The lines of a good row can be read: their words are words, and they aren't too long.
-use Rattle.std.proofs.Common.{◌≡◌, ℕ, ◌+◌, ◌*◌, ◌<◌, ◌≤◌, ◌^◌, ◌&&◌, ◌==◌, ◌++◌, Bool, true, false, if◌then◌else◌, List, [], ◌∷◌, length, refl, arith, length-append}
+use Rattle.std.proofs.Common.{◌≡◌, ℕ, ◌+◌, ◌*◌, ◌<◌, ◌≤◌, ◌^◌, ◌&&◌, ◌==◌, ◌++◌, Bool, true, false, if◌then◌else◌, List, [], ◌∷◌, length, refl, arith}
+use Rattle.std.proofs.Common.{length-append}
 use Rattle.std.specs.Prelude.{All, nat_le, nat_lt, slice_index, codes, ◌/◌, ◌%◌}
 use Rattle.std.specs.List.{join_with_byte, list_all}
 use Rattle.std.specs.Fmt.{decimal}
@@ -92,14 +93,18 @@ joined_long (w ∷ v ∷ ws) some =
     let more = joined_long (v ∷ ws) (omega arith) in
     omega (arith, length-append w (32 ∷ join_with_byte 32 (v ∷ ws)), more)
 
+-- cells that pass the test have room for whatever is in their ranges
 pub good_cells : (cs : List Cell) → list_all is_good_cell cs ≡ true → HaveRoom cs
 good_cells [] good = tt
 good_cells (Name w ∷ cs) good = good_cells cs (and_parts (is_good_cell (Name w)) (list_all is_good_cell cs) good).1
-good_cells (Number low high ∷ cs) good = let both = and_parts (is_good_cell (Number low high)) (list_all is_good_cell cs) good in (grind (arith, nat_tests, both.0), good_cells cs both.1)
-good_cells (Tested low high test ∷ cs) good = let both = and_parts (is_good_cell (Tested low high test)) (list_all is_good_cell cs) good in (grind (arith, nat_tests, both.0), good_cells cs both.1)
+good_cells (Number low high ∷ cs) good = let both = and_parts (is_good_cell (Number low high)) (list_all is_good_cell cs) good in
+    (grind (arith, nat_tests, both.0), good_cells cs both.1)
+good_cells (Tested low high test ∷ cs) good = let both = and_parts (is_good_cell (Tested low high test)) (list_all is_good_cell cs) good in
+    (grind (arith, nat_tests, both.0), good_cells cs both.1)
 good_cells (Bytes low high ∷ cs) good = good_cells cs good
 good_cells (Mask format ∷ cs) good = good_cells cs good
-good_cells (Numbers count high ∷ cs) good = let both = and_parts (is_good_cell (Numbers count high)) (list_all is_good_cell cs) good in (grind (arith, nat_tests, both.0), good_cells cs both.1)
+good_cells (Numbers count high ∷ cs) good = let both = and_parts (is_good_cell (Numbers count high)) (list_all is_good_cell cs) good in
+    (grind (arith, nat_tests, both.0), good_cells cs both.1)
 
 -- the words of a row, and how long they are
 record IsClean (ws : List Word) (most : ℕ) : Type 0 where
@@ -127,14 +132,16 @@ clean_row (Tested low high test ∷ cs) xs good are =
     let small = good_number low high xs.0 both.0 are.1 in
     one_more (decimal xs.0) (spelled cs xs.1) 21 (widths cs) (clean_number xs.0 small) (omega (arith, short_number xs.0 small)) (clean_row cs xs.1 both.1 are.3)
 clean_row (Bytes low high ∷ cs) xs good are =
-    one_more (hex_word xs.0) (spelled cs xs.1) (high * 2 + 2) (widths cs) (clean_bytes xs.0 are.0.2) (omega (arith, short_bytes xs.0 high are.0.1)) (clean_row cs xs.1 good are.1)
+    one_more (hex_word xs.0) (spelled cs xs.1) (high * 2 + 2) (widths cs) (clean_bytes xs.0 are.0.2) (omega (arith, short_bytes xs.0 high are.0.1))
+    (clean_row cs xs.1 good are.1)
 clean_row (Mask format ∷ cs) xs good are =
     one_more (mask_word format xs.0) (spelled cs xs.1) (by_format format 33 65) (widths cs) (clean_mask format xs.0) (short_mask format xs.0)
     (clean_row cs xs.1 good are.1)
 clean_row (Numbers count high ∷ cs) xs good are =
     let both = and_parts (is_good_cell (Numbers count high)) (list_all is_good_cell cs) good in
     let room : high < 2 ^ 64 = grind (arith, nat_tests, both.0) in
-    one_more (numbers_word xs.0) (spelled cs xs.1) (count * 21 + 5) (widths cs) (clean_numbers count high xs.0 room are.0) (short_numbers count high xs.0 room are.0)
+    one_more (numbers_word xs.0) (spelled cs xs.1) (count * 21 + 5) (widths cs) (clean_numbers count high xs.0 room are.0)
+    (short_numbers count high xs.0 room are.0)
     (clean_row cs xs.1 both.1 are.1)
 
 -- the line of values in the ranges of a good row can be read

@@ -1,5 +1,6 @@
 -- Words and the values that they spell: each value has one word, and each word at most one value.
-use Rattle.std.proofs.Common.{◌≡◌, ◌≢◌, ℕ, ◌<◌, ◌^◌, ◌&&◌, Bool, true, false, inl, inr, List, [], ◌∷◌, length, Result, Ok, Err, Option, Some, None, refl, sym, ap, subst, arith, if◌then◌else◌}
+use Rattle.std.proofs.Common.{◌≡◌, ◌≢◌, ℕ, ◌<◌, ◌^◌, ◌&&◌, Bool, true, false, inl, inr, List, [], ◌∷◌, length, Result, Ok, Err, Option, Some, None, refl, sym}
+use Rattle.std.proofs.Common.{ap, subst, arith, if◌then◌else◌}
 use Rattle.std.specs.Prelude.{IfOk, IfSome, IfNone, nat_lt, codes}
 use Rattle.std.specs.Cmp.Lexicographic.{bytes_decides}
 use Rattle.std.specs.Fmt.{decimal}
@@ -19,9 +20,11 @@ use Rattle.sp_base.specs.declared.memory.Memory.{Memory}
 use Rattle.sp_lines.specs.Cells.{bytes_of, if_bytes, number_of, same}
 use Rattle.sp_lines.specs.Answers.{Found}
 
+-- a word is the same as itself
 pub same_self : (w : Word) → same w w ≡ true
 same_self w = (bytes_decides w w).1 refl
 
+-- words that are told as the same are equal
 pub same_words : (a b : Word) → same a b ≡ true → a ≡ b
 same_words a b e = (bytes_decides a b).0 e
 
@@ -35,7 +38,8 @@ number_back n small =
     let itself : same (decimal n) (decimal n) ≡ true = same_self (decimal n) in
     rw (value, itself, within) refl
 
-if_number_read : (t u : Bool) (m n : ℕ) (w : Word) → same (decimal m) w ≡ t → nat_lt m (2 ^ 64) ≡ u → (if t && u then Some m else None) ≡ Some n → (w ≡ decimal n) × (n < 2 ^ 64)
+if_number_read : (t u : Bool) (m n : ℕ) (w : Word) → same (decimal m) w ≡ t → nat_lt m (2 ^ 64) ≡ u → (if t && u then Some m else None) ≡ Some n
+    → (w ≡ decimal n) × (n < 2 ^ 64)
 if_number_read true true m n w is small e =
     let f : Some m ≡ Some n = e in
     let g : m ≡ n = cc in
@@ -54,7 +58,8 @@ no_number w None is none = sym is
 no_number w (Some n) is none = let read = number_read w n is in absurd (none n read.1 read.0)
 
 -- what a search for a number answers is the number of the word
-pub number_is : (w : Word) (r : Option ℕ) → IfSome r (λ n. w ≡ decimal n) → IfSome r (λ n. n < 2 ^ 64) → IfNone r ((n : ℕ) → n < 2 ^ 64 → w ≢ decimal n) → r ≡ number_of w
+pub number_is : (w : Word) (r : Option ℕ) → IfSome r (λ n. w ≡ decimal n) → IfSome r (λ n. n < 2 ^ 64) → IfNone r ((n : ℕ) → n < 2 ^ 64 → w ≢ decimal n)
+    → r ≡ number_of w
 number_is w (Some n) found small none = sym (rw found (number_back n small))
 number_is w None found small none = no_number w (number_of w) refl none
 
@@ -87,7 +92,8 @@ bytes_back (b ∷ bs) are =
     let itself : same (encode_lower (b ∷ bs)) (encode_lower (b ∷ bs)) ≡ true = same_self (encode_lower (b ∷ bs)) in
     rw (apart, decoded, itself) refl
 
-if_bytes_read : (t : Bool) (r : Result (List ℕ) FromHexError) (bs : List ℕ) (w : Word) → decode_of w ≡ r → if_bytes r w ≡ Some bs → (w ≡ hex_word bs) × AreBytes bs
+if_bytes_read : (t : Bool) (r : Result (List ℕ) FromHexError) (bs : List ℕ) (w : Word) → decode_of w ≡ r → if_bytes r w ≡ Some bs
+    → (w ≡ hex_word bs) × AreBytes bs
 if_bytes_read t (Ok cs) bs w decoded read =
     elim (cases_Bool (same (hex_word cs) w)) [
       | inr f ↦ absurd (let g = rw f at read in cc)
@@ -116,7 +122,8 @@ no_bytes w None is none = sym is
 no_bytes w (Some bs) is none = let read = bytes_read w bs is in absurd (none bs read.1 read.0)
 
 -- what a search for bytes answers are the bytes of the word
-pub bytes_are : (w : Word) (r : Option (List ℕ)) → IfSome r (λ bs. w ≡ hex_word bs) → IfSome r AreBytes → IfNone r ((bs : List ℕ) → AreBytes bs → w ≢ hex_word bs) → r ≡ bytes_of w
+pub bytes_are : (w : Word) (r : Option (List ℕ)) → IfSome r (λ bs. w ≡ hex_word bs) → IfSome r AreBytes
+    → IfNone r ((bs : List ℕ) → AreBytes bs → w ≢ hex_word bs) → r ≡ bytes_of w
 bytes_are w (Some bs) found are none = sym (rw found (bytes_back bs are))
 bytes_are w None found are none = no_bytes w (bytes_of w) refl none
 

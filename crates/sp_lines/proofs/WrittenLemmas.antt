@@ -15,7 +15,8 @@ joined w [] = append-nil w
 joined w (v ∷ ws) = ap (λ (xs : List ℕ). w ++ 32 ∷ xs) (joined v ws)
 
 -- a name, its fields and a newline are a line
-pub line_written : (name : Word) (fields : List Word) (old a b new : List ℕ) → a ≡ old ++ name → b ≡ a ++ after_spaces fields → new ≡ b ++ 10 ∷ [] → new ≡ old ++ line_text (name ∷ fields)
+pub line_written : (name : Word) (fields : List Word) (old a b new : List ℕ) → a ≡ old ++ name → b ≡ a ++ after_spaces fields → new ≡ b ++ 10 ∷ []
+    → new ≡ old ++ line_text (name ∷ fields)
 line_written name fields old a b new is_a is_b is_new =
     let pieces : new ≡ old ++ ((name ++ after_spaces fields) ++ 10 ∷ []) = is_new ∙ rw (is_b, is_a) (simp append_assoc) in
     pieces ∙ ap (λ (xs : List ℕ). old ++ (xs ++ 10 ∷ [])) (joined name fields)

@@ -39,6 +39,7 @@ pub data Cell : Type 0 where
 abbrev pub same : Word → Word → Bool
 same a b = pointwise nat_eq a b
 
+-- the number that a word spells: its one spelling, below 2^64
 abbrev pub if_number : ℕ → Word → Option ℕ
 if_number n word = if same (decimal n) word && nat_lt n (2 ^ 64) then Some n else None
 
@@ -46,6 +47,7 @@ if_number n word = if same (decimal n) word && nat_lt n (2 ^ 64) then Some n els
 unfoldable pub number_of : Word → Option ℕ
 number_of word = if_number (digits_value 10 word) word
 
+-- the bytes that a word spells: their one spelling
 abbrev pub if_bytes : Result (List ℕ) FromHexError → Word → Option (List ℕ)
 if_bytes (Ok bs) word = if same (hex_word bs) word then Some bs else None
 if_bytes (Err e) word = None
@@ -56,6 +58,7 @@ bytes_of word = if same word (hex_word []) then Some [] else if_bytes (decode_of
 
 -- ---- one place
 
+-- a number that was read, if it is in its range
 abbrev pub in_range : ℕ → ℕ → Option ℕ → Result ℕ Fault
 in_range low high None = Err faults.Number
 in_range low high (Some n) = if nat_le low n && nat_le n high then Ok n else Err faults.Range
@@ -68,6 +71,7 @@ number_at low high word = in_range low high (number_of word)
 unfoldable pub tested_at : ℕ → ℕ → (ℕ → Bool) → Word → Result ℕ Fault
 tested_at low high test word = number_at low high word >>= λ n. if test n then Ok n else Err faults.Range
 
+-- bytes that were read, if they are as many as they may be
 abbrev pub of_length : ℕ → ℕ → Option (List ℕ) → Result (List ℕ) Fault
 of_length low high None = Err faults.Hex
 of_length low high (Some bs) = if nat_le low (length bs) && nat_le (length bs) high then Ok bs else Err faults.Range
@@ -92,6 +96,7 @@ narrow_mask_at word = bytes_at 16 16 word >>= λ bs. if nat_lt (big_number 16 bs
 unfoldable pub wide_mask_at : Word → Result (ℕ × ℕ) Fault
 wide_mask_at word = bytes_at 32 32 word >>= λ bs. Ok (big_number 16 bs, big_number 16 (drop 16 bs))
 
+-- a mask of this format, as its two halves
 unfoldable pub mask_at : ℕ → Word → Result (ℕ × ℕ) Fault
 mask_at format word = if format == FORMAT_1 then narrow_mask_at word else wide_mask_at word
 
@@ -110,6 +115,7 @@ AreSoMany low high bs = (low ≤ length bs) × (length bs ≤ high) × AreBytes 
 abbrev pub pieces : Word → List Word
 pieces word = slice_split (λ byte. byte == 44) word
 
+-- whether a word spells a number
 abbrev pub is_number : Word → Bool
 is_number word = is_some (number_of word)
 
@@ -118,6 +124,7 @@ abbrev pub each_at : ℕ → List Word → Result (List ℕ) Fault
 each_at high [] = Ok []
 each_at high (word ∷ words) = number_at 0 high word >>= λ n. each_at high words >>= λ ns. Ok (n ∷ ns)
 
+-- so many numbers up to this one, or a fault where there are more or fewer words
 abbrev pub so_many_at : ℕ → ℕ → List Word → Result (Option (List ℕ)) Fault
 so_many_at count high words = if length words == count then (each_at high words >>= λ ns. Ok (Some ns)) else Err faults.Range
 

@@ -25,7 +25,8 @@ root_found lms one_time id key signature q n count siblings node root long q_is 
     let behind : 8 + n ≡ 8 + ots.signature_len one_time = omega (arith, n_is) in
     let rest : take (length signature - (8 + n)) (drop (8 + n) signature) ≡ drop (8 + ots.signature_len one_time) signature =
     take_rest signature (8 + n) ∙ ap (λ (k : ℕ). drop k signature) behind in
-    let pieces : length (drop (8 + ots.signature_len one_time) signature) / 32 ≡ height lms = omega (arith, length-drop (8 + ots.signature_len one_time) signature, long) in
+    let pieces : length (drop (8 + ots.signature_len one_time) signature) / 32 ≡ height lms =
+    omega (arith, length-drop (8 + ots.signature_len one_time) signature, long) in
     let path : siblings ≡ path_of lms one_time signature = cut ∙ rw (rest, pieces) refl in
     let levels : length siblings ≡ height lms = ap length path ∙ length-chunks (height lms) (drop (8 + ots.signature_len one_time) signature) in
     let leaf : node ≡ leaf_hash id (leaf_count lms + leaf_of signature) key = node_is ∙ rw (count_is, q_is) refl in
@@ -66,7 +67,8 @@ one_time_long lms one_time signature long =
     length-take-le (4 + n - 4) (drop 4 signature) (omega (arith, length-drop 4 signature, long)) ∙ omega arith
 
 -- a claim that a one-time signature stands in a signature: its parts
-pub record IsWithin (lms : LmsParam) (one_time : OtsParam) (id message signature : List ℕ) (param : OtsParam) (claim_id : List ℕ) (q : ℕ) (claim_message part : List ℕ) : Type 0 where
+pub record IsWithin (lms : LmsParam) (one_time : OtsParam) (id message signature : List ℕ) (param : OtsParam) (claim_id : List ℕ) (q : ℕ)
+    (claim_message part : List ℕ) : Type 0 where
   pub form_is : HasForm lms one_time signature
   pub param_is : param ≡ one_time
   pub id_is : claim_id ≡ id
@@ -75,16 +77,19 @@ pub record IsWithin (lms : LmsParam) (one_time : OtsParam) (id message signature
   pub part_is : part ≡ one_time_of one_time signature
 
 -- where the whole is valid, so is the form of the one-time signature
-pub form_within : (lms : LmsParam) (one_time : OtsParam) (id root message signature : List ℕ) (param : OtsParam) (claim_id : List ℕ) (q : ℕ) (claim_message part : List ℕ)
+pub form_within : (lms : LmsParam) (one_time : OtsParam) (id root message signature : List ℕ) (param : OtsParam) (claim_id : List ℕ) (q : ℕ)
+    (claim_message part : List ℕ)
     → IsWithin lms one_time id message signature param claim_id q claim_message part → IsValidUnder lms one_time id root message signature
     → one_form.HasForm param part
 form_within lms one_time id root message signature param claim_id q claim_message part within valid =
     rw (within.param_is, within.part_is) (one_time_long lms one_time signature valid.length_is, valid.one_time_is)
 
 -- and the whole is valid exactly where the key of the claim leads to the root
-pub valid_within : (lms : LmsParam) (one_time : OtsParam) (id root message signature : List ℕ) (param : OtsParam) (claim_id : List ℕ) (q : ℕ) (claim_message part key : List ℕ)
+pub valid_within : (lms : LmsParam) (one_time : OtsParam) (id root message signature : List ℕ) (param : OtsParam) (claim_id : List ℕ) (q : ℕ)
+    (claim_message part key : List ℕ)
     → IsWithin lms one_time id message signature param claim_id q claim_message part → one.IsValid param claim_id q key claim_message part
     → (root ≡ root_above lms one_time id key signature → IsValidUnder lms one_time id root message signature)
     × (IsValidUnder lms one_time id root message signature → root ≡ root_above lms one_time id key signature)
 valid_within lms one_time id root message signature param claim_id q claim_message part key within valid =
-    valid_by_key lms one_time id root message signature q key within.form_is within.leaf_is (rw (within.param_is, within.id_is, within.message_is, within.part_is) at valid)
+    valid_by_key lms one_time id root message signature q key within.form_is within.leaf_is
+    (rw (within.param_is, within.id_is, within.message_is, within.part_is) at valid)

@@ -25,5 +25,6 @@ unfolding seed_leaf
 leaf_at lms ots id seed q k keys node count lt count_is made hashed =
     let f : ℕ → List ℕ = λ leaf. public_key ots id leaf seed in
     let own : leaf_count lms + (q + k) - leaf_count lms ≡ q + k = omega arith in
-    let key : get_or keys k [] ≡ f (q + k) = ap (λ (ks : List (List ℕ)). get_or ks k []) made ∙ get_or-map-range_with_len f q lanes k (q + k) [] lt (omega arith) in
+    let key : get_or keys k [] ≡ f (q + k) =
+    ap (λ (ks : List (List ℕ)). get_or ks k []) made ∙ get_or-map-range_with_len f q lanes k (q + k) [] lt (omega arith) in
     hashed ∙ rw (count_is, key, own) refl

@@ -1,5 +1,6 @@
 -- Growing a tree: one leaf more, and the nodes above it that are whole by it.
-use Rattle.std.proofs.Common.{◌≡◌, ◌≢◌, ℕ, ◌+◌, ◌-◌, ◌*◌, ◌/◌, ◌%◌, ◌^◌, ◌<◌, ◌≤◌, List, [], length, set, slice_index_or, refl, sym, ◌∙◌, ap, add-zero, add-one, arith, inl, inr}
+use Rattle.std.proofs.Common.{◌≡◌, ◌≢◌, ℕ, ◌+◌, ◌-◌, ◌*◌, ◌/◌, ◌%◌, ◌^◌, ◌<◌, ◌≤◌, List, [], length, set, slice_index_or, refl, sym, ◌∙◌, ap, add-zero, add-one}
+use Rattle.std.proofs.Common.{arith, inl, inr}
 use Rattle.std.proofs.Math.Nat.{div-one, div-div-eq-div-mul, mul-div_cancel}
 use Rattle.std.proofs.Math.Pow.{pow-add, pow_mono}
 use Rattle.std.proofs.lemmas.Bool.{cases_lt}

@@ -35,7 +35,8 @@ sibling_kept height id leaf nodes level r kept within low high =
     kept.node level (height - level) (sibling (r / 2 ^ level)) (omega arith) there
 
 -- what is read at the number of the sibling
-pub sibling_read : (height : ℕ) (id : List ℕ) (leaf : ℕ → List ℕ) (nodes : List (List ℕ)) (level r number place : ℕ) (x : List ℕ) → HasNodes height id leaf nodes
+pub sibling_read : (height : ℕ) (id : List ℕ) (leaf : ℕ → List ℕ) (nodes : List (List ℕ)) (level r number place : ℕ) (x : List ℕ)
+    → HasNodes height id leaf nodes
     → level < height → 2 ^ height ≤ r → r < 2 * 2 ^ height → number ≡ r / 2 ^ level → place ≡ sibling number → x ≡ slice_index_or nodes place x
     → x ≡ tree_node id leaf level (sibling (r / 2 ^ level))
 sibling_read height id leaf nodes level r number place x kept within low high number_is place_is read =

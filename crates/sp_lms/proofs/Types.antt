@@ -37,5 +37,6 @@ same_one_time W8 W2 e = cc
 same_one_time W8 W4 e = cc
 same_one_time W8 W8 e = refl
 
+-- the bytes of a public key have one pair of types
 pub same_types : (a b : LmsParam) (c d : OtsParam) (public : List ℕ) → HasTypes a c public → HasTypes b d public → (a ≡ b) × (c ≡ d)
 same_types a b c d public one other = (same_tree a b (sym one.tree_is ∙ other.tree_is), same_one_time c d (sym one.one_time_is ∙ other.one_time_is))

@@ -53,7 +53,8 @@ length-seed_leaf lms one_time id seed r = length-sha256 (id ++ u32str r ++ u16st
 length-tree_node : (id : List ℕ) (leaf : ℕ → List ℕ) → ((r : ℕ) → length (leaf r) ≡ 32) → (level r : ℕ) → length (tree_node id leaf level r) ≡ 32
 unfolding tree_node inner_hash
 length-tree_node id leaf long zero r = long r
-length-tree_node id leaf long (suc level) r = length-sha256 (id ++ u32str r ++ u16str 33667 ++ tree_node id leaf level (2 * r) ++ tree_node id leaf level (2 * r + 1))
+length-tree_node id leaf long (suc level) r =
+    length-sha256 (id ++ u32str r ++ u16str 33667 ++ tree_node id leaf level (2 * r) ++ tree_node id leaf level (2 * r + 1))
 
 -- the parts of a public key
 public_parts : (lms : LmsParam) (one_time : OtsParam) (id seed : List ℕ) → length id ≡ 16

@@ -1,5 +1,6 @@
 -- What is encoded is read back.
-use Rattle.std.proofs.Common.{◌≡◌, ℕ, ◌<◌, ◌-◌, ◌^◌, ◌==◌, Bool, true, false, List, [], ◌∷◌, ◌++◌, length, append_assoc, append-nil, Ok, Err, if◌then◌else◌, refl, sym, ap, ◌∙◌, arith, lit<}
+use Rattle.std.proofs.Common.{◌≡◌, ℕ, ◌<◌, ◌-◌, ◌^◌, ◌==◌, Bool, true, false, List, [], ◌∷◌, ◌++◌, length, append_assoc, append-nil, Ok, Err, if◌then◌else◌}
+use Rattle.std.proofs.Common.{refl, sym, ap, ◌∙◌, arith, lit<}
 use Rattle.std.proofs.lemmas.Bool.{ne_eqb}
 use Rattle.byteorder.specs.Endian.{big_bytes}
 use Rattle.sp_base.specs.Formats.{by_format, max_edges, max_nodes}
@@ -11,7 +12,9 @@ use Rattle.sp_msg.specs.declared.body.Body.TheVariants as bodies
 use Rattle.sp_msg.specs.declared.body.TheConstants.{PRIO, REL, ACK, WEIGHT, KREL, KACK, EPOCH}
 use Rattle.sp_msg.specs.declared.refused.Field.TheVariants as fields
 use Rattle.sp_msg.specs.declared.refused.MsgRefused.TheVariants as refusals
-use Rattle.sp_msg.specs.Bodies.{ack_from, body_at_in, body_of_kind, encoded_in, epoch_fields, epoch_from, flow_fields, kack_from, krel_fields, krel_from, last_of, low_field, numbers_of, of_fields, prio_fields, prio_from, read_body_in, rel_fields, rel_from, weight_fields, weight_from, with_payload}
+use Rattle.sp_msg.specs.Bodies.{ack_from, body_at_in, body_of_kind, encoded_in, epoch_fields, epoch_from, flow_fields, kack_from, krel_fields, krel_from}
+use Rattle.sp_msg.specs.Bodies.{last_of, low_field, numbers_of, of_fields, prio_fields, prio_from, read_body_in, rel_fields, rel_from, weight_fields}
+use Rattle.sp_msg.specs.Bodies.{weight_from, with_payload}
 use Rattle.sp_msg.specs.Fields.{AreInRange, HasRoom, HaveRoom, Rule, free, ranged, spelled}
 use Rattle.sp_msg.specs.Laws.{EncodedIsRead, NoOtherHasItsBytes, TailIsRefused, WholeIsRead}
 use Rattle.sp_msg.proofs.FieldLemmas.{fields_back}

@@ -36,6 +36,7 @@ pub record GoodPrio (format : ℕ) (p : Prio) : Type 0 where
   pub mask : GoodMask format p.mask
   pub payload : length p.payload ≤ MAX_PAYLOAD_BYTES
 
+-- fields of a priority message that are in their ranges meet what its format asks
 pub good_prio : (format : ℕ) (p : Prio) → HasGoodFieldsIn format (bodies.Prio p) → GoodPrio format p
 good_prio format p good = record {
   src = good.1.0;
@@ -48,6 +49,7 @@ good_prio format p good = record {
   payload = good.1.1.1.1.1.1.1.1.1.0.1;
 }
 
+-- a priority message that meets what its format asks has its fields in their ranges
 pub prio_is_good : (format : ℕ) (p : Prio) → GoodPrio format p → HasGoodFieldsIn format (bodies.Prio p)
 prio_is_good format p is =
     (refl, (is.src, (is.dst, (is.sboot, (is.seq, (is.prio, (is.expiry, (is.mask.high, (is.mask.low, ((omega arith, is.payload), tt))))))))))
@@ -60,6 +62,7 @@ pub record GoodRel (format : ℕ) (r : Rel) : Type 0 where
   pub seq : IsWithin 1 MAX_SEQ r.seq
   pub payload : length r.payload ≤ MAX_PAYLOAD_BYTES
 
+-- fields of a reliable message that are in their ranges meet what its format asks
 pub good_rel : (format : ℕ) (r : Rel) → HasGoodFieldsIn format (bodies.Rel r) → GoodRel format r
 good_rel format r good = record {
   src = good.1.0;
@@ -70,6 +73,7 @@ good_rel format r good = record {
   payload = good.1.1.1.1.1.1.0.1;
 }
 
+-- a reliable message that meets what its format asks has its fields in their ranges
 pub rel_is_good : (format : ℕ) (r : Rel) → GoodRel format r → HasGoodFieldsIn format (bodies.Rel r)
 rel_is_good format r is = (refl, (is.src, (is.dst, (is.sboot, (is.dboot, (is.seq, ((omega arith, is.payload), tt)))))))
 
@@ -80,9 +84,11 @@ pub record GoodAck (format : ℕ) (a : Ack) : Type 0 where
   pub dboot : IsInRange (boot_field format) a.dboot
   pub seq : IsWithin 1 MAX_SEQ a.seq
 
+-- fields of an acknowledgement that are in their ranges meet what its format asks
 pub good_ack : (format : ℕ) (a : Ack) → HasGoodFieldsIn format (bodies.Ack a) → GoodAck format a
 good_ack format a good = record { src = good.1.0; dst = good.1.1.0; sboot = good.1.1.1.0; dboot = good.1.1.1.1.0; seq = good.1.1.1.1.1.0 }
 
+-- an acknowledgement that meets what its format asks has its fields in their ranges
 pub ack_is_good : (format : ℕ) (a : Ack) → GoodAck format a → HasGoodFieldsIn format (bodies.Ack a)
 ack_is_good format a is = (refl, (is.src, (is.dst, (is.sboot, (is.dboot, (is.seq, tt))))))
 
@@ -92,9 +98,11 @@ pub record GoodWeight (format : ℕ) (w : WeightBody) : Type 0 where
   pub seq : IsWithin 1 MAX_SEQ w.seq
   pub weight : IsWithin 1 MAX_WEIGHT w.weight
 
+-- fields of an update of a weight that are in their ranges meet what its format asks
 pub good_weight : (format : ℕ) (w : WeightBody) → HasGoodFieldsIn format (bodies.Weight w) → GoodWeight format w
 good_weight format w good = record { origin = good.1.0; edge = good.1.1.0.1; seq = good.1.1.1.0; weight = good.1.1.1.1.0 }
 
+-- an update of a weight that meets what its format asks has its fields in their ranges
 pub weight_is_good : (format : ℕ) (w : WeightBody) → GoodWeight format w → HasGoodFieldsIn format (bodies.Weight w)
 weight_is_good format w is = (refl, (is.origin, ((omega arith, is.edge), (is.seq, (is.weight, tt)))))
 
@@ -107,6 +115,7 @@ pub record GoodKrel (format : ℕ) (r : Krel) : Type 0 where
   pub mask : GoodMask format r.mask
   pub payload : length r.payload ≤ MAX_PAYLOAD_BYTES
 
+-- fields of a message over paths that are in their ranges meet what its format asks
 pub good_krel : (format : ℕ) (r : Krel) → HasGoodFieldsIn format (bodies.Krel r) → GoodKrel format r
 good_krel format r good = record {
   src = good.1.0;
@@ -125,6 +134,7 @@ pub record GoodKack (format : ℕ) (a : Kack) : Type 0 where
   pub dboot : IsInRange (boot_field format) a.dboot
   pub seq : IsWithin 1 MAX_SEQ a.seq
 
+-- fields of an acknowledgement over paths that are in their ranges meet what its format asks
 pub good_kack : (format : ℕ) (a : Kack) → HasGoodFieldsIn format (bodies.Kack a) → GoodKack format a
 good_kack format a good = record { src = good.1.0; dst = good.1.1.0; sboot = good.1.1.1.0; dboot = good.1.1.1.1.0; seq = good.1.1.1.1.1.0 }
 

@@ -37,9 +37,11 @@ pub or_halves : (g h k l : ℕ) → k < HALF → l < HALF → of_halves (bit_or 
 or_halves g h k l one two =
     let both : ℕ = bit_or (of_halves g k) (of_halves h l) in
     let high : both / HALF ≡ bit_or g h =
-    or_shr (of_halves g k) (of_halves h l) 128 ∙ ap (λ n. bit_or n (of_halves h l / HALF)) (div-mul-add g HALF k one) ∙ ap (bit_or g) (div-mul-add h HALF l two) in
+    or_shr (of_halves g k) (of_halves h l) 128 ∙ ap (λ n. bit_or n (of_halves h l / HALF)) (div-mul-add g HALF k one)
+    ∙ ap (bit_or g) (div-mul-add h HALF l two) in
     let low : both % HALF ≡ bit_or k l =
-    or_mod (of_halves g k) (of_halves h l) 128 ∙ ap (λ n. bit_or n (of_halves h l % HALF)) (mod-mul-add g HALF k one) ∙ ap (bit_or k) (mod-mul-add h HALF l two) in
+    or_mod (of_halves g k) (of_halves h l) 128 ∙ ap (λ n. bit_or n (of_halves h l % HALF)) (mod-mul-add g HALF k one)
+    ∙ ap (bit_or k) (mod-mul-add h HALF l two) in
     sym (ap (λ n. of_halves n (bit_or k l)) high) ∙ sym (ap (of_halves (both / HALF)) low) ∙ div-add-mod' both HALF
 
 -- the bit of a place from 128 on, as a high half

@@ -1,5 +1,6 @@
 -- What is read is encoded by the bytes that were read.
-use Rattle.std.proofs.Common.{◌≡◌, ℕ, ◌==◌, Bool, true, false, inl, inr, List, [], ◌∷◌, ◌++◌, length, append_assoc, append-nil, Result, Ok, Err, if◌then◌else◌, refl, sym, ap, ◌∙◌, subst, arith}
+use Rattle.std.proofs.Common.{◌≡◌, ℕ, ◌==◌, Bool, true, false, inl, inr, List, [], ◌∷◌, ◌++◌, length, append_assoc, append-nil, Result, Ok, Err, if◌then◌else◌}
+use Rattle.std.proofs.Common.{refl, sym, ap, ◌∙◌, subst, arith}
 use Rattle.std.specs.Prelude.{IfOk}
 use Rattle.std.proofs.lemmas.Bool.{cases_Bool, eqb-true, ne_eqb}
 use Rattle.byteorder.specs.Endian.{big_bytes}
@@ -16,7 +17,9 @@ use Rattle.sp_msg.specs.declared.body.BodyRef.{BodyRef}
 use Rattle.sp_msg.specs.declared.refused.MsgRefused.{MsgRefused}
 use Rattle.sp_msg.specs.declared.refused.MsgRefused.TheVariants as refusals
 use Rattle.sp_msg.specs.Views.{as_body}
-use Rattle.sp_msg.specs.Bodies.{HasGoodFieldsIn, ack_from, body_at_in, body_of_kind, encoded_in, epoch_fields, epoch_from, fields_of, flow_fields, has_kind, kack_from, kind_of, krel_fields, krel_from, last_of, later_of_kind, numbers_of, of_fields, payload_of, prio_fields, prio_from, read_body_in, rel_fields, rel_from, weight_fields, weight_from, with_payload}
+use Rattle.sp_msg.specs.Bodies.{HasGoodFieldsIn, ack_from, body_at_in, body_of_kind, encoded_in, epoch_fields, epoch_from, fields_of, flow_fields, has_kind}
+use Rattle.sp_msg.specs.Bodies.{kack_from, kind_of, krel_fields, krel_from, last_of, later_of_kind, numbers_of, of_fields, payload_of, prio_fields, prio_from}
+use Rattle.sp_msg.specs.Bodies.{read_body_in, rel_fields, rel_from, weight_fields, weight_from, with_payload}
 use Rattle.sp_msg.specs.Fields.{AreInRange, Rule, fields_at, spelled}
 use Rattle.sp_msg.specs.Laws.{FrontIsEncoded, ReadIsEncoded}
 use Rattle.sp_msg.proofs.FieldLemmas.{BeginsWithFields, fields_read}
@@ -190,7 +193,10 @@ spells format kind rs make bytes body rest m parts = subst (λ b. Spells format 
           ∙ sym (ap (λ ts. spelled ts (numbers_of (make xs parts.payload)) ++ payload_of (make xs parts.payload) ++ rest) (m.table xs parts.payload)
           ∙ ap (λ ys. spelled rs ys ++ payload_of (make xs parts.payload) ++ rest) same
           ∙ ap (λ ps. spelled rs xs ++ ps ++ rest) (m.payload_is xs parts.payload));
-      good = (m.has xs parts.payload, subst (λ ts. AreInRange ts (numbers_of (make xs parts.payload))) (sym (m.table xs parts.payload)) (subst (AreInRange rs) (sym same) parts.in_range));
+      good = (
+        m.has xs parts.payload,
+        subst (λ ts. AreInRange ts (numbers_of (make xs parts.payload))) (sym (m.table xs parts.payload)) (subst (AreInRange rs) (sym same) parts.in_range),
+      );
     }
 
 no_payload : (bytes front rest : List ℕ) → bytes ≡ front ++ rest → bytes ≡ front ++ [] ++ rest
@@ -250,20 +256,24 @@ weight_made : (format : ℕ) → MakesAlone format WEIGHT (weight_fields format)
 weight_made format = record { kind_is = λ xs. refl; has = λ xs. refl; table = λ xs. refl; payload_is = λ xs. refl; numbers = weight_numbers format }
 
 kack_made : (format : ℕ) → (format == FORMAT_1) ≡ false → MakesAlone format KACK (flow_fields format) kack_from
-kack_made format second = record { kind_is = λ xs. refl; has = λ xs. rw second refl; table = λ xs. refl; payload_is = λ xs. refl; numbers = kack_numbers format }
+kack_made format second =
+    record { kind_is = λ xs. refl; has = λ xs. rw second refl; table = λ xs. refl; payload_is = λ xs. refl; numbers = kack_numbers format }
 
 epoch_made : (format : ℕ) → (format == FORMAT_1) ≡ false → MakesAlone format EPOCH (epoch_fields format) epoch_from
-epoch_made format second = record { kind_is = λ xs. refl; has = λ xs. rw second refl; table = λ xs. refl; payload_is = λ xs. refl; numbers = epoch_numbers format }
+epoch_made format second =
+    record { kind_is = λ xs. refl; has = λ xs. rw second refl; table = λ xs. refl; payload_is = λ xs. refl; numbers = epoch_numbers format }
 
 of_table : (format named kind : ℕ) (rs : List Rule) (make : List ℕ → List ℕ → Body) (bytes : List ℕ) (p : Body × List ℕ) → (kind == named) ≡ true
     → Makes format named rs make → AreBytes bytes → with_payload rs make bytes ≡ Ok p → Spells format kind bytes p.0 p.1
 of_table format named kind rs make bytes p is makes are e =
-    subst (λ k. Spells format k bytes p.0 p.1) (sym (eqb-true kind named is)) (spells format named rs make bytes p.0 p.1 makes (with_payload_read rs make bytes p are e))
+    subst (λ k. Spells format k bytes p.0 p.1) (sym (eqb-true kind named is))
+    (spells format named rs make bytes p.0 p.1 makes (with_payload_read rs make bytes p are e))
 
 of_table_alone : (format named kind : ℕ) (rs : List Rule) (make : List ℕ → Body) (bytes : List ℕ) (p : Body × List ℕ) → (kind == named) ≡ true
     → MakesAlone format named rs make → AreBytes bytes → of_fields rs make bytes ≡ Ok p → Spells format kind bytes p.0 p.1
 of_table_alone format named kind rs make bytes p is makes are e =
-    subst (λ k. Spells format k bytes p.0 p.1) (sym (eqb-true kind named is)) (spells_alone format named rs make bytes p.0 p.1 makes (of_fields_read rs make bytes p are e))
+    subst (λ k. Spells format k bytes p.0 p.1) (sym (eqb-true kind named is))
+    (spells_alone format named rs make bytes p.0 p.1 makes (of_fields_read rs make bytes p are e))
 
 -- a kind that format 1 lacks
 of_later : (format kind : ℕ) (bytes : List ℕ) (p : Body × List ℕ) → AreBytes bytes → later_of_kind format kind bytes ≡ Ok p → Spells format kind bytes p.0 p.1
@@ -302,7 +312,8 @@ of_kind format kind bytes p are e = elim (cases_Bool (kind == PRIO)) [
     | inr not_rel ↦ elim (cases_Bool (kind == ACK)) [
       | inl is ↦ of_table_alone format ACK kind (flow_fields format) ack_from bytes p is (ack_made format) are (rw (not_prio, not_rel, is) at e)
       | inr not_ack ↦ elim (cases_Bool (kind == WEIGHT)) [
-        | inl is ↦ of_table_alone format WEIGHT kind (weight_fields format) weight_from bytes p is (weight_made format) are (rw (not_prio, not_rel, not_ack, is) at e)
+        | inl is ↦ of_table_alone format WEIGHT kind (weight_fields format) weight_from bytes p is (weight_made format) are
+            (rw (not_prio, not_rel, not_ack, is) at e)
         | inr not_weight ↦ of_later format kind bytes p are (rw (not_prio, not_rel, not_ack, not_weight) at e)
       ]
     ]

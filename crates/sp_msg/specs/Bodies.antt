@@ -39,9 +39,11 @@ boot_field format = free (by_format format 0 8)
 abbrev pub high_field : ℕ → Rule
 high_field format = free (by_format format 0 16)
 
+-- the lower half of a mask: under format 1 no bit above the greatest edge may stand in it
 abbrev pub low_field : ℕ → Rule
 low_field format = by_format format (ranged Mask 16 0 (2 ^ MAX_EDGES - 1)) (free 16)
 
+-- the fields of a priority message
 abbrev pub prio_fields : ℕ → List Rule
 prio_fields format =
     ranged Src 1 1 (max_nodes format)
@@ -65,9 +67,11 @@ flow_fields format =
     ∷ ranged Seq 8 1 MAX_SEQ
     ∷ []
 
+-- the fields of a reliable message
 abbrev pub rel_fields : ℕ → List Rule
 rel_fields format = flow_fields format ++ ranged Length 2 0 MAX_PAYLOAD_BYTES ∷ []
 
+-- the fields of an update of a weight
 abbrev pub weight_fields : ℕ → List Rule
 weight_fields format =
     ranged Origin 1 1 (max_nodes format)
@@ -76,9 +80,11 @@ weight_fields format =
     ∷ ranged Weight 4 1 MAX_WEIGHT
     ∷ []
 
+-- the fields of a message over paths
 abbrev pub krel_fields : ℕ → List Rule
 krel_fields format = flow_fields format ++ high_field format ∷ low_field format ∷ ranged Length 2 0 MAX_PAYLOAD_BYTES ∷ []
 
+-- the fields of an Epoch object
 abbrev pub epoch_fields : ℕ → List Rule
 epoch_fields format = ranged Origin 1 1 (max_nodes format) ∷ boot_field format ∷ []
 
@@ -92,6 +98,7 @@ kind_of (bodies.Krel r) = KREL
 kind_of (bodies.Kack a) = KACK
 kind_of (bodies.Epoch e) = EPOCH
 
+-- the fields of the message's kind
 abbrev pub fields_of : ℕ → Body → List Rule
 fields_of format (bodies.Prio p) = prio_fields format
 fields_of format (bodies.Rel r) = rel_fields format
@@ -101,6 +108,7 @@ fields_of format (bodies.Krel r) = krel_fields format
 fields_of format (bodies.Kack a) = flow_fields format
 fields_of format (bodies.Epoch e) = epoch_fields format
 
+-- what stands in the fields of a message, in their order
 abbrev pub numbers_of : Body → List ℕ
 numbers_of (bodies.Prio p) =
     p.src.0 ∷ p.dst.0 ∷ p.sboot ∷ p.seq ∷ p.prio ∷ p.expiry ∷ p.mask.high ∷ p.mask.low ∷ length p.payload ∷ []
@@ -111,6 +119,7 @@ numbers_of (bodies.Krel r) = r.src.0 ∷ r.dst.0 ∷ r.sboot ∷ r.dboot ∷ r.s
 numbers_of (bodies.Kack a) = a.src.0 ∷ a.dst.0 ∷ a.sboot ∷ a.dboot ∷ a.seq ∷ []
 numbers_of (bodies.Epoch e) = e.origin.0 ∷ e.boot ∷ []
 
+-- the payload of a message; kinds without one have none
 abbrev pub payload_of : Body → List ℕ
 payload_of (bodies.Prio p) = p.payload
 payload_of (bodies.Rel r) = r.payload
@@ -149,6 +158,7 @@ prio_from xs payload = bodies.Prio (record {
   payload = payload;
 })
 
+-- the reliable message of these numbers and this payload
 abbrev pub rel_from : List ℕ → List ℕ → Body
 rel_from xs payload = bodies.Rel (record {
   src = record { 0 = slice_index xs 0 };
@@ -159,6 +169,7 @@ rel_from xs payload = bodies.Rel (record {
   payload = payload;
 })
 
+-- the acknowledgement of these numbers
 abbrev pub ack_from : List ℕ → Body
 ack_from xs = bodies.Ack (record {
   src = record { 0 = slice_index xs 0 };
@@ -168,6 +179,7 @@ ack_from xs = bodies.Ack (record {
   seq = slice_index xs 4;
 })
 
+-- the update of a weight of these numbers
 abbrev pub weight_from : List ℕ → Body
 weight_from xs = bodies.Weight (record {
   origin = record { 0 = slice_index xs 0 };
@@ -176,6 +188,7 @@ weight_from xs = bodies.Weight (record {
   weight = slice_index xs 3;
 })
 
+-- the message over paths of these numbers and this payload
 abbrev pub krel_from : List ℕ → List ℕ → Body
 krel_from xs payload = bodies.Krel (record {
   src = record { 0 = slice_index xs 0 };
@@ -187,6 +200,7 @@ krel_from xs payload = bodies.Krel (record {
   payload = payload;
 })
 
+-- the acknowledgement over paths of these numbers
 abbrev pub kack_from : List ℕ → Body
 kack_from xs = bodies.Kack (record {
   src = record { 0 = slice_index xs 0 };
@@ -196,6 +210,7 @@ kack_from xs = bodies.Kack (record {
   seq = slice_index xs 4;
 })
 
+-- the Epoch object of these numbers
 abbrev pub epoch_from : List ℕ → Body
 epoch_from xs = bodies.Epoch (record { origin = record { 0 = slice_index xs 0 }; boot = slice_index xs 1 })
 
@@ -225,6 +240,7 @@ later_of_kind format kind bytes =
     else if kind == EPOCH then of_fields (epoch_fields format) epoch_from bytes
     else Err refusals.Kind
 
+-- a message of this kind at the front of these bytes, and what follows it, or the first fault
 abbrev pub body_of_kind : ℕ → ℕ → List ℕ → Result (Body × List ℕ) MsgRefused
 body_of_kind format kind bytes =
     if kind == PRIO then with_payload (prio_fields format) prio_from bytes
@@ -247,8 +263,10 @@ read_body_in format bytes = body_at_in format bytes >>= λ body. if length body.
 abbrev pub HasGoodFields : Body → Type 0
 HasGoodFields body = HasGoodFieldsIn FORMAT_1 body
 
+-- the bytes of a message of format 1
 abbrev pub encoded : Body → List ℕ
 encoded body = encoded_in FORMAT_1 body
 
+-- the message of format 1 that bytes are
 abbrev pub read_body : List ℕ → Result Body MsgRefused
 read_body bytes = read_body_in FORMAT_1 bytes

@@ -13,6 +13,7 @@ pub data Rule : Type 0 where
   ranged : Field → ℕ → ℕ → ℕ → Rule
   free : ℕ → Rule
 
+-- how many bytes a field has
 abbrev pub size_of : Rule → ℕ
 size_of (ranged name size low high) = size
 size_of (free size) = size
@@ -34,6 +35,7 @@ abbrev pub HasRoom : Rule → Type 0
 HasRoom (ranged name size low high) = high < 256 ^ size
 HasRoom (free size) = Unit {0}
 
+-- each field has room for the numbers of its range
 abbrev pub HaveRoom : List Rule → Type 0
 HaveRoom [] = Unit {0}
 HaveRoom (r ∷ rs) = HasRoom r × HaveRoom rs

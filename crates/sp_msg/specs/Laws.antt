@@ -16,12 +16,14 @@ WholeIsRead = (format : ℕ) (body : Body) → HasGoodFieldsIn format body → r
 -- and refused where a byte follows
 abbrev pub TailIsRefused : Type 0
 TailIsRefused =
-    (format : ℕ) (body : Body) (b : ℕ) (rest : List ℕ) → HasGoodFieldsIn format body → read_body_in format (encoded_in format body ++ b ∷ rest) ≡ Err refusals.Tail
+    (format : ℕ) (body : Body) (b : ℕ) (rest : List ℕ) → HasGoodFieldsIn format body
+    → read_body_in format (encoded_in format body ++ b ∷ rest) ≡ Err refusals.Tail
 
 -- what is read is encoded by those bytes, and its fields are in their ranges
 abbrev pub ReadIsEncoded : Type 0
 ReadIsEncoded =
-    (format : ℕ) (bytes : List ℕ) (body : Body) → AreBytes bytes → read_body_in format bytes ≡ Ok body → (bytes ≡ encoded_in format body) × HasGoodFieldsIn format body
+    (format : ℕ) (bytes : List ℕ) (body : Body) → AreBytes bytes → read_body_in format bytes ≡ Ok body
+    → (bytes ≡ encoded_in format body) × HasGoodFieldsIn format body
 
 -- the same, where other bytes follow
 abbrev pub FrontIsEncoded : Type 0

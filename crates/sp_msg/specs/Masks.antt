@@ -10,6 +10,7 @@ HALF = 2 ^ 128
 abbrev pub of_halves : ℕ → ℕ → ℕ
 of_halves high low = high * HALF + low
 
+-- the number of a mask's two halves
 abbrev pub bits : Mask → ℕ
 bits mask = of_halves mask.high mask.low
 

@@ -16,9 +16,11 @@ use Rattle.sp_msg.specs.declared.body.RelRef.{RelRef}
 abbrev pub as_prio : PrioRef → Prio
 as_prio p = record { src = p.src; dst = p.dst; sboot = p.sboot; seq = p.seq; prio = p.prio; expiry = p.expiry; mask = p.mask; payload = p.payload.now }
 
+-- a borrowed reliable message as one of its own
 abbrev pub as_rel : RelRef → Rel
 as_rel r = record { src = r.src; dst = r.dst; sboot = r.sboot; dboot = r.dboot; seq = r.seq; payload = r.payload.now }
 
+-- a borrowed message over paths as one of its own
 abbrev pub as_krel : KrelRef → Krel
 as_krel r = record { src = r.src; dst = r.dst; sboot = r.sboot; dboot = r.dboot; seq = r.seq; mask = r.mask; payload = r.payload.now }
 

@@ -63,7 +63,6 @@ pub fn encode_in(alloc: Global, body: &Body, format: u8) -> Result<Bytes, MsgRef
 }
 
 /// How many bytes a message has.
-#[tactic(auto, using(crate::proofs::LongLemmas::prio_long, crate::proofs::LongLemmas::rel_long, crate::proofs::LongLemmas::ack_long, crate::proofs::LongLemmas::krel_long, crate::proofs::LongLemmas::kack_long, crate::proofs::LongLemmas::epoch_long))]
 pub fn encoded_len(body: &Body, format: u8) -> usize
     requires { HasGoodFieldsIn format body.now }
     ensures { result ≡ length (encoded_in format body.now) }

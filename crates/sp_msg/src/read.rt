@@ -2,7 +2,9 @@
 ghost use Rattle.std.specs.Prelude.{IfOk, ◌-◌};
 ghost use Rattle.sp_base.specs.Formats.{max_edges, max_nodes};
 ghost use Rattle.sp_base.specs.Refusals.{Gives};
-ghost use Rattle.sp_msg.specs.Bodies.{HasGoodFields, HasGoodFieldsIn, ack_from, boot_field, epoch_fields, epoch_from, flow_fields, high_field, kack_from, krel_fields, krel_from, later_of_kind, low_field, of_fields, prio_fields, prio_from, read_body, read_body_in, rel_fields, rel_from, weight_fields, weight_from, with_payload};
+ghost use Rattle.sp_msg.specs.Bodies.{HasGoodFields, HasGoodFieldsIn, ack_from, boot_field, epoch_fields, epoch_from, flow_fields, high_field, kack_from};
+ghost use Rattle.sp_msg.specs.Bodies.{krel_fields, krel_from, later_of_kind, low_field, of_fields, prio_fields, prio_from, read_body, read_body_in, rel_fields};
+ghost use Rattle.sp_msg.specs.Bodies.{rel_from, weight_fields, weight_from, with_payload};
 ghost use Rattle.sp_msg.specs.Fields.{field_at, free, ranged};
 ghost use Rattle.sp_msg.specs.Views.{as_body};
 ghost use Rattle.sp_msg.specs.declared.body.BodyRef.TheVariants as borrowed;

@@ -33,13 +33,16 @@ abbrev in_frame : Reply → List ℕ
 in_frame (Frame bytes) = bytes
 in_frame _ = []
 
-pub polled_is : (n : NodeState) (v : NodeId) (bytes : List ℕ) (new : NodeState) → call_refusal n v ≡ None → NodeStep (format_of n.fixed) n (Poll v) (replied (Frame bytes)) new
+pub polled_is : (n : NodeState) (v : NodeId) (bytes : List ℕ) (new : NodeState) → call_refusal n v ≡ None
+    → NodeStep (format_of n.fixed) n (Poll v) (replied (Frame bytes)) new
     → bytes ≡ frame_to (format_of n.fixed) n v
 polled_is n v bytes new called step =
     ap (λ (o : Output). in_frame o.reply) (step.0 ∙ ap (λ r. refused_call r (replied (Frame (frame_to (format_of n.fixed) n v)))) called)
 
+-- a frame that a node makes has at most as many bytes as a frame may have
 pub polled_is_short : (n : NodeState) (v : NodeId) (bytes : List ℕ) (new : NodeState) → IsKept (format_of n.fixed) n → n.fixed.signature_len ≤ most_signature
     → call_refusal n v ≡ None → NodeStep (format_of n.fixed) n (Poll v) (replied (Frame bytes)) new → length bytes ≤ MAX_FRAME_BYTES
 polled_is_short n v bytes new kept short called step =
     let reads = (polled_is_read_back n v kept short (is_called n v called)).0 in
-    subst (λ (bs : List ℕ). length bs ≤ MAX_FRAME_BYTES) (sym (polled_is n v bytes new called step)) (opened_is_between n.fixed.topology.format (frame_to (format_of n.fixed) n v) reads.opens).1
+    subst (λ (bs : List ℕ). length bs ≤ MAX_FRAME_BYTES) (sym (polled_is n v bytes new called step))
+    (opened_is_between n.fixed.topology.format (frame_to (format_of n.fixed) n v) reads.opens).1

@@ -1,5 +1,6 @@
 -- What its link makes of a datagram is what the rules say.
-use Rattle.std.proofs.Common.{rules, ◌≡◌, ◌≤◌, ◌+◌, ◌==◌, ◌∙◌, ℕ, ◌&&◌, Bool, true, false, not, List, [], Option, None, Some, Result, Ok, Err, refl, sym, ap, cond, arith, nat_lt}
+use Rattle.std.proofs.Common.{rules, ◌≡◌, ◌≤◌, ◌+◌, ◌==◌, ◌∙◌, ℕ, ◌&&◌, Bool, true, false, not, List, [], Option, None, Some, Result, Ok, Err, refl, sym, ap}
+use Rattle.std.proofs.Common.{cond, arith, nat_lt}
 use Rattle.std.proofs.lemmas.Bool.Decides.{nat_tests}
 use Rattle.std.specs.Prelude.{is_none, option_map, unwrap_or}
 use Rattle.std.specs.Result.{result_err}

@@ -86,6 +86,7 @@ topology_short t is =
 
 -- ---- documents
 
+-- a signed document has at most as many bytes as a document may have
 pub signed_is_short : (admin bytes : List ℕ) (d : Document) → AreBytes bytes → document_in bytes ≡ Some d → IsValid admin d.message d.signature
     → length bytes ≤ MAX_DOCUMENT_BYTES
 signed_is_short admin bytes d are reads valid = go (topology_at bytes) refl reads

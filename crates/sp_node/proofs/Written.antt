@@ -48,7 +48,8 @@ writable_all format rs ms len e all =
     each [] all = All-nil (λ p. IsWritable format p.1.now)
     each (r ∷ rs) all =
         let rest = map (λ (p : ℕ × Bor Kept). (p.0, p.1.now)) rs in
-        All-cons (λ p. IsWritable format p.1.now) r rs (writable format kinds.Prio len r.1.now (All-head (IsNumbered format len) (r.0, r.1.now) rest all).object)
+        All-cons (λ p. IsWritable format p.1.now) r rs
+        (writable format kinds.Prio len r.1.now (All-head (IsNumbered format len) (r.0, r.1.now) rest all).object)
         (each rs (All-tail (IsNumbered format len) (r.0, r.1.now) rest all))
 
 -- ---- a slot

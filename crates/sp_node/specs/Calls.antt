@@ -24,6 +24,7 @@ Polls old v (Err calls.NotNeighbour) new = NodeStep (format_of old.fixed) old (P
 Polls old v (Err calls.Worn) new = NodeStep (format_of old.fixed) old (Poll v) (replied (NotCalled calls.Worn)) new
 Polls old v (Err calls.Memory) new = (call_refusal old v ≡ None) × (new ≡ old)
 
+-- the output of a tick
 abbrev pub ticked : Step TickReply → Output
 ticked step = record { reply = Ticked step.reply; effects = step.effects.list; answered = []; adopted = None }
 
@@ -32,6 +33,7 @@ abbrev pub Ticks : NodeState → ℕ → Result (Step TickReply) NodeRefused →
 Ticks old now (Ok step) new = NodeStep (format_of old.fixed) old (Tick now) (ticked step) new
 Ticks old now (Err refused) new = (refused ≡ calls.Memory) × (new ≡ old)
 
+-- the output of a datagram
 abbrev pub taken_in : NodeState → NodeId → List ℕ → Step Taken → Output
 taken_in old from bytes step =
     let arts = format_of old.fixed in
@@ -64,6 +66,7 @@ TakesPrio old entry new = NodeStep (format_of old.fixed) old TakePrio (record {
   adopted = None;
 }) new
 
+-- the output of a document that is handed out
 abbrev pub published : Step DocumentAnswer → Output
 published step = record { reply = Replaced step.reply; effects = step.effects.list; answered = []; adopted = None }
 

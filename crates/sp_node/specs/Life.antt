@@ -38,7 +38,8 @@ checks_with n (Some document) = document_checks n document
 -- how many signatures may be checked for a datagram: none where it isn't fresh and whole; else one for each object that may be new, or for its document
 abbrev pub datagram_checks : NodeState → NodeId → List ℕ → ℕ
 datagram_checks n v bytes =
-    frame_checks (arrival_at n v) n.parts (pieces_where (reply_at (format_of n.fixed) n v bytes) (pieces_in n.fixed (sections_in (format_of n.fixed) n.fixed bytes)))
+    frame_checks (arrival_at n v) n.parts
+    (pieces_where (reply_at (format_of n.fixed) n v bytes) (pieces_in n.fixed (sections_in (format_of n.fixed) n.fixed bytes)))
     + checks_with n (document_at (format_of n.fixed) n v bytes)
 
 -- how many tags are checked for a datagram, by what became of it at its link: one of a frame that names the link's ends, and none of any other
@@ -50,5 +51,6 @@ reply_tags replies.Version = 0
 reply_tags replies.NotForMe = 0
 reply_tags _ = 1
 
+-- how many tags are checked of a datagram
 abbrev pub datagram_tags : NodeState → NodeId → List ℕ → ℕ
 datagram_tags n v bytes = reply_tags (reply_at (format_of n.fixed) n v bytes)

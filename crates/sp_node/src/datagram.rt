@@ -1,5 +1,6 @@
 // A datagram arrives from a neighbour.
-ghost use Rattle.std.specs.Prelude.{◌≡◌, ◌≤◌, ◌<◌, ◌+◌, ◌==◌, ◌&&◌, [], ◌∷◌, IfErr, IfOk, IfSome, OnErr, Ok, None as Nothing, Some as There, length, option_map};
+ghost use Rattle.std.specs.Prelude.{◌≡◌, ◌≤◌, ◌<◌, ◌+◌, ◌==◌, ◌&&◌, [], ◌∷◌, IfErr, IfOk, IfSome, OnErr, Ok, None as Nothing, Some as There, length};
+ghost use Rattle.std.specs.Prelude.{option_map};
 ghost use Rattle.std.specs.Prelude.{position, slice_index, if◌then◌else◌};
 ghost use Rattle.sp_base.specs.Cursor.{or_else};
 ghost use Rattle.sp_base.specs.Refusals.{Gives};
@@ -145,7 +146,8 @@ fn take_document(
     requires answered { IsAnswered state.old from place }
     ensures reply { IfOk result (λ step. step.reply.link ≡ passage.entry.now.reply) }
     ensures items { IfOk result (λ step. step.reply.items ≡ Item.Document (document_answer (format_of state.old.fixed) state.old document.now) ∷ []) }
-    ensures told { IfOk result (λ step. step.effects.list ≡ publish_effects (format_of state.old.fixed) (met_by state.old from passage.entry.now) document.now) }
+    ensures told { IfOk result (λ step.
+        step.effects.list ≡ publish_effects (format_of state.old.fixed) (met_by state.old from passage.entry.now) document.now) }
     ensures state { IfOk result (λ _. state.new ≡ after_publish (format_of state.old.fixed) (met_by state.old from passage.entry.now) document.now) }
     ensures memory { IfErr result (λ refused. refused ≡ NodeRefused.Memory) }
     ensures as_before { OnErr result (state.new ≡ state.old) }

@@ -9,9 +9,10 @@
 //!    administrator publishes: a later version of the topology, which then goes from node to node by itself.
 //!
 //! # When to call
-//! - `poll` a neighbour whenever a frame may go to it, also over an edge that is withdrawn, since documents go there too. A frame is made at each poll, also where nothing waits: it carries the acknowledged link number,
-//!   a report, and the boot that the neighbour must echo. So a neighbour that isn't polled hears nothing, and sends on what it has sent. A poll too many
-//!   costs a frame and a tag. A frame that is lost is no harm: what it carried goes again until the neighbour reports it.
+//! - `poll` a neighbour whenever a frame may go to it, also over an edge that is withdrawn, since documents go there too. A frame is made at each poll, also
+//!   where nothing waits: it carries the acknowledged link number, a report, and the boot that the neighbour must echo. So a neighbour that isn't polled hears
+//!   nothing, and sends on what it has sent. A poll too many costs a frame and a tag. A frame that is lost is no harm: what it carried goes again until the
+//!   neighbour reports it.
 //! - `tick` as time goes on. A tick with an earlier time leaves the clock as it is. One tick signs at most one acknowledgement, so a destination of many
 //!   flows ticks as often as messages come to it. Without ticks nothing expires and nothing is acknowledged.
 //! - `datagram` at once, in the order of arrival. A datagram that comes twice is `Stale` the second time, and changes nothing.
@@ -22,8 +23,9 @@
 //! - `extend(upto)` may only be called once the reservation up to `upto` is on the disk.
 //! - `Effect::Delivered` and `DeliveredPrio` are told once, when the message arrives; its payload waits until a client takes it. A full inbox refuses what
 //!   comes after it, until somebody takes.
-//! - `Stored`, `Gone`, `WeightHeld`, `Version` and `Ended` ask for nothing: they tell what the node keeps. After `Ended` a client of this node that had messages
-//!   of the flow on their way sends them again, if it wants them to arrive: another life of the other end began. Where an end is removed none goes any more.
+//! - `Stored`, `Gone`, `WeightHeld`, `Version` and `Ended` ask for nothing: they tell what the node keeps. After `Ended` a client of this node that had
+//!   messages of the flow on their way sends them again, if it wants them to arrive: another life of the other end began. Where an end is removed none goes
+//!   any more.
 //! - After `Memory` the node is as before the call, and the call may be made again. After `Worn` the life is over: boot again, with the next number.
 //!
 //! # What it costs

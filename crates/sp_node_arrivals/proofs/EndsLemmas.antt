@@ -153,7 +153,8 @@ slot_lives arts at p (Some r) =
 
 -- ---- the Epoch object after it
 
-pub few_messages : (slot : Option Slot) → IfSome slot (λ s. length s.rels ≤ MAX_MESSAGES) → IfSome (option_map as_report slot) (λ r. length r.rels ≤ MAX_MESSAGES)
+pub few_messages : (slot : Option Slot) → IfSome slot (λ s. length s.rels ≤ MAX_MESSAGES)
+    → IfSome (option_map as_report slot) (λ r. length r.rels ≤ MAX_MESSAGES)
 few_messages None few = tt
 few_messages (Some s) few = omega (arith, few, length-map s.rels as_object)
 

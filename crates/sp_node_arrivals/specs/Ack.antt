@@ -27,6 +27,7 @@ is_new_ack _ = false
 abbrev pub may_be_new_ack : List Life → RelState → Flow → Kept → Bool
 may_be_new_ack lives r flow o = is_dated lives o.body && is_new_ack (judge_ack_of r flow o.body)
 
+-- how many signatures of an acknowledgement may be checked
 abbrev pub ack_checks : List Life → RelState → Flow → Kept → ℕ
 ack_checks lives r flow o = one_if (may_be_new_ack lives r flow o)
 
@@ -34,6 +35,7 @@ ack_checks lives r flow o = one_if (may_be_new_ack lives r flow o)
 abbrev pub is_acked : Fixed → List Life → RelState → Flow → Kept → Bool
 is_acked f lives r flow o = may_be_new_ack lives r flow o && is_right f o
 
+-- whether the slot's acknowledgement is taken
 abbrev pub acked_by : Fixed → List Life → RelState → Flow → Option Kept → Bool
 acked_by f lives r flow None = false
 acked_by f lives r flow (Some o) = is_acked f lives r flow o

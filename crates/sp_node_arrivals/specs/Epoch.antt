@@ -20,6 +20,7 @@ abbrev pub is_new_life : EpochJudged → Bool
 is_new_life judged.New = true
 is_new_life _ = false
 
+-- how many signatures of an Epoch object may be checked
 abbrev pub epoch_checks : NodeId → List Life → Kept → ℕ
 epoch_checks me lives o = one_if (is_new_life (judge_epoch me lives o.body))
 

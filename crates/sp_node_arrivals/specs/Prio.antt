@@ -32,9 +32,11 @@ is_new_prio _ = false
 abbrev pub may_be_new_prio : rules.Arrival → List Life → PrioState → Kept → Bool
 may_be_new_prio at lives s o = is_dated lives o.body && is_new_prio (judge_prio s o.body at.now)
 
+-- how many signatures of a priority message may be checked
 abbrev pub prio_checks : rules.Arrival → List Life → PrioState → Kept → ℕ
 prio_checks at lives s o = one_if (may_be_new_prio at lives s o)
 
+-- how many signatures of priority messages may be checked
 abbrev pub prios_checks : rules.Arrival → List Life → PrioState → List (ℕ × Kept) → ℕ
 prios_checks at lives s [] = 0
 prios_checks at lives s (m ∷ ms) = prio_checks at lives s m.1 + prios_checks at lives s ms

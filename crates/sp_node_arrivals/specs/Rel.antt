@@ -29,6 +29,7 @@ may_be_new moved rels.New = true
 abbrev pub may_be_new_rel : Bool → List Life → RelState → Flow → Kept → Bool
 may_be_new_rel moved lives r flow o = is_dated lives o.body && may_be_new moved (judge_rel_of r flow o.body)
 
+-- a reliable message with the room that it takes if it is right and new
 pub record IsRelReady (moved : Bool) (f : Fixed) (lives : List Life) (r : RelState) (flow : Flow) (o : Kept)
     (ready : Option (Kept × List ℕ × SeatState)) : Type 0 where
   pub copy : IfSome ready (λ m. m.0 ≡ o)
@@ -57,6 +58,7 @@ rel_checks moved lives r flow o = one_if (may_be_new_rel moved lives r flow o)
 abbrev pub is_followed : Bool → Fixed → List Life → RelState → Flow → Kept → Bool
 is_followed moved f lives r flow o = may_be_new_rel moved lives r flow o && is_right f o
 
+-- how many signatures of a slot's messages may be checked
 abbrev pub rels_checks : Bool → Fixed → List Life → RelState → Flow → List Kept → ℕ
 rels_checks moved f lives r flow [] = 0
 rels_checks moved f lives r flow (o ∷ os) =

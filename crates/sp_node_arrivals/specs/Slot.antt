@@ -16,6 +16,7 @@ pub record IsSlotReady (f : Fixed) (lives : List Life) (r : RelState) (slot : Sl
   pub acknowledgement : IfSome (option_map as_object slot.ack) (λ o. IsAckReady f lives r slot.flow o ready.ack)
   pub messages : AreRelsReady (is_some ready.ack) f lives r slot.flow (map as_object slot.rels) ready.rels
 
+-- how many signatures of a slot may be checked
 abbrev pub slot_checks : Fixed → List Life → RelState → Slot → ℕ
 slot_checks f lives r slot =
     of_some (ack_checks lives r slot.flow) (option_map as_object slot.ack)

@@ -18,5 +18,6 @@ abbrev pub is_new_offer : Offer → Bool
 is_new_offer offers.New = true
 is_new_offer _ = false
 
+-- how many signatures of an update may be checked
 abbrev pub weight_checks : NodeId → WeightState → Kept → ℕ
 weight_checks me s o = one_if (is_new_offer (offer_to me s o.body))

@@ -1,5 +1,6 @@
 -- The arts of a format fit a node of it.
-use Rattle.std.proofs.Common.{◌≡◌, ◌<◌, ◌≤◌, ◌∙◌, ℕ, ◌+◌, ◌-◌, ◌/◌, ◌%◌, List, [], ◌∷◌, ◌++◌, length, length-take, take, drop, Option, None, Some, Ok, Err, append_assoc, refl, sym, ap, subst, arith}
+use Rattle.std.proofs.Common.{◌≡◌, ◌<◌, ◌≤◌, ◌∙◌, ℕ, ◌+◌, ◌-◌, ◌/◌, ◌%◌, List, [], ◌∷◌, ◌++◌, length, length-take, take, drop, Option, None, Some, Ok, Err}
+use Rattle.std.proofs.Common.{append_assoc, refl, sym, ap, subst, arith}
 use Rattle.std.specs.Prelude.{IfSome, Result}
 use Rattle.std.specs.List.{All}
 use Rattle.std.proofs.lemmas.Bool.Decides.{nat_tests}
@@ -146,7 +147,8 @@ format_fits f s is = record {
   long = λ index message. long (param_of f.topology.height) s.seed index message ∙ sym is.signature_len;
   key = public_key (param_of f.topology.height) s.seed;
   is_mine = is.is_mine;
-  valid = λ index message below. (decided (public_key (param_of f.topology.height) s.seed) message (signature (param_of f.topology.height) s.seed index message)).1
+  valid = λ index message below.
+      (decided (public_key (param_of f.topology.height) s.seed) message (signature (param_of f.topology.height) s.seed index message)).1
       (seed_signatures_are_valid (param_of f.topology.height) s.seed message index (omega (arith, below, is.total)));
   heads = head_fits;
   sections = λ bytes contents are reads.

@@ -43,11 +43,13 @@ are_ranged (r ∷ rs) (x ∷ xs) e =
 are_ranged [] (x ∷ xs) e = absurd (cc)
 are_ranged (r ∷ rs) [] e = absurd (cc)
 
+-- fields in their ranges pass the test
 pub fields_pass : (format : ℕ) (body : Body) → HasGoodFieldsIn format body → IsTrue (has_good_fields format body)
 unfolding has_good_fields
 fields_pass format body h =
     both_back (has_kind format body) (are_in_range (fields_of format body) (numbers_of body)) h.0 (all_pass (fields_of format body) (numbers_of body) h.1)
 
+-- fields that pass the test are in their ranges
 pub fields_are_good : (format : ℕ) (body : Body) → IsTrue (has_good_fields format body) → HasGoodFieldsIn format body
 unfolding has_good_fields
 fields_are_good format body e =

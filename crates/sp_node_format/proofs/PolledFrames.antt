@@ -1,5 +1,6 @@
 -- A frame that a node makes is read back: its length first, and then each part where it was put.
-use Rattle.std.proofs.Common.{◌≡◌, ◌≤◌, ℕ, ◌+◌, ◌-◌, ◌*◌, ◌||◌, ◌==◌, ◌<◌, if◌then◌else◌, inl, inr, Bool, true, false, List, [], ◌∷◌, ◌++◌, length, drop, flat_map, Option, Some, None, Ok, nat_eq, append_assoc, length-append, refl, sym, ap, ap₂, ◌∙◌, subst, arith, cond}
+use Rattle.std.proofs.Common.{◌≡◌, ◌≤◌, ℕ, ◌+◌, ◌-◌, ◌*◌, ◌||◌, ◌==◌, ◌<◌, if◌then◌else◌, inl, inr, Bool, true, false, List, [], ◌∷◌, ◌++◌, length, drop}
+use Rattle.std.proofs.Common.{flat_map, Option, Some, None, Ok, nat_eq, append_assoc, length-append, refl, sym, ap, ap₂, ◌∙◌, subst, arith, cond}
 use Rattle.std.specs.Prelude.{IfSome}
 use Rattle.std.specs.List.{All, list_any}
 use Rattle.std.specs.Cmp.Lexicographic.{pointwise}
@@ -24,7 +25,8 @@ use Rattle.sp_frame.specs.Prioritized.{numbered_bytes, prios_bytes}
 use Rattle.sp_frame.specs.Probes.{epoch_bytes, probe_bytes, probes_bytes}
 use Rattle.sp_frame.specs.Ranges.{IsContentsIn, IsHead, IsNumbered, IsReport, Later}
 use Rattle.sp_frame.specs.Reliable.{Report, ack_bytes, paths_bytes, place_bytes, rels_bytes, report_bytes, slot_bytes}
-use Rattle.sp_frame.specs.Sections.{Contents, control_bytes, document_bytes, plain_bytes, sections_bytes_in, sections_of_in, sized_bytes, with_document, zeros_bytes}
+use Rattle.sp_frame.specs.Sections.{Contents, control_bytes, document_bytes, plain_bytes, sections_bytes_in, sections_of_in, sized_bytes, with_document}
+use Rattle.sp_frame.specs.Sections.{zeros_bytes}
 use Rattle.sp_frame.specs.Weights.{weights_bytes}
 use Rattle.sp_frame.specs.declared.head.Head.{Head}
 use Rattle.sp_frame.specs.declared.kind.Kind.{Kind}
@@ -234,6 +236,7 @@ pub record IsPlain (s : Contents) : Type 0 where
   pub paths : s.paths ≡ None
   pub probe : s.probe ≡ None
 
+-- the sections of a frame that a node makes fit into a frame
 pub sections_len : (format : ℕ) (len : ℕ) → len ≤ most_signature → (s : Contents) → IsPlain s → IsContentsIn format len s
     → length (sections_bytes_in format s) ≤ most_sections
 unfolding sections_bytes_in plain_bytes
@@ -252,7 +255,8 @@ sections_len format len small s plain is =
     (omega (arith, parts, one, two, more, reported, paths, probe))
 
 -- a document is as long as a datagram has room for
-pub document_len : (format : ℕ) (document : List ℕ) → length document ≤ MAX_DOCUMENT_BYTES → length (sections_bytes_in format (with_document document)) ≤ most_sections
+pub document_len : (format : ℕ) (document : List ℕ) → length document ≤ MAX_DOCUMENT_BYTES
+    → length (sections_bytes_in format (with_document document)) ≤ most_sections
 unfolding sections_bytes_in document_bytes sized_bytes zeros_bytes
 document_len format document few =
     let two = two_bytes (length document) in
@@ -269,6 +273,7 @@ opens : (h : Head) (rest : List ℕ) → h.format < 256 → 32 ≤ length rest �
 unfolding head_bytes ends_bytes numbers_bytes
 opens h rest small least most = grind (arith, nat_tests, small, least, most)
 
+-- a frame is read back as the head and the sections that it was made of
 pub read_back : (len : ℕ) (h : Head) (s : Contents) (tag : List ℕ) → length (sections_bytes_in h.format s) ≤ most_sections → IsHead h
     → IsContentsIn h.format len s → length tag ≡ 32 → Reads h.format ((head_bytes h ++ sections_bytes_in h.format s) ++ tag) len h s
 read_back len h s tag size head contents long =

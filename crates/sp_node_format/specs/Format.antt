@@ -21,6 +21,7 @@ abbrev pub document_of : List ℕ → Result (Topology × ℕ) TopologyRefused �
 document_of bytes (Ok read) = Some (record { topology = read.0; message = take read.1 bytes; signature = drop read.1 bytes })
 document_of bytes (Err refused) = None
 
+-- the document that bytes are, if they are one
 abbrev pub document_in : List ℕ → Option Document
 document_in bytes = document_of bytes (read_of bytes)
 

@@ -16,6 +16,7 @@ pub record IsOfFormat (f : Fixed) (s : Signer) : Type 0 where
   pub total : s.total ≡ total (param_of f.topology.height)
   pub is_mine : key_of f.me.0 f.topology.nodes ≡ Some (public_key (param_of f.topology.height) s.seed)
 
+-- the law that the arts of a format fit each node that is of it
 abbrev pub FormatFits : Type 0
 FormatFits = (f : Fixed) (s : Signer) → IsOfFormat f s → ArtsFit (format_of f) f s
 

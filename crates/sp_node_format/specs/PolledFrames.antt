@@ -23,6 +23,7 @@ pub record Reads (format : ℕ) (bytes : List ℕ) (len : ℕ) (h : Head) (s : C
 abbrev pub most_signature : ℕ
 most_signature = 5076
 
+-- the law that no signature is longer than a frame allows for
 abbrev pub SignaturesAreShort : Type 0
 SignaturesAreShort = (height : LmsHeight) → signature_len (param_of height) ≤ most_signature
 

@@ -58,7 +58,13 @@ closed_short s weights removed =
 pub few_removed : (t : Topology) (removed : List NodeId) → removed ≡ (withdrawn_of t).removed → length removed ≤ length t.nodes
 few_removed t removed is =
     let p : NodeId → Bool = λ u. is_removed t.edges u.0 in
-    omega (arith, ap (λ (us : List NodeId). length us) is, length-filter p (nodes_of t), count_by-le-length p (nodes_of t), length-map t.nodes (λ (n : NodeKey). n.id))
+    omega (
+      arith,
+      ap (λ (us : List NodeId). length us) is,
+      length-filter p (nodes_of t),
+      count_by-le-length p (nodes_of t),
+      length-map t.nodes (λ (n : NodeKey). n.id),
+    )
 
 -- ---- an empty node
 

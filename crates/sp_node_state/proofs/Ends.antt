@@ -39,6 +39,7 @@ ends_of n m key mine free kept =
     let s = n.parts.prio in
     let two = other (m.dst.0 == n.fixed.me.0) (is_there s m.dst.0) (is_there s n.fixed.me.0) (is_unmet n m.dst) _ _ free in (
       node_there n.fixed.me.0 n.fixed.topology.nodes key mine,
-      ap (λ (ids : List NodeId). is_node ids m.dst.0) (sym kept.parts.prio.known) ∙ first_of_both (is_node s.nodes m.dst.0) (not (is_node s.removed m.dst.0)) two.1,
+      ap (λ (ids : List NodeId). is_node ids m.dst.0) (sym kept.parts.prio.known)
+          ∙ first_of_both (is_node s.nodes m.dst.0) (not (is_node s.removed m.dst.0)) two.1,
       λ e. (let same : m.dst.0 ≡ n.fixed.me.0 = ap (λ (u : NodeId). u.0) (sym e) in absurd (grind (arith, nat_tests, same, two.0))),
     )

@@ -18,7 +18,8 @@ none_found : (test : Link → Bool) (links : List Link) → find test links ≡ 
 none_found test [] e = refl
 none_found test (l ∷ links) e = go (test l) refl e (none_found test links)
   where
-    go : (t : Bool) → test l ≡ t → cond t (Some l) (find test links) ≡ None → (find test links ≡ None → list_any test links ≡ false) → list_any test (l ∷ links) ≡ false
+    go : (t : Bool) → test l ≡ t → cond t (Some l) (find test links) ≡ None → (find test links ≡ None → list_any test links ≡ false)
+        → list_any test (l ∷ links) ≡ false
     go true is e later = absurd (cc)
     go false is e later = rw is (later e)
 

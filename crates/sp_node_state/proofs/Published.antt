@@ -1,5 +1,6 @@
 -- A document that was judged comes into effect as the rules say, and what it needs for that is there.
-use Rattle.std.proofs.Common.{◌≡◌, ◌≤◌, ◌<◌, ◌∙◌, ℕ, ◌-◌, Bool, true, false, not, List, [], length, Option, Some, None, Result, Ok, Err, nat_le, refl, sym, subst, ap, ap₂, arith, cond}
+use Rattle.std.proofs.Common.{◌≡◌, ◌≤◌, ◌<◌, ◌∙◌, ℕ, ◌-◌, Bool, true, false, not, List, [], length, Option, Some, None, Result, Ok, Err, nat_le, refl, sym}
+use Rattle.std.proofs.Common.{subst, ap, ap₂, arith, cond}
 use Rattle.std.specs.Prelude.{◌+◌, ◌↔◌, IfOk, IsTrue}
 use Rattle.std.proofs.lemmas.Bool.Decides.{nat_tests}
 use Rattle.std.proofs.lemmas.List.{length-map}
@@ -152,6 +153,7 @@ under_is n m bytes p j same = go p.version j.version
         ∙ sym (ap (λ (a : DocumentAnswer). adopting a m bytes (document_in bytes)) (same ∙ is.answer)
         ∙ ap (adopting (answers.Adopted is.reads.topology.version) m bytes) is.read)
 
+-- what is told of a document is told alike by two states that judge it alike
 pub told_is : (n m : NodeState) (bytes : List ℕ) (p : Publication) → IsJudged n bytes p
     → document_answer (format_of m.fixed) m bytes ≡ document_answer (format_of n.fixed) n bytes
     → told_of m p.version ≡ publish_effects (format_of m.fixed) m bytes
@@ -178,7 +180,8 @@ refused_judged n bytes a (Ok p) answer version none is not_adopted = record {
 }
 
 -- the version that is adopted
-pub adopted_judged : (n : NodeState) (bytes : List ℕ) (d : Document) (w : Withdrawn) (version : ℕ) (r : Result Publication Memory) → IsKept (format_of n.fixed) n
+pub adopted_judged : (n : NodeState) (bytes : List ℕ) (d : Document) (w : Withdrawn) (version : ℕ) (r : Result Publication Memory)
+    → IsKept (format_of n.fixed) n
     → document_in bytes ≡ Some d → answer_to (format_of n.fixed) n (Some d) ≡ answers.Adopted version → w ≡ withdrawn_of d.topology
     → IfOk r (λ p. p.answer ≡ answers.Adopted version)
     → IfOk r (λ p. p.version ≡ Some (record { topology = d.topology; withdrawn = w; document = bytes }))

@@ -13,7 +13,8 @@ use Rattle.sp_msg.specs.declared.refused.SendRefused.TheVariants as refusals
 use Rattle.sp_rules.specs.Masks.{IsChoice, Mask, graph_of}
 use Rattle.sp_rules.specs.Node.{NodeState}
 use Rattle.sp_rules.specs.Parts.{edge_to}
-use Rattle.sp_rules.specs.Sends.{PrioSend, is_unmet, no_life, no_paths, no_room, prio_body, prio_refusal, rel_refusal, send_prio_refusal, signer_refusal, weight_body, weight_refusal, weight_refusal_at}
+use Rattle.sp_rules.specs.Sends.{PrioSend, is_unmet, no_life, no_paths, no_room, prio_body, prio_refusal, rel_refusal, send_prio_refusal, signer_refusal}
+use Rattle.sp_rules.specs.Sends.{weight_body, weight_refusal, weight_refusal_at}
 use Rattle.sp_rules.specs.Handle.{offer_of}
 use Rattle.sp_rules.specs.Rel.{room}
 use Rattle.sp_rules.specs.Weights.{WeightState, is_withdrawn, last_seq, minimum, next_seq, offer, row_in}
@@ -49,7 +50,8 @@ offer_new : (s : WeightState) (me : NodeId) (edge weight row : ℕ) → row_in s
 offer_new s me edge weight row is there low = go (row_in s.edges edge me.0) is (is_withdrawn s edge) there (minimum s edge) low (last_seq s edge me.0)
   where
     go : (o : Option ℕ) → o ≡ Some row → (shut : Bool) → shut ≡ false → (least : ℕ) → nat_lt weight least ≡ false → (last : ℕ)
-        → cond (is_none o || shut) offers.Foreign (cond (nat_lt weight least) (offers.Low least) (cond (nat_le (last + 1) last) (offers.Old last) offers.New)) ≡ offers.New
+        → cond (is_none o || shut) offers.Foreign (cond (nat_lt weight least) (offers.Low least) (cond (nat_le (last + 1) last) (offers.Old last) offers.New))
+        ≡ offers.New
     go o is shut there least low last =
         let old : nat_le (last + 1) last ≡ false = grind (arith, nat_tests) in
         rw (is, there, low, old) refl
@@ -81,7 +83,8 @@ own_is_new n v weight free kept = go (edge_to n.fixed v) refl free
 -- ---- an own priority message
 
 pub prio_sent : (n : NodeState) (m : PrioSend) (mask : ℕ) → PrioSendFits m → prio_refusal n m ≡ None
-    → IsChoice n.parts.weights (graph_of n.fixed.topology n.parts.weights) n.fixed.me m.dst m.paths (Mask mask) → IsKept (format_of n.fixed) n → HasGoodFieldsIn n.fixed.topology.format (prio_body n m mask)
+    → IsChoice n.parts.weights (graph_of n.fixed.topology n.parts.weights) n.fixed.me m.dst m.paths (Mask mask) → IsKept (format_of n.fixed) n
+    → HasGoodFieldsIn n.fixed.topology.format (prio_body n m mask)
 prio_sent n m mask fits free is kept =
     let none : send_prio_refusal n m (Mask mask) ≡ None = ap (λ (o : Option SendRefused). or_else o (no_paths (Mask mask))) free in
     (prio_sent_fits (sizes n) n m (Mask mask) fits none is kept).fields

@@ -22,7 +22,8 @@ use Rattle.sp_node_state.specs.declared.boot.NodeConfig.{NodeConfig}
 -- ---- the links
 
 linked : (f : Fixed) (joined : List (NodeId × EdgeId)) (keys : List (EdgeId × List ℕ))
-    → map (λ (p : (NodeId × EdgeId) × (EdgeId × List ℕ)). new_link f.me p.0.0 f.boot p.1.1) (zip joined keys) ≡ map (link_of f) (zip joined (map (λ (k : EdgeId × List ℕ). k.1) keys))
+    → map (λ (p : (NodeId × EdgeId) × (EdgeId × List ℕ)). new_link f.me p.0.0 f.boot p.1.1) (zip joined keys)
+    ≡ map (link_of f) (zip joined (map (λ (k : EdgeId × List ℕ). k.1) keys))
 linked f [] keys = refl
 linked f (n ∷ joined) [] = refl
 linked f (n ∷ joined) (k ∷ keys) = ap (λ (rest : List Link). new_link f.me n.0 f.boot k.1 ∷ rest) (linked f joined keys)
@@ -57,8 +58,10 @@ started c own boot len live heard links core now none long height are parts =
     ap (λ (l : Live). state_of (with_len c boot len) l heard 0 0 links own core) now
     ∙ ap (λ (hs : List Heard). state_of (with_len c boot len) (live_at c) hs 0 0 links own core) none
     ∙ ap (λ (n : ℕ). state_of (with_len c boot n) (live_at c) (unheard c) 0 0 links own core) (long ∙ ap signature_len height)
-    ∙ ap (λ (ls : List Link). state_of (fixed_of c boot) (live_at c) (unheard c) 0 0 ls own core) (are ∙ linked (fixed_of c boot) (neighbours_of (fixed_of c boot)) c.keys)
-    ∙ ap (λ (p : Parts). state_of (fixed_of c boot) (live_at c) (unheard c) 0 0 (map (link_of (fixed_of c boot)) (zip (neighbours_of (fixed_of c boot)) (map (λ (k : EdgeId × List ℕ). k.1) c.keys))) own p) parts
+    ∙ ap (λ (ls : List Link). state_of (fixed_of c boot) (live_at c) (unheard c) 0 0 ls own core)
+    (are ∙ linked (fixed_of c boot) (neighbours_of (fixed_of c boot)) c.keys)
+    ∙ ap (λ (p : Parts). state_of (fixed_of c boot) (live_at c) (unheard c) 0 0
+    (map (link_of (fixed_of c boot)) (zip (neighbours_of (fixed_of c boot)) (map (λ (k : EdgeId × List ℕ). k.1) c.keys))) own p) parts
 
 -- ---- heights
 

@@ -78,7 +78,8 @@ accepted_prio n new m mask body step free chosen is number effects after =
 abbrev failed : SendRefused → Result (Unit {0}) SendRefused
 failed r = Err r
 
-pub refused_so : (n : NodeState) (m : PrioSend) (answer : Result (Step ℕ) SendRefused) (r : SendRefused) → prio_refusal n m ≡ Some r → failed r ≢ failed sends.Memory
+pub refused_so : (n : NodeState) (m : PrioSend) (answer : Result (Step ℕ) SendRefused) (r : SendRefused) → prio_refusal n m ≡ Some r
+    → failed r ≢ failed sends.Memory
     → IsErrAnd answer (λ e. e ≡ r) → Sends (SendPrio m) (prio_refusal n m) n answer n
 refused_so n m (Ok step) r is other same = absurd same
 refused_so n m (Err e) r is other same =

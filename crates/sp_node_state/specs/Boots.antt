@@ -57,5 +57,6 @@ booted_of c own boot = booted (fixed_of c boot) (signer_in own) (map (λ k. k.1)
 abbrev pub started_of : NodeConfig → NodeSigner → ℕ → NodeState
 started_of c own boot = started (format_of (fixed_of c boot)) (fixed_of c boot) (signer_in own) (map (λ k. k.1) c.keys) c.limits.buffer c.limits.store
 
+-- what is told at a start
 abbrev pub told_at_start : NodeConfig → ℕ → List Effect
 told_at_start c boot = start_effects (format_of (fixed_of c boot)) (fixed_of c boot)

@@ -32,10 +32,12 @@ pub record IsRoomy (n : NodeState) (v : NewVersion) (out : Caused) : Type 0 wher
   pub nodes : (length v.topology.nodes ≡ length n.parts.prio.nodes) × (length v.topology.nodes ≡ length n.parts.rel.nodes)
   pub room : out ≡ record { list = []; room = 1 + closing_room n.parts }
 
+-- what is ready of a document fits the version that it brings
 abbrev pub FitsSo : NodeState → Publication → Option NewVersion → Type 0
 FitsSo n p None = p.effects.list ≡ []
 FitsSo n p (Some v) = IsRoomy n v p.effects
 
+-- what is ready of a document fits
 abbrev pub Fits : NodeState → Publication → Type 0
 Fits n p = FitsSo n p p.version
 
@@ -44,6 +46,7 @@ abbrev pub IsJudgedSo : NodeState → List ℕ → Publication → Option NewVer
 IsJudgedSo n bytes p None = (version : ℕ) → p.answer ≡ answers.Adopted version → ⊥
 IsJudgedSo n bytes p (Some v) = IsNew n bytes v
 
+-- what a document is to this node: its answer, and the version that it brings
 pub record IsJudged (n : NodeState) (bytes : List ℕ) (p : Publication) : Type 0 where
   pub answer : p.answer ≡ document_answer (format_of n.fixed) n bytes
   pub version : IsJudgedSo n bytes p p.version
@@ -51,10 +54,12 @@ pub record IsJudged (n : NodeState) (bytes : List ℕ) (p : Publication) : Type 
 
 -- ---- in effect
 
+-- the node under the version that it takes, if it takes one
 abbrev pub under_version : NodeState → Option NewVersion → NodeState
 under_version n None = n
 under_version n (Some v) = under_topology n v.document v.topology
 
+-- what is told of a version, if the node takes one
 abbrev pub told_of : NodeState → Option NewVersion → List Effect
 told_of n None = []
 told_of n (Some v) = version_effects n v.topology
@@ -66,5 +71,6 @@ abbrev pub checks_of : NodeState → Option Document → ℕ
 checks_of n None = 0
 checks_of n (Some d) = if nat_le d.topology.version n.live.version then 0 else 1
 
+-- how many signatures are checked of a document
 abbrev pub document_checks : NodeState → List ℕ → ℕ
 document_checks n bytes = checks_of n (document_in bytes)

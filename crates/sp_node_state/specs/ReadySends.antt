@@ -29,6 +29,7 @@ pub record IsReadyRel (n : NodeState) (ready : ReadyRel) : Type 0 where
 
 -- ---- an update of a weight
 
+-- an update of a weight that waits for its signature alone
 pub record IsReadyUpdate (n : NodeState) (ready : ReadyUpdate) : Type 0 where
   pub blank : IsReadyBlank n ready.blank
   pub new : offer_of n.parts.weights ready.blank.kept.body ≡ offers.New
@@ -42,6 +43,7 @@ IsMaskFor n m (Ok mask) = IsChoice n.parts.weights (graph_of n.fixed.topology n.
 IsMaskFor n m (Err (refusals.NoPaths found)) = IsChoice n.parts.weights (graph_of n.fixed.topology n.parts.weights) n.fixed.me m.dst m.paths (OnlyPaths found)
 IsMaskFor n m (Err refused) = refused ≡ refusals.Memory
 
+-- a priority message that waits for its signature alone, with room for each copy
 pub record IsReadyPrio (n : NodeState) (ready : ReadyPrio) : Type 0 where
   pub blank : IsReadyBlank n ready.blank
   pub spare : IsSpareOf ready.blank.kept ready.spare

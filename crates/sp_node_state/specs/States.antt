@@ -15,6 +15,7 @@ use Rattle.sp_topology.specs.Keys.{key_of}
 abbrev pub signer_in : NodeSigner → Signer
 signer_in own = record { seed = own.signer.seed; index = own.signer.index; bound = own.signer.bound; total = total own.signer.height }
 
+-- a node by the rules, of what a node in memory holds
 abbrev pub state_of : Fixed → Live → List Heard → (now calls : ℕ) → List Link → NodeSigner → Parts → NodeState
 state_of f live heard now calls links own parts = record {
   fixed = f;

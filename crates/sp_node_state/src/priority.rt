@@ -1,5 +1,6 @@
 // A client sends a priority message.
-ghost use Rattle.std.specs.Prelude.{ℕ, ◌≡◌, ◌≢◌, ◌≤◌, ◌<◌, ◌+◌, ◌*◌, ◌^◌, ◌==◌, ◌&&◌, not, All, IfErr, IfOk, None as Nothing, Some as There, Ok, ◌∷◌, length, true};
+ghost use Rattle.std.specs.Prelude.{ℕ, ◌≡◌, ◌≢◌, ◌≤◌, ◌<◌, ◌+◌, ◌*◌, ◌^◌, ◌==◌, ◌&&◌, not, All, IfErr, IfOk, None as Nothing, Some as There, Ok, ◌∷◌, length};
+ghost use Rattle.std.specs.Prelude.{true};
 ghost use Rattle.sp_base.specs.declared.limits.TheConstants.{MAX_WEIGHT};
 ghost use Rattle.laws_node.specs.Inputs.{PrioSendFits};
 ghost use Rattle.laws_node.specs.Nodes.{IsKept};
@@ -88,7 +89,8 @@ fn may_send(state: &State, message: &PrioSend<'_>) -> Result<(), SendRefused>
 
 /// Whether this is another node, and neither it nor this one is removed.
 fn are_ends(state: &State, dst: NodeId) -> bool
-    ensures { result ≡ (not (dst.0 == state.entry.now.fixed.me.0) && is_there state.entry.now.parts.prio dst.0 && is_there state.entry.now.parts.prio state.entry.now.fixed.me.0) }
+    ensures { result ≡ (not (dst.0 == state.entry.now.fixed.me.0)
+        && is_there state.entry.now.parts.prio dst.0 && is_there state.entry.now.parts.prio state.entry.now.fixed.me.0) }
 {
     let prio = &state.core.prio;
     dst.0 != state.fixed.me.0 && prio.is_there(dst) && prio.is_there(state.fixed.me)
@@ -205,7 +207,8 @@ fn choose(
     requires to { is_node (nodes_of fixed.now.topology) message.now.dst.0 ≡ true }
     requires other { fixed.now.me ≢ message.now.dst }
     requires few { message.now.paths ≤ MAX_PATHS }
-    ensures mask { IfOk result (λ mask. IsChoice core.now.weights (graph_of fixed.now.topology core.now.weights) fixed.now.me message.now.dst message.now.paths (Over (bits mask))) }
+    ensures mask { IfOk result (λ mask.
+        IsChoice core.now.weights (graph_of fixed.now.topology core.now.weights) fixed.now.me message.now.dst message.now.paths (Over (bits mask))) }
     ensures fewer { IfErr result (SaysFewer (graph_of fixed.now.topology core.now.weights) fixed.now.me message.now.dst message.now.paths) }
 {
     mask_to(

@@ -56,7 +56,8 @@ same_ids : (height : LmsHeight) (nodes : List DraftNode) → ids_of (map (node_k
 same_ids height [] = refl
 same_ids height (n ∷ nodes) = ap (λ (ids : List ℕ). n.id.0 ∷ ids) (same_ids height nodes)
 
-pub in_range : NoFaultIsInRange → (d : Draft) (t : Topology) → t ≡ topology_of d → IsGoodDraft d → t.version < 2 ^ 32 → All (λ n. IsKey d.height n.key) t.nodes → IsTopology t
+pub in_range : NoFaultIsInRange → (d : Draft) (t : Topology) → t ≡ topology_of d → IsGoodDraft d → t.version < 2 ^ 32 → All (λ n. IsKey d.height n.key) t.nodes
+    → IsTopology t
 in_range law d t is good version each =
     let ids : ids_of t.nodes ≡ map (λ n. n.id.0) d.nodes = rw is (same_ids d.height d.nodes) in
     let right = (law d.format (map (λ n. n.id.0) d.nodes) t.edges).0 (rw is good.no_fault) in

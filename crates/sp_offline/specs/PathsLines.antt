@@ -16,12 +16,15 @@ use Rattle.sp_paths.specs.declared.paths.Paths.{Paths}
 abbrev pub node_text : NodeId → List ℕ
 node_text v = codes " " ++ decimal v.0
 
+-- the line of a path
 unfoldable pub path_line : List NodeId → List ℕ
 path_line path = codes "path" ++ (flat_map node_text path ++ codes "\n")
 
+-- the line of a cost
 unfoldable pub cost_line : ℕ → List ℕ
 cost_line cost = codes "cost " ++ (decimal cost ++ codes "\n")
 
+-- the lines of paths
 unfoldable pub paths_text : Paths → List ℕ
 paths_text p = flat_map path_line p.paths ++ cost_line p.cost
 
@@ -34,5 +37,6 @@ unfoldable pub part_text : NodeId → NodeId → Part → List ℕ
 part_text s t (parts.In v) = node_text v ++ part_sign t v (codes "-")
 part_text s t (parts.Out v) = node_text v ++ part_sign s v (codes "+")
 
+-- the lines of a cut, where there are fewer paths
 unfoldable pub fewer_text : NodeId → NodeId → ℕ → List Part → List ℕ
 fewer_text s t found cut = codes "fewer " ++ (decimal found ++ (codes "\ncut" ++ (flat_map (part_text s t) cut ++ codes "\n")))

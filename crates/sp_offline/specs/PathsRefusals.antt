@@ -18,6 +18,7 @@ text_line (texts.BadNumber place) = place.line
 text_line (texts.BadHex place) = place.line
 text_line texts.Memory = 0
 
+-- the word of what is wrong with a text
 abbrev pub text_word : TextRefused → List ℕ
 text_word (texts.LineLong place) = codes "LineLong"
 text_word (texts.Cut place) = codes "Cut"
@@ -35,6 +36,7 @@ line_of (refusals.NoEnd line) = line
 line_of (refusals.AfterEnd line) = line
 line_of refusals.Memory = 0
 
+-- the word of what is wrong with a graph
 abbrev pub kind_word : GraphRefused → List ℕ
 kind_word (refusals.Text refused) = text_word refused
 kind_word (refusals.Form line) = codes "Event"
@@ -43,5 +45,6 @@ kind_word (refusals.NoEnd line) = codes "NoEnd"
 kind_word (refusals.AfterEnd line) = codes "AfterEnd"
 kind_word refusals.Memory = codes "Memory"
 
+-- the line of a refusal
 unfoldable pub refused_line : ℕ → List ℕ → List ℕ
 refused_line line kind = codes "refused " ++ (decimal line ++ (codes " " ++ (kind ++ codes "\n")))

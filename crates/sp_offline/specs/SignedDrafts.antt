@@ -18,6 +18,7 @@ use Rattle.sp_config.specs.Readings.{as_edge}
 abbrev pub node_key : LmsHeight → DraftNode → NodeKey
 node_key height n = record { id = n.id; key = public_key (param_of height) n.seed }
 
+-- the topology of a draft
 abbrev pub topology_of : Draft → Topology
 topology_of d = record {
   format = d.format;
@@ -31,11 +32,14 @@ topology_of d = record {
 abbrev pub signed_document : Draft → List ℕ
 signed_document d = document (topology_of d) ++ signature (param_of d.height) d.admin_seed d.admin_index (document (topology_of d))
 
+-- the administrator's public key
 abbrev pub admin_key : Draft → List ℕ
 admin_key d = public_key (param_of d.height) d.admin_seed
 
+-- the line of some bytes
 abbrev pub hex_line : List ℕ → List ℕ
 hex_line bytes = encode_lower bytes ++ codes "\n"
 
+-- the two lines of a signed draft
 unfoldable pub signed_text : Draft → List ℕ
 signed_text d = hex_line (signed_document d) ++ hex_line (admin_key d)

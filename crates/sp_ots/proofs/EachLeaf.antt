@@ -53,13 +53,15 @@ next_elements id q i j seed was message element digest long front is laid hashed
     )
 
 -- one more end behind those that stand
-pub ends_more : (id : List ℕ) (q last : ℕ) (seed : List ℕ) (i : ℕ) → ends_behind id q last seed i ++ end_of_start id q i last seed ≡ ends_behind id q last seed (i + 1)
+pub ends_more : (id : List ℕ) (q last : ℕ) (seed : List ℕ) (i : ℕ)
+    → ends_behind id q last seed i ++ end_of_start id q i last seed ≡ ends_behind id q last seed (i + 1)
 ends_more id q last seed i =
     let f : ℕ → List ℕ = λ n. end_of_start id q n last seed in
     let all = map f (range_with_len 0 i) in
     append_assoc (front_of id q 0x8080) (concat all) (f i)
     ∙ ap (λ (xs : List ℕ). front_of id q 0x8080 ++ xs)
-    (sym (concat-append all (f i ∷ []) ∙ ap (λ (xs : List ℕ). concat all ++ xs) (append-nil (f i))) ∙ ap concat (sym (map-range_with_len_more f 0 i i (omega arith))))
+    (sym (concat-append all (f i ∷ []) ∙ ap (λ (xs : List ℕ). concat all ++ xs) (append-nil (f i)))
+    ∙ ap concat (sym (map-range_with_len_more f 0 i i (omega arith))))
 
 -- a digest of one of them
 pub digest_at : (messages digests : List (List ℕ)) (k : ℕ) → k < length messages → digests ≡ map sha256 messages

@@ -1,5 +1,6 @@
 -- The ends of all chains, from what is known of each chain's steps and element.
-use Rattle.std.proofs.Common.{◌≡◌, ℕ, zero, suc, ◌+◌, ◌-◌, ◌*◌, ◌<◌, ◌≤◌, List, [], length, take, drop, map, replicate, slice_index, slice_index_or, get_or, refl, ◌∙◌, ap, arith}
+use Rattle.std.proofs.Common.{◌≡◌, ℕ, zero, suc, ◌+◌, ◌-◌, ◌*◌, ◌<◌, ◌≤◌, List, [], length, take, drop, map, replicate, slice_index, slice_index_or, get_or}
+use Rattle.std.proofs.Common.{refl, ◌∙◌, ap, arith}
 use Rattle.std.specs.List.{range_with_len}
 use Rattle.std.specs.Simd.{first_chunks}
 use Rattle.std.proofs.lemmas.List.{get_or-take, get_or-replicate, drop-drop}
@@ -47,6 +48,7 @@ element_at signature n i within =
     let size : 36 + 32 * i + 32 - (36 + 32 * i) ≡ 32 = omega arith in
     chunk_at n i (drop 36 signature) within ∙ ap (take 32) (drop-drop (32 * i) 36 signature) ∙ rw size refl
 
+-- so many pieces are taken as are asked for
 pub length-chunks : (n : ℕ) (xs : List ℕ) → length (first_chunks 32 n xs) ≡ n
 length-chunks zero xs = refl
 length-chunks (suc n) xs = ap suc (length-chunks n (drop 32 xs))

@@ -25,4 +25,5 @@ digest_of_hash m len count long is =
 pub digests_of_all : (ms : List (List ℕ)) (len count : ℕ) → All (λ m. len ≤ length m) ms → count ≡ (len + length (padding len)) / 64
     → map (λ m. digest_bytes (hash_after initial_hash_256 (padded_message (take len m)) count) 8) ms ≡ map (λ m. sha256 (take len m)) ms
 digests_of_all [] len count long is = refl
-digests_of_all (m ∷ ms) len count long is = λ i. digest_of_hash m len count (long 0 m (omega arith)) is i ∷ digests_of_all ms len count (λ k d lt. long (suc k) d (omega (arith, lt))) is i
+digests_of_all (m ∷ ms) len count long is =
+    λ i. digest_of_hash m len count (long 0 m (omega arith)) is i ∷ digests_of_all ms len count (λ k d lt. long (suc k) d (omega (arith, lt))) is i

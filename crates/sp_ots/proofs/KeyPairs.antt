@@ -17,7 +17,8 @@ pub ends_of_starts : (id : List ℕ) (q n m : ℕ) (seed to : List ℕ) (t : ℕ
     → ends ≡ chain_ends id q (take n (replicate 265 0)) to starts
     → ends ≡ map (λ i. chain_end id q i 0 (t i) (private_start id q seed i)) (range_with_len 0 n)
 ends_of_starts id q n m seed to t starts ends few e made ht run =
-    let starts_are : starts ≡ map (private_start id q seed) (range_with_len 0 n) = made ∙ ap (λ (k : ℕ). map (private_start id q seed) (range_with_len 0 k)) e in
+    let starts_are : starts ≡ map (private_start id q seed) (range_with_len 0 n) =
+    made ∙ ap (λ (k : ℕ). map (private_start id q seed) (range_with_len 0 k)) e in
     let long : length starts ≡ n = ap length starts_are ∙ length-map-range_with_len (private_start id q seed) 0 n in
     run ∙ ends_are id q n (take n (replicate 265 0)) to starts (λ _. 0) t (private_start id q seed) long
     (λ i within. same_for_all n 265 0 i few within) ht (λ i within. made_at (private_start id q seed) starts n i [] starts_are within)

@@ -15,7 +15,8 @@ put_behind was front rest part now place n stands at long put =
     put ∙ rw (kept, left) refl
 
 -- the five parts of the message of an element
-pub laid_out : (id leaf chain step element m1 m2 m3 m4 m5 : List ℕ) → length id ≡ 16 → length leaf ≡ 4 → length chain ≡ 2 → length step ≡ 1 → length element ≡ 32
+pub laid_out : (id leaf chain step element m1 m2 m3 m4 m5 : List ℕ) → length id ≡ 16 → length leaf ≡ 4 → length chain ≡ 2 → length step ≡ 1
+    → length element ≡ 32
     → m1 ≡ take 0 (replicate 55 0) ++ id ++ drop (0 + length id) (replicate 55 0)
     → m2 ≡ take 16 m1 ++ leaf ++ drop (16 + length leaf) m1
     → m3 ≡ take 20 m2 ++ chain ++ drop (20 + length chain) m2

@@ -32,7 +32,8 @@ rest_first {X = X} was xs i d before =
     ∙ get_or-drop i was 0 d ∙ ap (λ (k : ℕ). get_or was k d) place
 
 -- the values of f at n numbers, and at those after them
-in_two : {X : Type 0} (f : ℕ → X) (a n k b m : ℕ) → a + n ≡ b → n + k ≡ m → map f (range_with_len a m) ≡ map f (range_with_len a n) ++ map f (range_with_len b k)
+in_two : {X : Type 0} (f : ℕ → X) (a n k b m : ℕ) → a + n ≡ b → n + k ≡ m
+    → map f (range_with_len a m) ≡ map f (range_with_len a n) ++ map f (range_with_len b k)
 in_two f a zero k b m start all =
     let same : a ≡ b = omega arith in
     let count : m ≡ k = omega arith in
@@ -53,5 +54,6 @@ group_filled f xs ys a b m order within most before values =
 pub put_within : {X : Type 0} (a k : ℕ) (xs ys : List X) (i : ℕ) (d : X) → a ≤ length xs → i < length ys → get_or (put_mid a k xs ys) (a + i) d ≡ get_or ys i d
 put_within {X = X} a k xs ys i d within inside =
     let place : a + i - a ≡ i = omega arith in
-    sym (get_or-take (a + length ys) (put_mid a k xs ys) (a + i) d (omega arith)) ∙ ap (λ (zs : List X). get_or zs (a + i) d) (take-put_mid a k xs ys (a + length ys) refl within)
+    sym (get_or-take (a + length ys) (put_mid a k xs ys) (a + i) d (omega arith))
+    ∙ ap (λ (zs : List X). get_or zs (a + i) d) (take-put_mid a k xs ys (a + length ys) refl within)
     ∙ get_or-append_right (take a xs) ys a (a + i) d (length-take-le a xs within) (omega arith) ∙ ap (λ (n : ℕ). get_or ys n d) place

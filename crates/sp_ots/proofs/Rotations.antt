@@ -1,6 +1,8 @@
 -- A rotation goes through xor, and two rotations are one. So three rotations under xor may stand one within another.
-use Rattle.std.proofs.Common.{◌≡◌, ℕ, ◌+◌, ◌-◌, ◌*◌, ◌/◌, ◌%◌, ◌^◌, ◌<◌, ◌≤◌, bit_or, bit_xor, sym, ap, subst, ◌∙◌, arith, add-zero, add_comm, mod-lt, pow_pos, pow-add, shr-shr}
-use Rattle.std.proofs.lemmas.Nat.{mod-pow-add, mod_low, or_comm, or_lt, or_shifted, shl-shr, shr_below, shr_high, shr_le, shr_split, xor_block, xor_lt, xor_mod, xor_shr}
+use Rattle.std.proofs.Common.{◌≡◌, ℕ, ◌+◌, ◌-◌, ◌*◌, ◌/◌, ◌%◌, ◌^◌, ◌<◌, ◌≤◌, bit_or, bit_xor, sym, ap, subst, ◌∙◌, arith, add-zero, add_comm, mod-lt, pow_pos}
+use Rattle.std.proofs.Common.{pow-add, shr-shr}
+use Rattle.std.proofs.lemmas.Nat.{mod-pow-add, mod_low, or_comm, or_lt, or_shifted, shl-shr, shr_below, shr_high, shr_le, shr_split, xor_block, xor_lt, xor_mod}
+use Rattle.std.proofs.lemmas.Nat.{xor_shr}
 use lib.Bits.{xor_assoc}
 
 -- `rotate_right` by k, from 1 to w - 1, in a word of w bits

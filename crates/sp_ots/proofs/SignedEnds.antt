@@ -1,5 +1,6 @@
 -- The key that a signature gives, from its elements, each run to its end.
-use Rattle.std.proofs.Common.{◌≡◌, ℕ, ◌+◌, ◌-◌, ◌/◌, ◌<◌, ◌≤◌, List, [], length, take, drop, map, replicate, slice_index, slice_index_or, get_or, refl, sym, ◌∙◌, ap, arith}
+use Rattle.std.proofs.Common.{◌≡◌, ℕ, ◌+◌, ◌-◌, ◌/◌, ◌<◌, ◌≤◌, List, [], length, take, drop, map, replicate, slice_index, slice_index_or, get_or, refl, sym}
+use Rattle.std.proofs.Common.{◌∙◌, ap, arith}
 use Rattle.std.specs.List.{range_with_len}
 use Rattle.std.specs.Simd.{first_chunks}
 use Rattle.std.proofs.lemmas.List.{ext_get_or, get_or-take, length-drop, take_rest}
@@ -37,13 +38,15 @@ ends_of_signature param id q hash signature from elements ends n last n_is last_
     ∙ rw (n_is, last_is) refl
 
 -- as many pieces of 32 bytes as chains stand after a signature's front
-pub chunks_are : (param : OtsParam) (signature rest : List ℕ) (n : ℕ) → n ≡ chain_count param → length signature ≡ signature_len param → rest ≡ drop 36 signature
+pub chunks_are : (param : OtsParam) (signature rest : List ℕ) (n : ℕ) → n ≡ chain_count param → length signature ≡ signature_len param
+    → rest ≡ drop 36 signature
     → first_chunks 32 (length rest / 32) rest ≡ first_chunks 32 n (drop 36 signature)
 chunks_are param signature rest n n_is whole rest_is =
     let count : length rest / 32 ≡ n = ap (λ (xs : List ℕ). length xs / 32) rest_is ∙ omega (arith, length-drop 36 signature) in
     rw (count, rest_is) refl
 
-pub key_from_signature : (param : OtsParam) (id : List ℕ) (q : ℕ) (message signature : List ℕ) (count last : ℕ) (hash from : List ℕ) (elements ends : List (List ℕ)) (key : List ℕ)
+pub key_from_signature : (param : OtsParam) (id : List ℕ) (q : ℕ) (message signature : List ℕ) (count last : ℕ) (hash from : List ℕ)
+    (elements ends : List (List ℕ)) (key : List ℕ)
     → count ≡ chain_count param → last ≡ last_step param → length signature ≡ signature_len param
     → hash ≡ message_hash id q (take 32 (drop 4 signature)) message
     → take (chain_count param) from ≡ for_each_chain param (digit param hash)
@@ -57,7 +60,8 @@ key_from_signature param id q message signature count last hash from elements en
     hashed ∙ ap (key_of_ends id q) (all ∙ ap (λ (h : List ℕ). candidate_ends param id q h signature) hash_is)
 
 -- what is laid down for the chains of a signature, which stand from a place on: their fronts, steps and elements
-pub record AreLaid (param : OtsParam) (id : List ℕ) (q : ℕ) (message signature : List ℕ) (front : ℕ → List ℕ) (from to : List ℕ) (elements : List (List ℕ)) (place : ℕ) : Type 0 where
+pub record AreLaid (param : OtsParam) (id : List ℕ) (q : ℕ) (message signature : List ℕ) (front : ℕ → List ℕ) (from to : List ℕ) (elements : List (List ℕ))
+    (place : ℕ) : Type 0 where
   pub room : place + chain_count param ≤ length elements
   pub fronts : (i : ℕ) → i < chain_count param → front (place + i) ≡ front_of id q i
   pub digits : (i : ℕ) → i < chain_count param → slice_index from (place + i) ≡ digit param (message_hash id q (randomizer_of signature) message) i
@@ -65,7 +69,8 @@ pub record AreLaid (param : OtsParam) (id : List ℕ) (q : ℕ) (message signatu
   pub signed : (i : ℕ) → i < chain_count param → slice_index_or elements (place + i) [] ≡ element_of signature i
 
 -- the key that the ends of these chains give
-pub key_of_part : (param : OtsParam) (id : List ℕ) (q : ℕ) (message signature : List ℕ) (front : ℕ → List ℕ) (from to : List ℕ) (elements ends : List (List ℕ)) (place : ℕ) (part : List (List ℕ))
+pub key_of_part : (param : OtsParam) (id : List ℕ) (q : ℕ) (message signature : List ℕ) (front : ℕ → List ℕ) (from to : List ℕ) (elements ends : List (List ℕ))
+    (place : ℕ) (part : List (List ℕ))
     → AreLaid param id q message signature front from to elements place → ends ≡ run_ends front from to elements → length part ≡ chain_count param
     → ((i : ℕ) → i < chain_count param → get_or part i [] ≡ get_or ends (place + i) [])
     → key_of_ends id q part ≡ candidate_key param id q message signature

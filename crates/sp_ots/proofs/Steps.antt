@@ -21,7 +21,8 @@ chain_more id q i from j element later =
     rw (count, place) refl
 
 -- as many steps, counted otherwise
-pub chain_same : (id : List ℕ) (q i from j to : ℕ) (element : List ℕ) → j - from ≡ to - from → chain_end id q i from j element ≡ chain_end id q i from to element
+pub chain_same : (id : List ℕ) (q i from j to : ℕ) (element : List ℕ) → j - from ≡ to - from
+    → chain_end id q i from j element ≡ chain_end id q i from to element
 chain_same id q i from j to element e = ap (λ (count : ℕ). stepped id q i from count element) e
 
 -- the message with the step's number in its place
@@ -68,5 +69,6 @@ renewed message step element long long_element =
     let split : set message 22 step ≡ (front ++ u8str step) ++ drop 23 message = numbered message front (drop 23 message) step long refl refl in
     let long_front : length (front ++ u8str step) ≡ 23 = length-append front (u8str step) ∙ omega (arith, length-take-le 22 message (omega arith)) in
     let kept : take 23 (set message 22 step) ≡ front ++ u8str step = ap (take 23) split ∙ take_at (front ++ u8str step) (drop 23 message) 23 long_front in
-    let none : drop 32 (drop 23 (set message 22 step)) ≡ [] = drop-drop 32 23 (set message 22 step) ∙ drop_all 55 (set message 22 step) (omega (arith, length-set message 22 step)) in
+    let none : drop 32 (drop 23 (set message 22 step)) ≡ [] =
+    drop-drop 32 23 (set message 22 step) ∙ drop_all 55 (set message 22 step) (omega (arith, length-set message 22 step)) in
     rw (kept, none) (ap (λ (xs : List ℕ). (front ++ u8str step) ++ xs) (append-nil element))

@@ -1,5 +1,6 @@
 -- The chains of two leaves, one leaf's behind the other's: their steps, and that they are those of the standard.
-use Rattle.std.proofs.Common.{◌≡◌, ℕ, zero, suc, ◌+◌, ◌-◌, ◌<◌, ◌≤◌, List, [], ◌++◌, length, take, slice_index, slice_index_or, refl, sym, ◌∙◌, ap, arith, inl, inr}
+use Rattle.std.proofs.Common.{◌≡◌, ℕ, zero, suc, ◌+◌, ◌-◌, ◌<◌, ◌≤◌, List, [], ◌++◌, length, take, slice_index, slice_index_or, refl, sym, ◌∙◌, ap, arith, inl}
+use Rattle.std.proofs.Common.{inr}
 use Rattle.std.proofs.lemmas.Bool.{cases_lt}
 use Rattle.std.proofs.lemmas.Bool.Decides.{nat_tests}
 use Rattle.std.proofs.lemmas.List.{append_assoc, length-append, take_at}
@@ -27,11 +28,13 @@ more_behind front from j element later =
     rw (count, place) refl
 
 -- a message begins with its front
-pub begun_behind : (front : List ℕ) (step : ℕ) (element message : List ℕ) → length front ≡ 22 → message ≡ front ++ u8str step ++ element → take 22 message ≡ front
+pub begun_behind : (front : List ℕ) (step : ℕ) (element message : List ℕ) → length front ≡ 22 → message ≡ front ++ u8str step ++ element
+    → take 22 message ≡ front
 begun_behind front step element message long e = ap (take 22) (e ∙ append_assoc front (u8str step) element) ∙ take_at front (u8str step ++ element) 22 long
 
 -- behind the front of a chain, its steps are those of the standard
-pub stepped_same : (id : List ℕ) (q i from count : ℕ) (element : List ℕ) → stepped_behind (front_of id q i) from count element ≡ stepped id q i from count element
+pub stepped_same : (id : List ℕ) (q i from count : ℕ) (element : List ℕ)
+    → stepped_behind (front_of id q i) from count element ≡ stepped id q i from count element
 unfolding stepped_behind stepped next_element
 stepped_same id q i from zero element = refl
 stepped_same id q i from (suc count) element =

@@ -1,5 +1,6 @@
 -- How the lanes keep the chains that are on their way, when one takes a chain and when one makes a step.
-use Rattle.std.proofs.Common.{◌≡◌, ◌≢◌, ℕ, zero, suc, ◌+◌, ◌-◌, ◌/◌, ◌<◌, ◌≤◌, ◌⊎◌, List, [], ◌∷◌, ◌++◌, length, take, map, replicate, sum, set, slice_index, slice_index_or, refl, sym, ◌∙◌, ap, arith, inl, inr}
+use Rattle.std.proofs.Common.{◌≡◌, ◌≢◌, ℕ, zero, suc, ◌+◌, ◌-◌, ◌/◌, ◌<◌, ◌≤◌, ◌⊎◌, List, [], ◌∷◌, ◌++◌, length, take, map, replicate, sum, set, slice_index}
+use Rattle.std.proofs.Common.{slice_index_or, refl, sym, ◌∙◌, ap, arith, inl, inr}
 use Rattle.std.proofs.lemmas.Bool.{cases_eq, cases_lt}
 use Rattle.std.proofs.lemmas.List.{ext_get_or, get_or-set_other, get_or-set_same, length-set}
 use Rattle.std.proofs.lemmas.List.Sums.{sum_by-cons}
@@ -108,7 +109,8 @@ passed front from to old now was l u more none most chains left messages =
 
 -- none is in turn at all, and the turn of shorter ones begins
 pub turned : (front : ℕ → List ℕ) (from to : List ℕ) (old now : List (List ℕ)) (was l : Lanes) → AreUnderWay front from to old now was
-    → ((i : ℕ) → was.next ≤ i → i < length old → ¬ IsInTurn from to was.most i) → l.most ≡ was.most / 3 → l.next ≡ 0 → l.chains ≡ was.chains → l.left ≡ was.left → l.messages ≡ was.messages
+    → ((i : ℕ) → was.next ≤ i → i < length old → ¬ IsInTurn from to was.most i) → l.most ≡ was.most / 3 → l.next ≡ 0 → l.chains ≡ was.chains → l.left ≡ was.left
+    → l.messages ≡ was.messages
     → AreUnderWay front from to old now l
 turned front from to old now was l u none most next chains left messages =
     went_on front from to old now was l u
@@ -169,7 +171,8 @@ taken front from to old now was l k message u lane idle within turn laid most ne
     let stays : (j : ℕ) → IsTaken from to was.most was.next j → IsTaken from to l.most l.next j =
     λ j t. rw (most, next) (later_taken from to was.most i (i + 1) j (omega arith) t) in
     let waits = u.waiting i (record { high = turn.high; later = λ _. omega arith }) in
-    let begins = first_message front from to old now l.most l.next i message within (rw (most, next) (inr (turn, omega arith))) (omega (arith, turn.low)) laid waits in
+    let begins =
+    first_message front from to old now l.most l.next i message within (rw (most, next) (inr (turn, omega arith))) (omega (arith, turn.low)) laid waits in
     record {
       whole = u.whole;
       chains = ap length chains ∙ length-set was.chains k i ∙ u.chains;
@@ -203,10 +206,12 @@ next_of_held front from to old most next i n message digest held busy hashed =
 
 -- a lane holds the same chain one step later
 one_step_later : (front : ℕ → List ℕ) (from to : List ℕ) (old : List (List ℕ)) (most next i n : ℕ) (message digest : List ℕ)
-    → ((i : ℕ) → length (front i) ≡ 22) → IsHeld front from to old most next i n message → 0 < n → digest ≡ element_at front from old i (slice_index to i - (n - 1))
+    → ((i : ℕ) → length (front i) ≡ 22) → IsHeld front from to old most next i n message → 0 < n
+    → digest ≡ element_at front from old i (slice_index to i - (n - 1))
     → IsHeld front from to old most next i (n - 1) (take 22 message ++ u8str (slice_index to i - (n - 1)) ++ digest)
 one_step_later front from to old most next i n message digest long held busy is =
-    let begins : take 22 message ≡ front i = begun_behind (front i) (slice_index to i - n) (element_at front from old i (slice_index to i - n)) message (long i) held.message_is in
+    let begins : take 22 message ≡ front i =
+    begun_behind (front i) (slice_index to i - n) (element_at front from old i (slice_index to i - n)) message (long i) held.message_is in
     record {
       within = held.within;
       taken = held.taken;

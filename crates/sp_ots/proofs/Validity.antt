@@ -15,7 +15,8 @@ use Rattle.sp_ots.specs.Candidate.{randomizer_of, element_of, candidate_ends, ca
 use Rattle.sp_ots.proofs.Ends.{map_same}
 
 -- some steps, and then some more
-stepped-add : (id : List ℕ) (q i from a b : ℕ) (element : List ℕ) → stepped id q i from (a + b) element ≡ stepped id q i (from + a) b (stepped id q i from a element)
+stepped-add : (id : List ℕ) (q i from a b : ℕ) (element : List ℕ)
+    → stepped id q i from (a + b) element ≡ stepped id q i (from + a) b (stepped id q i from a element)
 unfolding stepped
 stepped-add id q i from a zero element = let none : a + 0 ≡ a = omega arith in rw none refl
 stepped-add id q i from a (suc b) element =
@@ -24,7 +25,8 @@ stepped-add id q i from a (suc b) element =
     rw (count, place) (ap (next_element id q i (from + a + b)) (stepped-add id q i from a b element))
 
 -- a chain that stops on the way and goes on
-chain_end-join : (id : List ℕ) (q i mid to : ℕ) (element : List ℕ) → mid ≤ to → chain_end id q i mid to (chain_end id q i 0 mid element) ≡ chain_end id q i 0 to element
+chain_end-join : (id : List ℕ) (q i mid to : ℕ) (element : List ℕ) → mid ≤ to
+    → chain_end id q i mid to (chain_end id q i 0 mid element) ≡ chain_end id q i 0 to element
 chain_end-join id q i mid to element within =
     let first : mid - 0 ≡ mid = omega arith in
     let all : to - 0 ≡ mid + (to - mid) = omega arith in
@@ -46,6 +48,7 @@ length-randomizer : (id : List ℕ) (q : ℕ) (seed : List ℕ) → length (rand
 unfolding randomizer
 length-randomizer id q seed = length-sha256 (id ++ u32str q ++ u16str 65533 ++ 255 ∷ [] ++ seed)
 
+-- a number of 32 bits is four bytes
 pub length-u32str : (x : ℕ) → length (u32str x) ≡ 4
 unfolding u32str
 length-u32str x = refl
@@ -89,7 +92,8 @@ parts param id q seed hash =
     let code = u32str (typecode param) in
     let random = randomizer id q seed in
     let f : ℕ → List ℕ = λ i. chain_end id q i 0 (digit param hash i) (private_start id q seed i) in
-    let each : (i : ℕ) → length (f i) ≡ 32 = λ i. length-stepped id q i 0 (digit param hash i - 0) (private_start id q seed i) (length-private_start id q seed i) in
+    let each : (i : ℕ) → length (f i) ≡ 32 =
+    λ i. length-stepped id q i 0 (digit param hash i - 0) (private_start id q seed i) (length-private_start id q seed i) in
     let rest = concat (map f (range_with_len 0 (chain_count param))) in
     let long_code = length-u32str (typecode param) in
     let long_random = length-randomizer id q seed in
@@ -98,7 +102,8 @@ parts param id q seed hash =
     record {
       long = omega (arith, length-append (code ++ random) rest, long_front, length-pieces f 0 (chain_count param) each);
       code = ap (take 4) behind_code ∙ take_at code (random ++ rest) 4 long_code;
-      random = ap (λ (xs : List ℕ). take 32 (drop 4 xs)) behind_code ∙ ap (take 32) (drop_at code (random ++ rest) 4 long_code) ∙ take_at random rest 32 long_random;
+      random = ap (λ (xs : List ℕ). take 32 (drop 4 xs)) behind_code ∙ ap (take 32) (drop_at code (random ++ rest) 4 long_code)
+          ∙ take_at random rest 32 long_random;
       element = λ i within.
           let size : 36 + 32 * i + 32 - (36 + 32 * i) ≡ 32 = omega arith in
           let index : 0 + i ≡ i = omega arith in
@@ -111,17 +116,21 @@ ends_meet : (param : OtsParam) (id : List ℕ) (q : ℕ) (seed hash whole : List
     → for_each_chain param (λ i. chain_end id q i 0 (last_step param) (private_start id q seed i)) ≡ candidate_ends param id q hash whole
 unfolding candidate_ends
 ends_meet param id q seed hash whole p =
-    map_same (λ i. chain_end id q i 0 (last_step param) (private_start id q seed i)) (λ i. chain_end id q i (digit param hash i) (last_step param) (element_of whole i))
+    map_same (λ i. chain_end id q i 0 (last_step param) (private_start id q seed i))
+    (λ i. chain_end id q i (digit param hash i) (last_step param) (element_of whole i))
     0 (chain_count param) (λ i low high.
     sym (ap (λ (x : List ℕ). chain_end id q i (digit param hash i) (last_step param) x) (p.element i (omega arith))
     ∙ chain_end-join id q i (digit param hash i) (last_step param) (private_start id q seed i) (digit-le param hash i)))
 
-pub signature-valid : (param : OtsParam) (id : List ℕ) (q : ℕ) (seed message : List ℕ) → IsValid param id q (public_key param id q seed) message (signature param id q seed message)
+-- a one-time signature is valid under the public key of its seed
+pub signature-valid : (param : OtsParam) (id : List ℕ) (q : ℕ) (seed message : List ℕ)
+    → IsValid param id q (public_key param id q seed) message (signature param id q seed message)
 unfolding public_key candidate_key signature
 signature-valid param id q seed message =
     let hash = message_hash id q (randomizer id q seed) message in
     let p = parts param id q seed hash in
-    let same : hash ≡ message_hash id q (randomizer_of (signature param id q seed message)) message = ap (λ (c : List ℕ). message_hash id q c message) (sym p.random) in
+    let same : hash ≡ message_hash id q (randomizer_of (signature param id q seed message)) message =
+    ap (λ (c : List ℕ). message_hash id q c message) (sym p.random) in
     record {
       length_is = p.long;
       typecode_is = p.code;

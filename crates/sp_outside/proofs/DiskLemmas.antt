@@ -1,11 +1,13 @@
 -- What writes and syncs make of a disk and its images.
-use Rattle.std.proofs.Common.{◌≡◌, ℕ, zero, suc, ◌+◌, ◌<◌, ◌≤◌, Bool, true, false, List, [], ◌∷◌, ◌++◌, length, max, get_or, take, drop, refl, sym, ap, subst, ◌∙◌, arith}
+use Rattle.std.proofs.Common.{◌≡◌, ℕ, zero, suc, ◌+◌, ◌<◌, ◌≤◌, Bool, true, false, List, [], ◌∷◌, ◌++◌, length, max, get_or, take, drop, refl, sym, ap, subst}
+use Rattle.std.proofs.Common.{◌∙◌, arith}
 use Rattle.std.specs.Prelude.{◌==◌, ◌&&◌, if◌then◌else◌}
 use borrow.Rule.Slice.PartMut.{put_mid}
 use Rattle.std.proofs.lemmas.Bool.{eqb-true}
 use Rattle.sp_outside.specs.Disk.{Cell, Disk, IsImage, after_write, bytes_of, over, patched, still}
 use Rattle.sp_outside.specs.Moments.{IsWithin}
 
+-- a disk on which nothing is being written has the bytes that stand there
 pub bytes_of-still : (f : List ℕ) → bytes_of (still f) ≡ f
 bytes_of-still [] = refl
 bytes_of-still (x ∷ f) = ap (λ (l : List ℕ). x ∷ l) (bytes_of-still f)
@@ -35,10 +37,12 @@ and_both false false is = (is, is)
 over_now : (cell : Cell) (b : ℕ) → (over cell b).now ≡ b
 over_now cell b = go (cell.is_fixed && (cell.is_there && (cell.now == b))) refl
   where
-    go : (t : Bool) → cell.is_fixed && (cell.is_there && (cell.now == b)) ≡ t → (if t then cell else (record { now = b; is_fixed = false; is_there = cell.is_there })).now ≡ b
+    go : (t : Bool) → cell.is_fixed && (cell.is_there && (cell.now == b)) ≡ t
+        → (if t then cell else (record { now = b; is_fixed = false; is_there = cell.is_there })).now ≡ b
     go true is = eqb-true cell.now b (and_both cell.is_there (cell.now == b) (and_both cell.is_fixed (cell.is_there && (cell.now == b)) is).1).1
     go false is = refl
 
+-- writing over a cell leaves it there, or away, as it was
 pub over_there : (cell : Cell) (b : ℕ) → (over cell b).is_there ≡ cell.is_there
 over_there cell b = go (cell.is_fixed && (cell.is_there && (cell.now == b)))
   where
@@ -79,13 +83,15 @@ within_write (cell ∷ disk) (suc at) (b ∷ bs) (x ∷ xs) h = (h.0, within_wri
 pub within_patched : (f : List ℕ) (at : ℕ) (bs : List ℕ) → IsWithin (still (patched f at bs)) (after_write (still f) at bs)
 within_patched f at bs image h =
     let own = own_image (after_write (still f) at bs) in
-    let is : bytes_of (after_write (still f) at bs) ≡ image = bytes_of-after_write (still f) at bs ∙ ap (λ (l : List ℕ). patched l at bs) (bytes_of-still f) ∙ sym (only_image (patched f at bs) image h) in
+    let is : bytes_of (after_write (still f) at bs) ≡ image =
+    bytes_of-after_write (still f) at bs ∙ ap (λ (l : List ℕ). patched l at bs) (bytes_of-still f) ∙ sym (only_image (patched f at bs) image h) in
     subst (IsImage (after_write (still f) at bs)) is own
 
 -- ---- a write into an array of which so many bytes are the file
 
 -- at its front
-laid : (arr : List ℕ) (len n : ℕ) (bs : List ℕ) → length bs ≤ length arr → n ≡ max len (length bs) → take n (bs ++ drop (length bs) arr) ≡ patched (take len arr) 0 bs
+laid : (arr : List ℕ) (len n : ℕ) (bs : List ℕ) → length bs ≤ length arr → n ≡ max len (length bs)
+    → take n (bs ++ drop (length bs) arr) ≡ patched (take len arr) 0 bs
 laid arr len n [] room is = let e : n ≡ len = omega arith in ap (λ (m : ℕ). take m arr) e
 laid [] len n (b ∷ bs) room is = absurd (omega (arith, room))
 laid (x ∷ arr) len zero (b ∷ bs) room is = absurd (omega (arith, is))
@@ -101,11 +107,20 @@ laid_at [] len (suc at) n (b ∷ bs) some room is clear = absurd (omega (arith, 
 laid_at (x ∷ arr) len (suc at) zero (b ∷ bs) some room is clear = absurd (omega (arith, is))
 laid_at (x ∷ arr) zero (suc at) (suc n) (b ∷ bs) some room is clear =
     let zero_here : x ≡ 0 = clear 0 (omega arith) (omega arith) in
-    rw (zero_here, laid_at arr 0 at n (b ∷ bs) (omega arith) (omega (arith, room)) (omega (arith, is)) (λ k low high. clear (suc k) (omega arith) (omega (arith, high)))) refl
+    rw (
+      zero_here,
+      laid_at arr 0 at n (b ∷ bs) (omega arith) (omega (arith, room)) (omega (arith, is)) (λ k low high. clear (suc k) (omega arith) (omega (arith, high))),
+    )
+    refl
 laid_at (x ∷ arr) (suc len) (suc at) (suc n) (b ∷ bs) some room is clear =
-    ap (λ (l : List ℕ). x ∷ l) (laid_at arr len at n (b ∷ bs) (omega arith) (omega (arith, room)) (omega (arith, is)) (λ k low high. clear (suc k) (omega (arith, low)) (omega (arith, high))))
+    ap (λ (l : List ℕ). x ∷ l)
+    (laid_at arr len at n (b ∷ bs) (omega arith) (omega (arith, room)) (omega (arith, is))
+    (λ k low high. clear (suc k) (omega (arith, low)) (omega (arith, high))))
 
 -- a file in memory that is its one image, written
-pub memory_written : (f g : List ℕ) (at : ℕ) (bs : List ℕ) → g ≡ patched f at bs → (bytes_of (still g) ≡ patched (bytes_of (still f)) at bs) × IsWithin (still g) (after_write (still f) at bs)
-memory_written f g at bs is =
-    (bytes_of-still g ∙ is ∙ ap (λ (l : List ℕ). patched l at bs) (sym (bytes_of-still f)), (λ image h. within_patched f at bs image (subst (λ (l : List ℕ). IsImage (still l) image) is h)))
+pub memory_written : (f g : List ℕ) (at : ℕ) (bs : List ℕ) → g ≡ patched f at bs
+    → (bytes_of (still g) ≡ patched (bytes_of (still f)) at bs) × IsWithin (still g) (after_write (still f) at bs)
+memory_written f g at bs is = (
+  bytes_of-still g ∙ is ∙ ap (λ (l : List ℕ). patched l at bs) (sym (bytes_of-still f)),
+  (λ image h. within_patched f at bs image (subst (λ (l : List ℕ). IsImage (still l) image) is h)),
+)

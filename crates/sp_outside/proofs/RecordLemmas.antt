@@ -13,7 +13,8 @@ after_calls-push : (d : Disk) (calls : List KeeperCall) (call : KeeperCall) → 
 after_calls-push d [] call = refl
 after_calls-push d (first ∷ calls) call = after_calls-push (after_call d first) calls call
 
-after_each-push : (d : Disk) (calls : List KeeperCall) (call : KeeperCall) → after_each d (calls ++ call ∷ []) ≡ after_each d calls ++ after_call (after_calls d calls) call ∷ []
+after_each-push : (d : Disk) (calls : List KeeperCall) (call : KeeperCall)
+    → after_each d (calls ++ call ∷ []) ≡ after_each d calls ++ after_call (after_calls d calls) call ∷ []
 after_each-push d [] call = refl
 after_each-push d (first ∷ calls) call = ap (λ (l : List Disk). after_call d first ∷ l) (after_each-push (after_call d first) calls call)
 
@@ -25,7 +26,8 @@ pub past_added : (old new : Record) (disk : Disk) → Adds old new disk → past
 past_added old new disk adds = rw (adds.first, adds.calls, adds.left) (after_each-push (still old.first) old.calls adds.call)
 
 -- a call adds one moment, whose images have P
-pub since_added : (old new : Record) (disk : Disk) (P : List ℕ → Type 0) → Adds old new disk → ((image : List ℕ) → IsImage disk image → P image) → AllSince (Some (past_of old)) (Some (past_of new)) P
+pub since_added : (old new : Record) (disk : Disk) (P : List ℕ → Type 0) → Adds old new disk → ((image : List ℕ) → IsImage disk image → P image)
+    → AllSince (Some (past_of old)) (Some (past_of new)) P
 since_added old new disk P adds holds = (disk ∷ [], past_added old new disk adds, (holds, tt))
 
 -- a sync leaves the bytes, whether it was done or not
@@ -47,7 +49,8 @@ kept_since false old new disk P kept before holds = ([], ap past_of (before refl
 
 pub kept_within : (b : Bool) (old new : Record) (disk outer : Disk) → (b ≡ true → Adds old new disk) → (b ≡ false → new ≡ old)
     → IsWithin disk outer → IsWithin (disk_of old) outer → IsWithin (disk_of new) outer
-kept_within true old new disk outer kept before inside same image h = inside image (subst (λ (d : Disk). IsImage d image) (disk_added old new disk (kept refl)) h)
+kept_within true old new disk outer kept before inside same image h =
+    inside image (subst (λ (d : Disk). IsImage d image) (disk_added old new disk (kept refl)) h)
 kept_within false old new disk outer kept before inside same image h = same image (subst (λ (r : Record). IsImage (disk_of r) image) (before refl) h)
 
 pub kept_same : (b : Bool) (old new : Record) → (b ≡ true → Adds old new (disk_of old)) → (b ≡ false → new ≡ old) → Some (disk_of new) ≡ Some (disk_of old)
@@ -61,20 +64,25 @@ written_as old new at bs adds =
     let is = disk_added old new (after_write (disk_of old) at bs) adds in
     (ap bytes_of is ∙ bytes_of-after_write (disk_of old) at bs, (λ image h. subst (λ (d : Disk). IsImage d image) is h))
 
-pub synced_as : (old new : Record) (fails : Bool) → fails ≡ false → Adds old new (after_call (disk_of old) (Synced (not fails))) → disk_of new ≡ after_sync (disk_of old)
-synced_as old new fails done adds = disk_added old new (after_call (disk_of old) (Synced (not fails))) adds ∙ ap (λ (b : Bool). after_call (disk_of old) (Synced (not b))) done
+pub synced_as : (old new : Record) (fails : Bool) → fails ≡ false → Adds old new (after_call (disk_of old) (Synced (not fails)))
+    → disk_of new ≡ after_sync (disk_of old)
+synced_as old new fails done adds =
+    disk_added old new (after_call (disk_of old) (Synced (not fails))) adds ∙ ap (λ (b : Bool). after_call (disk_of old) (Synced (not b))) done
 
 -- ---- the bytes that stand ready are those under the record
 
 -- one call more, or none
 pub kept_bytes : (t : Bool) (d : Disk) (calls now : List KeeperCall) (call : KeeperCall) (file : List ℕ) → now ≡ (if t then calls ++ call ∷ [] else calls)
-    → bytes_of (after_call (after_calls d calls) call) ≡ bytes_of (after_calls d calls) → file ≡ bytes_of (after_calls d calls) → file ≡ bytes_of (after_calls d now)
+    → bytes_of (after_call (after_calls d calls) call) ≡ bytes_of (after_calls d calls) → file ≡ bytes_of (after_calls d calls)
+    → file ≡ bytes_of (after_calls d now)
 kept_bytes true d calls now call file is same file_is = rw (is, after_calls-push d calls call, same) file_is
 kept_bytes false d calls now call file is same file_is = rw is file_is
 
 -- a write more
-pub wrote_bytes : (t : Bool) (d : Disk) (calls now : List KeeperCall) (call : KeeperCall) (at : ℕ) (bs file : List ℕ) → t ≡ true → now ≡ (if t then calls ++ call ∷ [] else calls)
-    → after_call (after_calls d calls) call ≡ after_write (after_calls d calls) at bs → file ≡ bytes_of (after_calls d calls) → patched file at bs ≡ bytes_of (after_calls d now)
+pub wrote_bytes : (t : Bool) (d : Disk) (calls now : List KeeperCall) (call : KeeperCall) (at : ℕ) (bs file : List ℕ) → t ≡ true
+    → now ≡ (if t then calls ++ call ∷ [] else calls)
+    → after_call (after_calls d calls) call ≡ after_write (after_calls d calls) at bs → file ≡ bytes_of (after_calls d calls)
+    → patched file at bs ≡ bytes_of (after_calls d now)
 wrote_bytes true d calls now call at bs file done is written file_is =
     rw (is, after_calls-push d calls call, written, bytes_of-after_write (after_calls d calls) at bs) (ap (λ (f : List ℕ). patched f at bs) file_is)
 wrote_bytes false d calls now call at bs file done is written file_is = absurd (false_not_true done)

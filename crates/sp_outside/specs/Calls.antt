@@ -8,6 +8,7 @@ pub data Got : Type 0 where
   Lost : Got
   Came : (port : ℕ) (bytes : List ℕ) → Got
 
+-- a call of the system, with what came of it
 pub data Call : Type 0 where
   Opened : (overlay client : ℕ) (is_done : Bool) → Call
   Received : (side : Side) (got : Got) → Call
@@ -19,6 +20,7 @@ Tells old None more = Unit {0}
 Tells None (Some new) more = ⊥
 Tells (Some old) (Some new) more = new ≡ old ++ more
 
+-- whether a call was done
 abbrev pub is_done : {T E : Type 0} → Result T E → Bool
 is_done (Ok x) = true
 is_done (Err e) = false

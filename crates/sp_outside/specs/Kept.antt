@@ -34,6 +34,7 @@ pub record Takes (side : Side) (overlay client overlay_after client_after : List
 
 -- ---- what is kept
 
+-- the call that is told of what a wire keeps
 abbrev pub call_of : Kept → Call
 call_of (kept.Opened overlay client is_done) = Opened overlay client is_done
 call_of (kept.Nothing side) = Received side Nothing

@@ -1,5 +1,6 @@
 -- Each arc of the split graph stands there once, so no two lanes have the same ends.
-use Rattle.std.proofs.Common.{◌≡◌, ◌+◌, ◌<◌, ◌≤◌, ℕ, zero, suc, Bool, true, false, cond, List, [], ◌∷◌, ◌++◌, length, map, refl, sym, ap, subst, ◌∙◌, inl, inr, arith}
+use Rattle.std.proofs.Common.{◌≡◌, ◌+◌, ◌<◌, ◌≤◌, ℕ, zero, suc, Bool, true, false, cond, List, [], ◌∷◌, ◌++◌, length, map, refl, sym, ap, subst, ◌∙◌, inl, inr}
+use Rattle.std.proofs.Common.{arith}
 use Rattle.std.specs.Prelude.{◌⊎◌}
 use Rattle.std.specs.List.{All, AllPairs, filter, flat_map, range_with_len}
 use Rattle.std.proofs.lemmas.List.{map-append}
@@ -30,7 +31,8 @@ distinct_filter f test [] once = tt
 distinct_filter {X} {Y} f test (x ∷ xs) once = go (test x) (distinct_filter f test xs once.1)
   where
     go : (b : Bool) → Distinct (map f (filter test xs)) → Distinct (map f (cond b (x ∷ filter test xs) (filter test xs)))
-    go true rest = ((λ h. let (y, at, e) = from_map f (filter test xs) (f x) h in once.0 (subst (Has (map f xs)) e (has_map f xs y (from_filter test xs y at).0))), rest)
+    go true rest =
+        ((λ h. let (y, at, e) = from_map f (filter test xs) (f x) h in once.0 (subst (Has (map f xs)) e (has_map f xs y (from_filter test xs y at).0))), rest)
     go false rest = rest
 
 range_above : (a n x : ℕ) → Has (range_with_len a n) x → a ≤ x
@@ -98,7 +100,14 @@ no_way nodes e f w one two lower (inr a) (inr b) = go lower
 
 edge_ways_once : (nodes : ℕ) (edges : List Edge) → All (IsEdge nodes) edges → AllPairs IsLower edges → Distinct (map ends_of (flat_map edge_arcs edges))
 edge_ways_once nodes [] good ascend = tt
-edge_ways_once nodes (e ∷ edges) good ascend = (first, (second, edge_ways_once nodes edges (All-tail (IsEdge nodes) e edges good) (λ i j d less inside. ascend (suc i) (suc j) d (omega (arith, less)) (omega (arith, inside)))))
+edge_ways_once nodes (e ∷ edges) good ascend = (
+  first,
+  (
+    second,
+    edge_ways_once nodes edges (All-tail (IsEdge nodes) e edges good)
+        (λ i j d less inside. ascend (suc i) (suc j) d (omega (arith, less)) (omega (arith, inside))),
+  ),
+)
   where
     here : IsEdge nodes e
     here = All-head (IsEdge nodes) e edges good
@@ -147,15 +156,20 @@ has_at [] i inside = absurd (omega (arith, inside))
 has_at (l ∷ lanes) zero inside = inl refl
 has_at (l ∷ lanes) (suc i) inside = inr (has_at lanes i (omega (arith, inside)))
 
-same_place : (lanes : List Lane) → Distinct (map way_of lanes) → (i j : ℕ) → i < length lanes → j < length lanes → way_of (lane_at lanes i) ≡ way_of (lane_at lanes j) → i ≡ j
+same_place : (lanes : List Lane) → Distinct (map way_of lanes) → (i j : ℕ) → i < length lanes → j < length lanes
+    → way_of (lane_at lanes i) ≡ way_of (lane_at lanes j) → i ≡ j
 same_place [] once i j inside too e = absurd (omega (arith, inside))
 same_place (l ∷ lanes) once zero zero inside too e = refl
-same_place (l ∷ lanes) once zero (suc j) inside too e = absurd (once.0 (subst (Has (map way_of lanes)) (sym e) (has_map way_of lanes (lane_at lanes j) (has_at lanes j (omega (arith, too))))))
-same_place (l ∷ lanes) once (suc i) zero inside too e = absurd (once.0 (subst (Has (map way_of lanes)) e (has_map way_of lanes (lane_at lanes i) (has_at lanes i (omega (arith, inside))))))
+same_place (l ∷ lanes) once zero (suc j) inside too e =
+    absurd (once.0 (subst (Has (map way_of lanes)) (sym e) (has_map way_of lanes (lane_at lanes j) (has_at lanes j (omega (arith, too))))))
+same_place (l ∷ lanes) once (suc i) zero inside too e =
+    absurd (once.0 (subst (Has (map way_of lanes)) e (has_map way_of lanes (lane_at lanes i) (has_at lanes i (omega (arith, inside))))))
 same_place (l ∷ lanes) once (suc i) (suc j) inside too e = ap (λ (n : ℕ). suc n) (same_place lanes once.1 i j (omega (arith, inside)) (omega (arith, too)) e)
 
 pub has_arc : (lanes : List Lane) (arcs : List Arc) → map arc_of lanes ≡ arcs → (i : ℕ) → i < length lanes → Has arcs (arc_of (lane_at lanes i))
-has_arc lanes arcs is i inside = subst (λ (as_arcs : List Arc). Has as_arcs (arc_of (lane_at lanes i))) is (has_map arc_of lanes (lane_at lanes i) (has_at lanes i inside))
+has_arc lanes arcs is i inside =
+    subst (λ (as_arcs : List Arc). Has as_arcs (arc_of (lane_at lanes i))) is (has_map arc_of lanes (lane_at lanes i) (has_at lanes i inside))
 
-pub place_once : (g : Graph) (s t : NodeId) (lanes : List Lane) → IsGraph g → map arc_of lanes ≡ arcs_of g s t → (i j : ℕ) → i < length lanes → j < length lanes → way_of (lane_at lanes i) ≡ way_of (lane_at lanes j) → i ≡ j
+pub place_once : (g : Graph) (s t : NodeId) (lanes : List Lane) → IsGraph g → map arc_of lanes ≡ arcs_of g s t → (i j : ℕ) → i < length lanes → j < length lanes
+    → way_of (lane_at lanes i) ≡ way_of (lane_at lanes j) → i ≡ j
 place_once g s t lanes good is = same_place lanes (subst Distinct (sym (ends_are lanes ∙ ap (map ends_of) is)) (arcs_once g s t good))

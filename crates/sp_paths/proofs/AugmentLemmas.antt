@@ -1,5 +1,6 @@
 -- A lane of a tree is turned round: what is known of all lanes stays true, and the way that is left is shorter.
-use Rattle.std.proofs.Common.{◌≡◌, ◌+◌, ◌<◌, ◌≤◌, ℕ, zero, suc, Bool, true, false, cond, List, [], ◌∷◌, length, map, set, sum_by, refl, sym, ap, subst, ◌∙◌, inl, inr, arith}
+use Rattle.std.proofs.Common.{◌≡◌, ◌+◌, ◌<◌, ◌≤◌, ℕ, zero, suc, Bool, true, false, cond, List, [], ◌∷◌, length, map, set, sum_by, refl, sym, ap, subst, ◌∙◌}
+use Rattle.std.proofs.Common.{inl, inr, arith}
 use Rattle.std.specs.Prelude.{◌⊎◌, ◌≢◌}
 use Rattle.std.proofs.lemmas.Bool.{cases_eq}
 use Rattle.std.proofs.lemmas.List.{length-set, get_or-set_same, get_or-set_other}
@@ -24,8 +25,10 @@ bare_set (l ∷ lanes) (suc i) = ap (λ (rest : List Lane). bare l ∷ rest) (ba
 
 -- one lane's part in the two sums, before and after it is turned round
 turn : (c : ℕ → Bool) (used : Bool) (from to cost : ℕ)
-    → begins c (flipped (record { from = from; to = to; cost = cost; used = used })) + ends c (record { from = from; to = to; cost = cost; used = used }) + cond (c (cond used from to)) 1 0
-    ≡ begins c (record { from = from; to = to; cost = cost; used = used }) + ends c (flipped (record { from = from; to = to; cost = cost; used = used })) + cond (c (cond used to from)) 1 0
+    → begins c (flipped (record { from = from; to = to; cost = cost; used = used })) + ends c (record { from = from; to = to; cost = cost; used = used })
+    + cond (c (cond used from to)) 1 0
+    ≡ begins c (record { from = from; to = to; cost = cost; used = used }) + ends c (flipped (record { from = from; to = to; cost = cost; used = used }))
+    + cond (c (cond used to from)) 1 0
 turn c true from to cost = omega arith
 turn c false from to cost = omega arith
 
@@ -44,14 +47,16 @@ flip_flow s t r here lanes i inside at_here flow c =
 pub first_half : (s t r : ℕ) (lanes : List Lane) → Flow s t r lanes → Halfway s t r t lanes
 first_half s t r lanes flow c = go (c t) (flow c)
   where
-    go : (b : Bool) → sum_by (begins c) lanes + cond b r 0 ≡ sum_by (ends c) lanes + cond (c s) r 0 → sum_by (begins c) lanes + cond b (r + 1) 0 ≡ sum_by (ends c) lanes + cond (c s) r 0 + cond b 1 0
+    go : (b : Bool) → sum_by (begins c) lanes + cond b r 0 ≡ sum_by (ends c) lanes + cond (c s) r 0
+        → sum_by (begins c) lanes + cond b (r + 1) 0 ≡ sum_by (ends c) lanes + cond (c s) r 0 + cond b 1 0
     go true e = omega (arith, e)
     go false e = omega (arith, e)
 
 pub last_half : (s t r here : ℕ) (lanes : List Lane) → here ≡ s → Halfway s t r here lanes → Flow s t (r + 1) lanes
 last_half s t r here lanes is flow c = go (c s) (ap c is) (flow c)
   where
-    go : (b : Bool) → c here ≡ b → sum_by (begins c) lanes + cond (c t) (r + 1) 0 ≡ sum_by (ends c) lanes + cond b r 0 + cond (c here) 1 0 → sum_by (begins c) lanes + cond (c t) (r + 1) 0 ≡ sum_by (ends c) lanes + cond b (r + 1) 0
+    go : (b : Bool) → c here ≡ b → sum_by (begins c) lanes + cond (c t) (r + 1) 0 ≡ sum_by (ends c) lanes + cond b r 0 + cond (c here) 1 0
+        → sum_by (begins c) lanes + cond (c t) (r + 1) 0 ≡ sum_by (ends c) lanes + cond b (r + 1) 0
     go true f e = let one : ◌≡◌ {A = ℕ} (cond (c here) 1 0) 1 = rw f refl in omega (arith, e, one)
     go false f e = let none : ◌≡◌ {A = ℕ} (cond (c here) 1 0) 0 = rw f refl in omega (arith, e, none)
 
@@ -80,26 +85,31 @@ module _ (old : List Lane) (tree : List ℕ) (s t here k : ℕ) (lanes : List La
   inside : at tree k < length lanes
   inside = omega (arith, b.long, is_tree.inside k (omega (arith, b.short)))
 
-  pub back_turned : head (lane_at lanes (at tree k)) ≡ here → Back old tree s t (tail (lane_at lanes (at tree k))) k (set lanes (at tree k) (flipped (lane_at lanes (at tree k))))
+  pub back_turned : head (lane_at lanes (at tree k)) ≡ here
+      → Back old tree s t (tail (lane_at lanes (at tree k))) k (set lanes (at tree k) (flipped (lane_at lanes (at tree k))))
   back_turned at_here = record {
     same = bare_set lanes (at tree k) ∙ b.same;
     long = length-set lanes (at tree k) (flipped (lane_at lanes (at tree k))) ∙ b.long;
     fits = λ p tight fits j less. all_fit p tight fits j (omega (arith, less, length-set lanes (at tree k) (flipped (lane_at lanes (at tree k)))));
     place = subst (λ (l : Lane). (tail l ≡ s) ⊎ Reaches old tree k (tail l)) (sym (b.kept k (omega arith))) (is_tree.hangs k (omega (arith, b.short)));
-    kept = λ j less. get_or-set_other lanes (at tree k) (at tree j) (flipped (lane_at lanes (at tree k))) no_lane (is_tree.once j k less (omega (arith, b.short))) ∙ b.kept j (omega (arith, less));
+    kept = λ j less. get_or-set_other lanes (at tree k) (at tree j) (flipped (lane_at lanes (at tree k))) no_lane
+        (is_tree.once j k less (omega (arith, b.short))) ∙ b.kept j (omega (arith, less));
     flow = λ r flow. flip_flow s t r here lanes (at tree k) inside at_here (b.flow r flow);
     short = omega (arith, b.short);
   }
     where
-      all_fit : (p : ℕ → ℕ) → AreTight p old tree → FitAll p old → (j : ℕ) → j < length lanes → Fits p (lane_at (set lanes (at tree k) (flipped (lane_at lanes (at tree k)))) j)
+      all_fit : (p : ℕ → ℕ) → AreTight p old tree → FitAll p old → (j : ℕ) → j < length lanes
+          → Fits p (lane_at (set lanes (at tree k) (flipped (lane_at lanes (at tree k)))) j)
       all_fit p tight fits j less = go (cases_eq j (at tree k))
         where
           go : (j ≡ at tree k) ⊎ (j ≢ at tree k) → Fits p (lane_at (set lanes (at tree k) (flipped (lane_at lanes (at tree k)))) j)
           go (inl e) =
               let here_tight : IsTight p (lane_at lanes (at tree k)) = subst (IsTight p) (sym (b.kept k (omega arith))) (tight k (omega (arith, b.short))) in
               subst (λ (i : ℕ). Fits p (lane_at (set lanes (at tree k) (flipped (lane_at lanes (at tree k)))) i)) (sym e)
-              (subst (Fits p) (sym (get_or-set_same lanes (at tree k) (flipped (lane_at lanes (at tree k))) no_lane inside)) (tight_fits p (lane_at lanes (at tree k)) here_tight))
-          go (inr apart) = subst (Fits p) (sym (get_or-set_other lanes (at tree k) j (flipped (lane_at lanes (at tree k))) no_lane apart)) (b.fits p tight fits j less)
+              (subst (Fits p) (sym (get_or-set_same lanes (at tree k) (flipped (lane_at lanes (at tree k))) no_lane inside))
+              (tight_fits p (lane_at lanes (at tree k)) here_tight))
+          go (inr apart) =
+              subst (Fits p) (sym (get_or-set_other lanes (at tree k) j (flipped (lane_at lanes (at tree k))) no_lane apart)) (b.fits p tight fits j less)
 
   pub back_passed : head (lane_at lanes (at tree k)) ≢ here → Back old tree s t here k lanes
   back_passed elsewhere = record {

@@ -22,7 +22,8 @@ number_found : (ps : List Part) (f : Part → ℤ) (q : Part) → Has ps q → n
 number_found [] f q h = absurd h
 number_found (p ∷ ps) f q h = go (is_same p q) refl h (number_found ps f q)
   where
-    go : (b : Bool) → is_same p q ≡ b → Has (p ∷ ps) q → (Has ps q → number_of ps (map f ps) q ≡ f q) → cond (is_same p q) (f p) (number_of ps (map f ps) q) ≡ f q
+    go : (b : Bool) → is_same p q ≡ b → Has (p ∷ ps) q → (Has ps q → number_of ps (map f ps) q ≡ f q)
+        → cond (is_same p q) (f p) (number_of ps (map f ps) q) ≡ f q
     go true e k rest = rw e (ap f (is_same_true p q e))
     go false e (inl same) rest = absurd (let x : true ≡ false = sym (is_same_itself p) ∙ ap (is_same p) same ∙ e in cc)
     go false e (inr k) rest = rw e (rest k)
@@ -52,27 +53,34 @@ arc_parts g s t a right h = go (has_either (map node_arc (nodes_to g.nodes)) (fl
     there = both_true (stays s t a.from) (stays s t a.to) at.1
 
     ends : Has (flat_map both (nodes_to g.nodes)) a.from → Has (flat_map both (nodes_to g.nodes)) a.to → Has (parts_of g s t) a.from × Has (parts_of g s t) a.to
-    ends from to = (has_filter (stays s t) (flat_map both (nodes_to g.nodes)) a.from from there.0, has_filter (stays s t) (flat_map both (nodes_to g.nodes)) a.to to there.1)
+    ends from to = (
+      has_filter (stays s t) (flat_map both (nodes_to g.nodes)) a.from from there.0,
+      has_filter (stays s t) (flat_map both (nodes_to g.nodes)) a.to to there.1,
+    )
 
     go : Has (map node_arc (nodes_to g.nodes)) a ⊎ Has (flat_map edge_arcs g.edges) a → Has (parts_of g s t) a.from × Has (parts_of g s t) a.to
     go (inl k) =
         let (v, place, is) = from_map node_arc (nodes_to g.nodes) a k in
         let two = has_both (nodes_to g.nodes) v place in
-        ends (subst (λ (b : Arc). Has (flat_map both (nodes_to g.nodes)) b.from) is two.0) (subst (λ (b : Arc). Has (flat_map both (nodes_to g.nodes)) b.to) is two.1)
+        ends (subst (λ (b : Arc). Has (flat_map both (nodes_to g.nodes)) b.from) is two.0)
+        (subst (λ (b : Arc). Has (flat_map both (nodes_to g.nodes)) b.to) is two.1)
     go (inr k) =
         let (u, v, weight, edge, is) = from_edges g.edges a k in
         let last = in_range g u v right edge in
         let first = in_range g v u right (between_other g u v edge) in
         let from = (has_both (nodes_to g.nodes) u (has_node g.nodes u first.0 first.1)).1 in
         let to = (has_both (nodes_to g.nodes) v (has_node g.nodes v last.0 last.1)).0 in
-        ends (subst (λ (b : Arc). Has (flat_map both (nodes_to g.nodes)) b.from) (sym is) from) (subst (λ (b : Arc). Has (flat_map both (nodes_to g.nodes)) b.to) (sym is) to)
+        ends (subst (λ (b : Arc). Has (flat_map both (nodes_to g.nodes)) b.from) (sym is) from)
+        (subst (λ (b : Arc). Has (flat_map both (nodes_to g.nodes)) b.to) (sym is) to)
 
-same_cost : (f h : Part → ℤ) (a : Arc) (b : Bool) → f a.from ≡ h a.from → f a.to ≡ h a.to → pos 0 ≤ℤ reduced_cost h (cond b (turned a) a) → pos 0 ≤ℤ reduced_cost f (cond b (turned a) a)
+same_cost : (f h : Part → ℤ) (a : Arc) (b : Bool) → f a.from ≡ h a.from → f a.to ≡ h a.to → pos 0 ≤ℤ reduced_cost h (cond b (turned a) a)
+    → pos 0 ≤ℤ reduced_cost f (cond b (turned a) a)
 same_cost f h a true from to low = rw (from, to) low
 same_cost f h a false from to low = rw (from, to) low
 
 -- potentials by the order of parts are a certificate where those by part are
-pub certificate_is : (g : Graph) (s t : NodeId) (paths : List (List NodeId)) (f : Part → ℤ) → IsGraph g → IsOptimal g s t paths f → IsCertificate g s t paths (map f (parts_of g s t))
+pub certificate_is : (g : Graph) (s t : NodeId) (paths : List (List NodeId)) (f : Part → ℤ) → IsGraph g → IsOptimal g s t paths f
+    → IsCertificate g s t paths (map f (parts_of g s t))
 certificate_is g s t paths f right best = record {
   one_each = length-map (parts_of g s t) f;
   optimal = all_from (λ a. pos 0 ≤ℤ reduced_cost (number_of (parts_of g s t) (map f (parts_of g s t))) a) (residual g s t paths) (λ x h.
@@ -81,5 +89,6 @@ certificate_is g s t paths f right best = record {
       let ends = arc_parts g s t a right at in
       let low = held (λ b. pos 0 ≤ℤ reduced_cost f b) (residual g s t paths) (in_residual a) best (has_map in_residual (arcs_of g s t) a at) in
       subst (λ b. pos 0 ≤ℤ reduced_cost (number_of (parts_of g s t) (map f (parts_of g s t))) b) e
-      (same_cost (number_of (parts_of g s t) (map f (parts_of g s t))) f a (uses paths a) (number_found (parts_of g s t) f a.from ends.0) (number_found (parts_of g s t) f a.to ends.1) low));
+      (same_cost (number_of (parts_of g s t) (map f (parts_of g s t))) f a (uses paths a) (number_found (parts_of g s t) f a.from ends.0)
+      (number_found (parts_of g s t) f a.to ends.1) low));
 }

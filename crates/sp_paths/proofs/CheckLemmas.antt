@@ -17,5 +17,6 @@ module _ (g : Graph) (s t : NodeId) (edges : List Edge) (set paths : List (List 
   pub apart_read : (r : Bool) → r ≡ all_apart s t set → IsTrue r ↔ AllPairs (Apart s t) paths
   apart_read r is = rw (is, same_set) (all_apart_is s t paths)
 
-  pub cost_read : (r : Bool) (amount : ℕ) → IsTrue r ↔ (amount ≡ sum_by (λ path. sum_by (λ step. weight_between edges step.0 step.1) (steps path)) set) → IsTrue r ↔ (amount ≡ cost g paths)
+  pub cost_read : (r : Bool) (amount : ℕ) → IsTrue r ↔ (amount ≡ sum_by (λ path. sum_by (λ step. weight_between edges step.0 step.1) (steps path)) set)
+      → IsTrue r ↔ (amount ≡ cost g paths)
   cost_read r amount is = rw (sym same_edges, sym same_set) is

@@ -38,27 +38,35 @@ among_is f ps q h = go (f q) refl (is_among (filter f ps) q) refl
 
 filter_same : {X : Type 0} (f h : X → Bool) (xs : List X) → ((x : X) → Has xs x → f x ≡ h x) → filter f xs ≡ filter h xs
 filter_same f h [] same = refl
-filter_same {X} f h (x ∷ xs) same = ap (λ (b : Bool). cond b (x ∷ filter f xs) (filter f xs)) (same x (inl refl)) ∙ ap (λ (rest : List X). cond (h x) (x ∷ rest) rest) (filter_same f h xs (λ y k. same y (inr k)))
+filter_same {X} f h (x ∷ xs) same =
+    ap (λ (b : Bool). cond b (x ∷ filter f xs) (filter f xs)) (same x (inl refl))
+    ∙ ap (λ (rest : List X). cond (h x) (x ∷ rest) rest) (filter_same f h xs (λ y k. same y (inr k)))
 
 total_same : {X : Type 0} (f h : X → ℕ) (xs : List X) → ((x : X) → Has xs x → f x ≡ h x) → total f xs ≡ total h xs
 total_same f h [] same = refl
 total_same f h (x ∷ xs) same = omega (arith, same x (inl refl), total_same f h xs (λ y k. same y (inr k)))
 
 -- as many arcs leave two sets that have the same of the parts there
-leaving_same : (g : Graph) (s t : NodeId) (c d : Part → Bool) → IsGraph g → ((q : Part) → Has (parts_of g s t) q → c q ≡ d q) → leaving g s t c ≡ leaving g s t d
+leaving_same : (g : Graph) (s t : NodeId) (c d : Part → Bool) → IsGraph g → ((q : Part) → Has (parts_of g s t) q → c q ≡ d q)
+    → leaving g s t c ≡ leaving g s t d
 leaving_same g s t c d right same =
     let one : Arc → ℕ = λ a. cond (c a.from && not (c a.to)) 1 0 in
     let two : Arc → ℕ = λ a. cond (d a.from && not (d a.to)) 1 0 in
     total_is one (arcs_of g s t) ∙ total_same one two (arcs_of g s t) (λ a h.
     let ends = arc_parts g s t a right h in
-    ap (λ (b : Bool). cond (b && not (c a.to)) 1 0) (same a.from ends.0) ∙ ap (λ (b : Bool). cond (d a.from && not b) 1 0) (same a.to ends.1)) ∙ sym (total_is two (arcs_of g s t))
+    ap (λ (b : Bool). cond (b && not (c a.to)) 1 0) (same a.from ends.0) ∙ ap (λ (b : Bool). cond (d a.from && not b) 1 0) (same a.to ends.1))
+    ∙ sym (total_is two (arcs_of g s t))
 
 -- both ends have their parts
 source_there : (g : Graph) (s t : NodeId) → AreEnds g s t → Has (parts_of g s t) (parts.Out s)
-source_there g s t ends = has_filter (stays s t) (flat_map both (nodes_to g.nodes)) (parts.Out s) (has_both (nodes_to g.nodes) s (has_node g.nodes s ends.0.0 ends.0.1)).1 (out_stays s t s ends.2)
+source_there g s t ends =
+    has_filter (stays s t) (flat_map both (nodes_to g.nodes)) (parts.Out s) (has_both (nodes_to g.nodes) s (has_node g.nodes s ends.0.0 ends.0.1)).1
+    (out_stays s t s ends.2)
 
 destination_there : (g : Graph) (s t : NodeId) → AreEnds g s t → Has (parts_of g s t) (parts.In t)
-destination_there g s t ends = has_filter (stays s t) (flat_map both (nodes_to g.nodes)) (parts.In t) (has_both (nodes_to g.nodes) t (has_node g.nodes t ends.1.0 ends.1.1)).0 (in_stays s t t (λ e. ends.2 (sym e)))
+destination_there g s t ends =
+    has_filter (stays s t) (flat_map both (nodes_to g.nodes)) (parts.In t) (has_both (nodes_to g.nodes) t (has_node g.nodes t ends.1.0 ends.1.1)).0
+    (in_stays s t t (λ e. ends.2 (sym e)))
 
 pub cut_is : (g : Graph) (s t : NodeId) (k found : ℕ) (reached : List Bool) → IsGraph g → AreEnds g s t → IsFew g s t k found reached
     → AreFewer g s t k found (filter (λ part. is_in reached (number part)) (parts_of g s t))
@@ -72,7 +80,11 @@ cut_is g s t k found reached right ends few =
       disjoint = few.disjoint;
       no_more = few.no_more;
       in_order = filter_same test (is_among cut) (parts_of g s t) (λ q h. sym (same q h));
-      is_cut = record { source = same (parts.Out s) (source_there g s t ends) ∙ few.is_cut.source; destination = same (parts.In t) (destination_there g s t ends) ∙ few.is_cut.destination };
+      is_cut = record {
+        source = same (parts.Out s) (source_there g s t ends) ∙ few.is_cut.source;
+        destination =
+            same (parts.In t) (destination_there g s t ends) ∙ few.is_cut.destination;
+      };
       size = leaving_same g s t (is_among cut) test right same ∙ few.size;
       least = few.least;
       smallest = λ other good small. all_from (λ part. other part ≡ true) cut (λ q h.

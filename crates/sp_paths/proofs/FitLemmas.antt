@@ -20,7 +20,8 @@ use Rattle.sp_paths.proofs.Placed.{parts_count}
 use Rattle.sp_paths.proofs.Ranges.{node_range}
 use Rattle.sp_paths.proofs.Shapes.{from_filter, from_map}
 
-pub one_node_more : (P : NodeId → Type 0) (n : ℕ) → ((v : NodeId) → 1 ≤ v.0 → v.0 ≤ n → P v) → P (record { 0 = n + 1 }) → (v : NodeId) → 1 ≤ v.0 → v.0 ≤ n + 1 → P v
+pub one_node_more : (P : NodeId → Type 0) (n : ℕ) → ((v : NodeId) → 1 ≤ v.0 → v.0 ≤ n → P v) → P (record { 0 = n + 1 }) → (v : NodeId) → 1 ≤ v.0 → v.0 ≤ n + 1
+    → P v
 one_node_more P n olds this v low high = go (cases_eq v.0 (n + 1))
   where
     go : (v.0 ≡ n + 1) ⊎ (v.0 ≢ n + 1) → P v
@@ -28,13 +29,15 @@ one_node_more P n olds this v low high = go (cases_eq v.0 (n + 1))
     go (inr other) = olds v low (omega (arith, high, other))
 
 -- the arc of an edge leads along it one way or the other
-from_edge : (edges : List Edge) (a : Arc) → Has (flat_map edge_arcs edges) a → (e : Edge) × Has edges e × ((edge_arc e.low e.high e.weight ≡ a) ⊎ (edge_arc e.high e.low e.weight ≡ a))
+from_edge : (edges : List Edge) (a : Arc) → Has (flat_map edge_arcs edges) a
+    → (e : Edge) × Has edges e × ((edge_arc e.low e.high e.weight ≡ a) ⊎ (edge_arc e.high e.low e.weight ≡ a))
 from_edge [] a h = absurd h
 from_edge (e ∷ edges) a (inl f) = (e, inl refl, inl f)
 from_edge (e ∷ edges) a (inr (inl f)) = (e, inl refl, inr f)
 from_edge (e ∷ edges) a (inr (inr h)) = let (f, at, is) = from_edge edges a h in (f, inr at, is)
 
-has_edge : (edges : List Edge) (e : Edge) → Has edges e → Has (flat_map edge_arcs edges) (edge_arc e.low e.high e.weight) × Has (flat_map edge_arcs edges) (edge_arc e.high e.low e.weight)
+has_edge : (edges : List Edge) (e : Edge) → Has edges e
+    → Has (flat_map edge_arcs edges) (edge_arc e.low e.high e.weight) × Has (flat_map edge_arcs edges) (edge_arc e.high e.low e.weight)
 has_edge [] e h = absurd h
 has_edge (f ∷ edges) e (inl is) = (inl (ap (λ (x : Edge). edge_arc x.low x.high x.weight) is), inr (inl (ap (λ (x : Edge). edge_arc x.high x.low x.weight) is)))
 has_edge (f ∷ edges) e (inr h) = let both = has_edge edges e h in (inr (inr both.0), inr (inr both.1))
@@ -75,9 +78,11 @@ module _ (g : Graph) (s t : NodeId) (p : Paths) where
 
   fit_when : IsOptimal g s t p.paths (number_of (parts_of g s t) p.potentials) → (a : Arc) → Has (all_arcs g) a → FitsAt g s t p a
   unfolding potential is_low in_residual FitsAt
-  fit_when best a h there = held is_low (residual g s t p.paths) (in_residual a) best (has_map in_residual (arcs_of g s t) a (has_filter (is_there s t) (all_arcs g) a h there))
+  fit_when best a h there =
+      held is_low (residual g s t p.paths) (in_residual a) best (has_map in_residual (arcs_of g s t) a (has_filter (is_there s t) (all_arcs g) a h there))
 
-  pub certificate_when : AreEnds g s t → length p.potentials ≡ 2 * g.nodes - 2 → ((v : NodeId) → IsNode g v → FitsAt g s t p (node_arc v)) → All (FitBoth g s t p) g.edges → IsCertificate g s t p.paths p.potentials
+  pub certificate_when : AreEnds g s t → length p.potentials ≡ 2 * g.nodes - 2 → ((v : NodeId) → IsNode g v → FitsAt g s t p (node_arc v))
+      → All (FitBoth g s t p) g.edges → IsCertificate g s t p.paths p.potentials
   unfolding AllNodes
   certificate_when ends count nodes edges = record { one_each = count ∙ sym (parts_count g s t ends); optimal = optimal_when nodes edges }
 
@@ -86,12 +91,16 @@ module _ (g : Graph) (s t : NodeId) (p : Paths) where
 
   pub nodes_when : IsCertificate g s t p.paths p.potentials → (v : NodeId) → IsNode g v → FitsAt g s t p (node_arc v)
   nodes_when good v inside =
-      fit_when good.optimal (node_arc v) (has_left (map node_arc (nodes_to g.nodes)) (flat_map edge_arcs g.edges) (node_arc v) (has_map node_arc (nodes_to g.nodes) v (has_node g.nodes v inside.0 inside.1)))
+      fit_when good.optimal (node_arc v)
+      (has_left (map node_arc (nodes_to g.nodes)) (flat_map edge_arcs g.edges) (node_arc v)
+      (has_map node_arc (nodes_to g.nodes) v (has_node g.nodes v inside.0 inside.1)))
 
   pub edges_when : IsCertificate g s t p.paths p.potentials → All (FitBoth g s t p) g.edges
   unfolding FitBoth
   edges_when good = all_from (FitBoth g s t p) g.edges (λ e h.
       let both = has_edge g.edges e h in (
-        fit_when good.optimal (edge_arc e.low e.high e.weight) (has_right (map node_arc (nodes_to g.nodes)) (flat_map edge_arcs g.edges) (edge_arc e.low e.high e.weight) both.0),
-        fit_when good.optimal (edge_arc e.high e.low e.weight) (has_right (map node_arc (nodes_to g.nodes)) (flat_map edge_arcs g.edges) (edge_arc e.high e.low e.weight) both.1),
+        fit_when good.optimal (edge_arc e.low e.high e.weight)
+            (has_right (map node_arc (nodes_to g.nodes)) (flat_map edge_arcs g.edges) (edge_arc e.low e.high e.weight) both.0),
+        fit_when good.optimal (edge_arc e.high e.low e.weight)
+            (has_right (map node_arc (nodes_to g.nodes)) (flat_map edge_arcs g.edges) (edge_arc e.high e.low e.weight) both.1),
       ))

@@ -20,12 +20,21 @@ module _ (f h : Lane → ℕ) where
       omega (arith, same 0 (omega arith), sums_equal lanes (λ k inside. same (suc k) (omega (arith, inside))), sum_by-cons f l lanes, sum_by-cons h l lanes)
 
   -- where the sums are equal, and no term of the one is above that of the other, all terms are equal
-  terms_equal : (lanes : List Lane) → ((k : ℕ) → k < length lanes → f (lane_at lanes k) ≤ h (lane_at lanes k)) → sum_by h lanes ≤ sum_by f lanes → (k : ℕ) → k < length lanes → f (lane_at lanes k) ≡ h (lane_at lanes k)
+  terms_equal : (lanes : List Lane) → ((k : ℕ) → k < length lanes → f (lane_at lanes k) ≤ h (lane_at lanes k)) → sum_by h lanes ≤ sum_by f lanes → (k : ℕ)
+      → k < length lanes → f (lane_at lanes k) ≡ h (lane_at lanes k)
   terms_equal [] below sums k inside = absurd (omega (arith, inside))
   terms_equal (l ∷ lanes) below sums zero inside =
-      omega (arith, below 0 (omega arith), sums_at_most lanes (λ k less. below (suc k) (omega (arith, less))), sums, sum_by-cons f l lanes, sum_by-cons h l lanes)
+      omega (
+        arith,
+        below 0 (omega arith),
+        sums_at_most lanes (λ k less. below (suc k) (omega (arith, less))),
+        sums,
+        sum_by-cons f l lanes,
+        sum_by-cons h l lanes,
+      )
   terms_equal (l ∷ lanes) below sums (suc k) inside =
-      terms_equal lanes (λ j less. below (suc j) (omega (arith, less))) (omega (arith, below 0 (omega arith), sums, sum_by-cons f l lanes, sum_by-cons h l lanes)) k (omega (arith, inside))
+      terms_equal lanes (λ j less. below (suc j) (omega (arith, less)))
+      (omega (arith, below 0 (omega arith), sums, sum_by-cons f l lanes, sum_by-cons h l lanes)) k (omega (arith, inside))
 
 sum_of_both : (f h : Lane → ℕ) (lanes : List Lane) → sum_by (λ l. f l + h l) lanes ≡ sum_by f lanes + sum_by h lanes
 sum_of_both f h [] = refl
@@ -42,7 +51,8 @@ crosses false true true = omega arith
 crosses false true false = omega arith
 crosses false false b = omega arith
 
-crosses_closed : (used a b : Bool) → (cond used b a ≡ true → cond used a b ≡ true) → ◌≡◌ {A = ℕ} (cond used (cond a 1 0) 0) (cond (a && not b) 1 0 + cond used (cond b 1 0) 0)
+crosses_closed : (used a b : Bool) → (cond used b a ≡ true → cond used a b ≡ true)
+    → ◌≡◌ {A = ℕ} (cond used (cond a 1 0) 0) (cond (a && not b) 1 0 + cond used (cond b 1 0) 0)
 crosses_closed true true true closed = refl
 crosses_closed true true false closed = refl
 crosses_closed true false true closed = absurd (let x : false ≡ true = closed refl in cc)
@@ -51,7 +61,8 @@ crosses_closed false true true closed = refl
 crosses_closed false true false closed = absurd (let x : false ≡ true = closed refl in cc)
 crosses_closed false false b closed = refl
 
-closed_crosses : (used a b : Bool) → ◌≡◌ {A = ℕ} (cond used (cond a 1 0) 0) (cond (a && not b) 1 0 + cond used (cond b 1 0) 0) → cond used b a ≡ true → cond used a b ≡ true
+closed_crosses : (used a b : Bool) → ◌≡◌ {A = ℕ} (cond used (cond a 1 0) 0) (cond (a && not b) 1 0 + cond used (cond b 1 0) 0) → cond used b a ≡ true
+    → cond used a b ≡ true
 closed_crosses true true b e f = refl
 closed_crosses true false true e f = absurd (omega (arith, e))
 closed_crosses true false false e f = f
@@ -75,7 +86,8 @@ module _ (s t r : ℕ) (lanes : List Lane) (c : ℕ → Bool) (flow : Flow s t r
   -- no cut is smaller than the flow
   pub open_size : r ≤ sum_by (leaves c) lanes
   open_size =
-      let most = sums_at_most (begins c) (λ l. leaves c l + ends c l) lanes (λ k inside. crosses (lane_at lanes k).used (c (lane_at lanes k).from) (c (lane_at lanes k).to)) in
+      let most = sums_at_most (begins c) (λ l. leaves c l + ends c l) lanes
+      (λ k inside. crosses (lane_at lanes k).used (c (lane_at lanes k).from) (c (lane_at lanes k).to)) in
       omega (arith, most, counted, sum_of_both (leaves c) (ends c) lanes)
 
   -- a cut that no residual arc leaves has the size of the flow
@@ -90,7 +102,8 @@ module _ (s t r : ℕ) (lanes : List Lane) (c : ℕ → Bool) (flow : Flow s t r
   -- a cut of no more than the flow's size is one that no residual arc leaves
   pub least_cut : sum_by (leaves c) lanes ≤ r → (k : ℕ) → k < length lanes → Closed c (lane_at lanes k)
   least_cut small k inside e =
-      let same = terms_equal (begins c) (λ l. leaves c l + ends c l) lanes (λ j less. crosses (lane_at lanes j).used (c (lane_at lanes j).from) (c (lane_at lanes j).to))
+      let same = terms_equal (begins c) (λ l. leaves c l + ends c l) lanes
+      (λ j less. crosses (lane_at lanes j).used (c (lane_at lanes j).from) (c (lane_at lanes j).to))
       (omega (arith, small, counted, sum_of_both (leaves c) (ends c) lanes)) k inside in
       let l = lane_at lanes k in
       let both = at_ends c l.used l.from l.to in
@@ -105,8 +118,10 @@ rises_in true false true up = omega arith
 rises_in true false false up = omega arith
 rises_in false a b up = omega arith
 
--- where a rank rises along each used lane, and no path goes along them, none is used: those that end at a rank of at least m would be more than those that begin there
-pub none_left : (s t : ℕ) (lanes : List Lane) (rank : ℕ → ℕ) → ((k : ℕ) → k < length lanes → (lane_at lanes k).used ≡ true → rank (lane_at lanes k).from < rank (lane_at lanes k).to) → Flow s t 0 lanes
+-- where a rank rises along each used lane, and no path goes along them, none is used: those that end at a rank of at least m would be more than those that
+-- begin there
+pub none_left : (s t : ℕ) (lanes : List Lane) (rank : ℕ → ℕ)
+    → ((k : ℕ) → k < length lanes → (lane_at lanes k).used ≡ true → rank (lane_at lanes k).from < rank (lane_at lanes k).to) → Flow s t 0 lanes
     → (k : ℕ) → k < length lanes → (lane_at lanes k).used ≡ false
 none_left s t lanes rank up flow k inside = go (lane_at lanes k).used refl
   where
@@ -118,7 +133,8 @@ none_left s t lanes rank up flow k inside = go (lane_at lanes k).used refl
         let begins_low : nat_le (rank (lane_at lanes k).to) (rank (lane_at lanes k).from) ≡ false = let less = up k inside e in grind (arith, nat_tests) in
         let none : (a : Bool) → ◌≡◌ {A = ℕ} (cond a 0 0) 0 = zeros in
         let equal = terms_equal (begins c) (ends c) lanes
-        (λ j less. rises_in (lane_at lanes j).used (c (lane_at lanes j).from) (c (lane_at lanes j).to) (λ used at_from. let above = up j less used in grind (arith, nat_tests)))
+        (λ j less. rises_in (lane_at lanes j).used (c (lane_at lanes j).from) (c (lane_at lanes j).to)
+        (λ used at_from. let above = up j less used in grind (arith, nat_tests)))
         (omega (arith, flow c, none (c s), none (c t))) k inside in
         absurd (let one : ◌≡◌ {A = ℕ} 0 1 = rw (e, begins_low, ends_high) at equal in omega (arith, one))
       where

@@ -1,5 +1,6 @@
 -- One part more is reached: what is known of all that is reached stays true.
-use Rattle.std.proofs.Common.{◌≡◌, ◌+◌, ◌*◌, ◌<◌, ◌≤◌, ℕ, Bool, true, false, not, cond, List, [], ◌∷◌, ◌++◌, length, set, count_by, refl, sym, ap, subst, ◌∙◌, inl, inr, arith}
+use Rattle.std.proofs.Common.{◌≡◌, ◌+◌, ◌*◌, ◌<◌, ◌≤◌, ℕ, Bool, true, false, not, cond, List, [], ◌∷◌, ◌++◌, length, set, count_by, refl, sym, ap, subst, ◌∙◌}
+use Rattle.std.proofs.Common.{inl, inr, arith}
 use Rattle.std.specs.Prelude.{◌⊎◌, ◌≢◌}
 use Rattle.std.proofs.lemmas.Bool.{cases_eq}
 use Rattle.std.proofs.lemmas.List.{length_push, length-set, get_or_append_left, get_or_push, get_or-set_same, get_or-set_other}
@@ -26,7 +27,8 @@ each_more tree place P old new j inside = go (cases_eq j (length tree))
         subst (P j) (sym (get_or_append_left tree (place ∷ []) 0 j before)) (old j before)
 
 reaches_more : (lanes : List Lane) (tree : List ℕ) (place n v : ℕ) → n ≤ length tree → Reaches lanes tree n v → Reaches lanes (tree ++ place ∷ []) n v
-reaches_more lanes tree place n v few (j, less, ends) = (j, less, subst (λ (i : ℕ). head (lane_at lanes i) ≡ v) (sym (get_or_append_left tree (place ∷ []) 0 j (omega (arith, few, less)))) ends)
+reaches_more lanes tree place n v few (j, less, ends) =
+    (j, less, subst (λ (i : ℕ). head (lane_at lanes i) ≡ v) (sym (get_or_append_left tree (place ∷ []) 0 j (omega (arith, few, less)))) ends)
 
 either_within : (parts from to : ℕ) (used : Bool) → from < parts → to < parts → (cond used to from < parts) × (cond used from to < parts)
 either_within parts from to true a b = (b, a)
@@ -87,7 +89,8 @@ module _ (first : List ℕ) (s : ℕ) (lanes : List Lane) (pot more : List ℕ) 
   hangs_new : (tail (lane_at lanes place) ≡ s) ⊎ Reaches lanes tree (length tree) (tail (lane_at lanes place))
   hangs_new = g.outs (tail (lane_at lanes place)) (omega (arith, ends.0, g.parts)) n.leads_out.0
 
-  hangs_more : (k j : ℕ) → k ≤ length tree → (tail (lane_at lanes j) ≡ s) ⊎ Reaches lanes tree k (tail (lane_at lanes j)) → (tail (lane_at lanes j) ≡ s) ⊎ Reaches lanes (tree ++ place ∷ []) k (tail (lane_at lanes j))
+  hangs_more : (k j : ℕ) → k ≤ length tree → (tail (lane_at lanes j) ≡ s) ⊎ Reaches lanes tree k (tail (lane_at lanes j))
+      → (tail (lane_at lanes j) ≡ s) ⊎ Reaches lanes (tree ++ place ∷ []) k (tail (lane_at lanes j))
   hangs_more k j few_enough (inl e) = inl e
   hangs_more k j few_enough (inr r) = inr (reaches_more lanes tree place k (tail (lane_at lanes j)) few_enough r)
 
@@ -106,7 +109,8 @@ module _ (first : List ℕ) (s : ℕ) (lanes : List Lane) (pot more : List ℕ) 
         j inside less;
   }
 
-  new_outs : (v : ℕ) → v < length first → is_in (set reached (head (lane_at lanes place)) true) v ≡ true → (v ≡ s) ⊎ Reaches lanes (tree ++ place ∷ []) (length (tree ++ place ∷ [])) v
+  new_outs : (v : ℕ) → v < length first → is_in (set reached (head (lane_at lanes place)) true) v ≡ true
+      → (v ≡ s) ⊎ Reaches lanes (tree ++ place ∷ []) (length (tree ++ place ∷ [])) v
   new_outs v inside e = go (cases v e)
     where
       long : length (tree ++ place ∷ []) ≡ length tree + 1
@@ -120,7 +124,8 @@ module _ (first : List ℕ) (s : ℕ) (lanes : List Lane) (pot more : List ℕ) 
       go (inl f) = inr (length tree, omega (arith, long), ap (λ (i : ℕ). head (lane_at lanes i)) (get_or_push tree place 0 (length tree) refl) ∙ sym f)
       go (inr f) = old (g.outs v inside f)
 
-  new_set : (c : ℕ → Bool) → c s ≡ true → ((k : ℕ) → k < length lanes → Closed c (lane_at lanes k)) → (v : ℕ) → v < length first → is_in (set reached (head (lane_at lanes place)) true) v ≡ true → c v ≡ true
+  new_set : (c : ℕ → Bool) → c s ≡ true → ((k : ℕ) → k < length lanes → Closed c (lane_at lanes k)) → (v : ℕ) → v < length first
+      → is_in (set reached (head (lane_at lanes place)) true) v ≡ true → c v ≡ true
   new_set c source closed v inside e = go (cases v e)
     where
       begins : c (tail (lane_at lanes place)) ≡ true

@@ -7,7 +7,8 @@ use Rattle.sp_paths.specs.Trees.{Grown, IsReady}
 use Rattle.sp_paths.proofs.GrowLemmas.{ends_within, grow_more}
 use Rattle.sp_paths.proofs.Raised.{slack_low}
 
-module _ (first : List ℕ) (s : ℕ) (lanes : List Lane) (pot : List ℕ) (reached : List Bool) (tree : List ℕ) (ready : IsReady s lanes first) (g : Grown first s lanes pot reached tree) where
+module _ (first : List ℕ) (s : ℕ) (lanes : List Lane) (pot : List ℕ) (reached : List Bool) (tree : List ℕ) (ready : IsReady s lanes first)
+    (g : Grown first s lanes pot reached tree) where
   pub stays_low : IsLow pot
   stays_low v = omega (arith, g.high most_potential ready.low v, g.few, g.marks, ready.parts)
 

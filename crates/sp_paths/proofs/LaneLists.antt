@@ -18,12 +18,15 @@ nodes_more n = ap (map node_arc) (map-range_with_len_more node 1 n (n + 1) (omeg
 
 -- the lanes of one node more
 pub push_node : (s t : NodeId) (before now new : List Lane) (n : ℕ) → map arc_of now ≡ map arc_of before ++ filter (is_there s t) (map node_arc (nodes_to n))
-    → map arc_of new ≡ map arc_of now ++ filter (is_there s t) (node_arc (node (n + 1)) ∷ []) → map arc_of new ≡ map arc_of before ++ filter (is_there s t) (map node_arc (nodes_to (n + 1)))
+    → map arc_of new ≡ map arc_of now ++ filter (is_there s t) (node_arc (node (n + 1)) ∷ [])
+    → map arc_of new ≡ map arc_of before ++ filter (is_there s t) (map node_arc (nodes_to (n + 1)))
 push_node s t before now new n so_far one =
     let there = is_there s t in
     let last : List Arc = node_arc (node (n + 1)) ∷ [] in
-    one ∙ ap (λ (arcs : List Arc). arcs ++ filter there last) so_far ∙ append_assoc (map arc_of before) (filter there (map node_arc (nodes_to n))) (filter there last)
-    ∙ ap (λ (arcs : List Arc). map arc_of before ++ arcs) (sym (filter-append there (map node_arc (nodes_to n)) last)) ∙ ap (λ (arcs : List Arc). map arc_of before ++ filter there arcs) (sym (nodes_more n))
+    one ∙ ap (λ (arcs : List Arc). arcs ++ filter there last) so_far
+    ∙ append_assoc (map arc_of before) (filter there (map node_arc (nodes_to n))) (filter there last)
+    ∙ ap (λ (arcs : List Arc). map arc_of before ++ arcs) (sym (filter-append there (map node_arc (nodes_to n)) last))
+    ∙ ap (λ (arcs : List Arc). map arc_of before ++ filter there arcs) (sym (nodes_more n))
 
 -- the arcs of these edges, where they are there
 abbrev pub left : NodeId → NodeId → List Edge → List Arc

@@ -1,5 +1,6 @@
 -- The lanes out of the source stand in the order of the nodes that they lead to; so walks by their first lanes are paths in lexical order.
-use Rattle.std.proofs.Common.{◌≡◌, ◌+◌, ◌*◌, ◌<◌, ℕ, zero, suc, Bool, true, false, cond, List, [], ◌∷◌, ◌++◌, length, map, refl, sym, ap, subst, ◌∙◌, inl, inr, arith}
+use Rattle.std.proofs.Common.{◌≡◌, ◌+◌, ◌*◌, ◌<◌, ℕ, zero, suc, Bool, true, false, cond, List, [], ◌∷◌, ◌++◌, length, map, refl, sym, ap, subst, ◌∙◌, inl, inr}
+use Rattle.std.proofs.Common.{arith}
 use Rattle.std.specs.Prelude.{◌⊎◌}
 use Rattle.std.specs.List.{All, AllPairs, filter, flat_map}
 use Rattle.std.proofs.lemmas.List.Kept.{AllPairs-cons}
@@ -64,7 +65,8 @@ rising_nodes s [] = tt
 rising_nodes s (v ∷ ns) = ((λ y h from also. absurd (node_in (v ∷ ns) (node_arc v) s (inl refl) from)), rising_nodes s ns)
 
 -- an arc of an edge leads along it one way or the other
-of_edge : (edges : List Edge) (x : Arc) → Has (flat_map edge_arcs edges) x → (e : Edge) × Has edges e × (((x.from ≡ parts.Out e.low) × (x.to ≡ parts.In e.high)) ⊎ ((x.from ≡ parts.Out e.high) × (x.to ≡ parts.In e.low)))
+of_edge : (edges : List Edge) (x : Arc) → Has (flat_map edge_arcs edges) x
+    → (e : Edge) × Has edges e × (((x.from ≡ parts.Out e.low) × (x.to ≡ parts.In e.high)) ⊎ ((x.from ≡ parts.Out e.high) × (x.to ≡ parts.In e.low)))
 of_edge [] x h = absurd h
 of_edge (e ∷ edges) x (inl f) = (e, inl refl, inl (ap (λ (a : Arc). a.from) (sym f), ap (λ (a : Arc). a.to) (sym f)))
 of_edge (e ∷ edges) x (inr (inl f)) = (e, inl refl, inr (ap (λ (a : Arc). a.from) (sym f), ap (λ (a : Arc). a.to) (sym f)))
@@ -99,18 +101,27 @@ later_edge nodes s e f x y one two lower (inr a) (inr b) from also =
     go (inr k) i j = omega (arith, k.1, i, j)
 
 -- of the two arcs of an edge one alone begins at s
-one_edge : (nodes : ℕ) (s : NodeId) (e : Edge) (y : Arc) → IsEdge nodes e → (y.from ≡ parts.Out e.high) → parts.Out e.low ≡ parts.Out s → y.from ≡ parts.Out s → ⊥
+one_edge : (nodes : ℕ) (s : NodeId) (e : Edge) (y : Arc) → IsEdge nodes e → (y.from ≡ parts.Out e.high) → parts.Out e.low ≡ parts.Out s → y.from ≡ parts.Out s
+    → ⊥
 one_edge nodes s e y good is from also = let low = out_node e.low s from in let high = out_node e.high s (sym is ∙ also) in omega (arith, low, high, good.1)
 
 rising_edges : (nodes : ℕ) (s : NodeId) (edges : List Edge) → All (IsEdge nodes) edges → AllPairs IsLower edges → Rising s (flat_map edge_arcs edges)
 unfolding Rising Later
 rising_edges nodes s [] good ascend = tt
-rising_edges nodes s (e ∷ edges) good ascend = (first, (second, rising_edges nodes s edges (λ k d inside. good (suc k) d (omega (arith, inside))) (λ i j d less inside. ascend (suc i) (suc j) d (omega (arith, less)) (omega (arith, inside)))))
+rising_edges nodes s (e ∷ edges) good ascend = (
+  first,
+  (
+    second,
+    rising_edges nodes s edges (λ k d inside. good (suc k) d (omega (arith, inside)))
+        (λ i j d less inside. ascend (suc i) (suc j) d (omega (arith, less)) (omega (arith, inside))),
+  ),
+)
   where
     here : IsEdge nodes e
     here = good 0 e (omega arith)
 
-    rest : (x y : Arc) → ((x.from ≡ parts.Out e.low) × (x.to ≡ parts.In e.high)) ⊎ ((x.from ≡ parts.Out e.high) × (x.to ≡ parts.In e.low)) → Has (flat_map edge_arcs edges) y → Later s x y
+    rest : (x y : Arc) → ((x.from ≡ parts.Out e.low) × (x.to ≡ parts.In e.high)) ⊎ ((x.from ≡ parts.Out e.high) × (x.to ≡ parts.In e.low))
+        → Has (flat_map edge_arcs edges) y → Later s x y
     rest x y is h =
         let (f, at, ends) = of_edge edges y h in
         let place = contains edges f at in
@@ -129,7 +140,8 @@ rising_arcs : (g : Graph) (s t : NodeId) → IsGraph g → Rising s (arcs_of g s
 unfolding Later
 rising_arcs g s t good =
     rising_filter s (is_there s t) (all_arcs g)
-    (rising_both s (map node_arc (nodes_to g.nodes)) (flat_map edge_arcs g.edges) (rising_nodes s (nodes_to g.nodes)) (rising_edges g.nodes s g.edges good.edges good.ascend)
+    (rising_both s (map node_arc (nodes_to g.nodes)) (flat_map edge_arcs g.edges) (rising_nodes s (nodes_to g.nodes))
+    (rising_edges g.nodes s g.edges good.edges good.ascend)
     (λ x y h k from also. absurd (node_in (nodes_to g.nodes) x s h from)))
 
 -- of two lanes out of the source the later one leads to the later part
@@ -166,13 +178,15 @@ module _ (g : Graph) (s t : NodeId) (right : IsGraph g) (old new : List Lane) (i
 
   begins : (walk : List ℕ) → Has walks walk → Begins old s walk
   unfolding first_way
-  begins [] h = absurd (let e : 2 * s.0 + 1 ≡ 2 * t.0 = held (λ w. Leads old (number (parts.Out s)) w (number (parts.In t))) walks [] taken.lead h in omega (arith, e))
+  begins [] h =
+      absurd (let e : 2 * s.0 + 1 ≡ 2 * t.0 = held (λ w. Leads old (number (parts.Out s)) w (number (parts.In t))) walks [] taken.lead h in omega (arith, e))
   begins (i ∷ walk) h = go l.inner l.path l.ways_here
     where
       l : Laid g s t old (i ∷ walk)
       l = lay g s t old is (i ∷ walk) (inside (i ∷ walk) h) (held (λ w. Leads old (number (parts.Out s)) w (number (parts.In t))) walks (i ∷ walk) taken.lead h)
 
-      made : (next : NodeId) (rest : List NodeId) → path_along old s (i ∷ walk) ≡ s ∷ next ∷ rest → way_of (lane_at old i) ≡ (parts.Out s, parts.In next) → Begins old s (i ∷ walk)
+      made : (next : NodeId) (rest : List NodeId) → path_along old s (i ∷ walk) ≡ s ∷ next ∷ rest → way_of (lane_at old i) ≡ (parts.Out s, parts.In next)
+          → Begins old s (i ∷ walk)
       made next rest path way = record {
         next = next;
         rest = rest;
@@ -194,14 +208,16 @@ module _ (g : Graph) (s t : NodeId) (right : IsGraph g) (old new : List Lane) (i
       let ahead : IsBefore (s ∷ one.next ∷ one.rest) (s ∷ two.next ∷ two.rest) = inr (refl, inl (omega (arith, up, one.to, two.to))) in
       subst (λ (p : List NodeId). IsBefore p (path_along old s w)) (sym one.path) (subst (IsBefore (s ∷ one.next ∷ one.rest)) (sym two.path) ahead)
 
-  in_order : (ws : List (List ℕ)) → ((w : List ℕ) → Has ws w → Has walks w) → AllPairs (λ v w. first_of v < first_of w) ws → AllPairs IsBefore (map (λ walk. path_along old s walk) ws)
+  in_order : (ws : List (List ℕ)) → ((w : List ℕ) → Has ws w → Has walks w) → AllPairs (λ v w. first_of v < first_of w) ws
+      → AllPairs IsBefore (map (λ walk. path_along old s walk) ws)
   in_order [] among ascend = λ i j d less at. absurd (omega (arith, at))
   in_order (w ∷ ws) among ascend =
       let path : List ℕ → List NodeId = λ walk. path_along old s walk in
       AllPairs-cons IsBefore (path w) (map path ws) (all_from (IsBefore (path w)) (map path ws) (λ p h.
       let (v, at, e) = from_map path ws p h in
       let place = contains ws v at in
-      let up : first_of w < first_of v = subst (λ (x : List ℕ). first_of w < first_of x) place.2 (ascend 0 (suc place.0) v (omega arith) (omega (arith, place.1))) in
+      let up : first_of w < first_of v =
+      subst (λ (x : List ℕ). first_of w < first_of x) place.2 (ascend 0 (suc place.0) v (omega arith) (omega (arith, place.1))) in
       subst (IsBefore (path w)) e (before w v (among w (inl refl)) (among v (inr at)) up)))
       (in_order ws (λ v h. among v (inr h)) (λ i j d less at. ascend (suc i) (suc j) d (omega (arith, less)) (omega (arith, at))))
 

@@ -28,7 +28,8 @@ next_lane (l ∷ lanes) here = go l.used refl (l.from == here) refl (next_lane l
         each zero less = not
         each (suc k) less = first k (omega (arith, less))
 
-    go : (used : Bool) → l.used ≡ used → (at : Bool) → (l.from == here) ≡ at → (found : Option ℕ) × IsFirst lanes here found → (found : Option ℕ) × IsFirst (l ∷ lanes) here found
+    go : (used : Bool) → l.used ≡ used → (at : Bool) → (l.from == here) ≡ at → (found : Option ℕ) × IsFirst lanes here found
+        → (found : Option ℕ) × IsFirst (l ∷ lanes) here found
     go true e true f rest = (Some 0, (omega arith, e, eqb-true _ _ f, λ k less. absurd (omega (arith, less))))
     go true e false f rest = further (λ used from. grind (arith, nat_tests)) rest.0 rest.1
     go false e at f rest = further (λ used. absurd (let x : true ≡ false = sym used ∙ e in cc)) rest.0 rest.1
@@ -46,7 +47,8 @@ record Going (old : List Lane) (s t below : ℕ) : Type 0 where
   fewer : used_lanes lanes < below
 
 -- a walk that isn't at its end goes on by a lane
-step_on : (s t r here : ℕ) (old lanes : List Lane) (walk : List ℕ) → Flow s t (r + 1) old → Walking old s t here lanes walk → here ≢ t → Going old s t (used_lanes lanes)
+step_on : (s t r here : ℕ) (old lanes : List Lane) (walk : List ℕ) → Flow s t (r + 1) old → Walking old s t here lanes walk → here ≢ t
+    → Going old s t (used_lanes lanes)
 step_on s t r here old lanes walk flow w apart =
     let found = next_lane lanes here in
     go found.0 found.1 (goes_on s t r here lanes found.0 (w.flow r flow) apart found.1)
@@ -68,7 +70,8 @@ record Gone (old : List Lane) (s t : ℕ) : Type 0 where
   walked : Walking old s t t new walk
 
 -- so it comes to its end: each step leaves fewer lanes used
-walk_on : (s t r n here : ℕ) (old lanes : List Lane) (walk : List ℕ) → Flow s t (r + 1) old → Walking old s t here lanes walk → used_lanes lanes < n → Gone old s t
+walk_on : (s t r n here : ℕ) (old lanes : List Lane) (walk : List ℕ) → Flow s t (r + 1) old → Walking old s t here lanes walk → used_lanes lanes < n
+    → Gone old s t
 walk_on s t r zero here old lanes walk flow w few = absurd (omega (arith, few))
 walk_on s t r (suc n) here old lanes walk flow w few =
     go (λ next. walk_on s t r n next.here old next.lanes next.walk flow next.walking (omega (arith, next.fewer, few))) (here == t) refl
@@ -84,7 +87,8 @@ pub record Parted (old : List Lane) (s t total : ℕ) : Type 0 where
   pub apart : IsApart old new s t total walks
 
 -- after the walks that were taken, as many more as the flow that is left has paths
-part_on : (s t done more : ℕ) (old lanes : List Lane) (walks : List (List ℕ)) → IsApart old lanes s t done walks → Flow s t more lanes → Parted old s t (done + more)
+part_on : (s t done more : ℕ) (old lanes : List Lane) (walks : List (List ℕ)) → IsApart old lanes s t done walks → Flow s t more lanes
+    → Parted old s t (done + more)
 part_on s t done zero old lanes walks taken flow = subst (Parted old s t) (omega arith) (record { new = lanes; walks = walks; apart = taken })
 part_on s t done (suc more) old lanes walks taken flow =
     let all : Flow s t (more + 1) lanes = subst (λ (n : ℕ). Flow s t n lanes) (omega arith) flow in

@@ -36,6 +36,7 @@ distinct_across [] ys once a h k = h
 distinct_across (x ∷ xs) ys once a (inl e) k = once.0 (has_right xs ys x (subst (Has ys) (sym e) k))
 distinct_across (x ∷ xs) ys once a (inr h) k = distinct_across xs ys once.1 a h k
 
+-- what holds of each item that a list has holds of all of it
 pub all_from : {X : Type 0} (P : X → Type 0) (xs : List X) → ((x : X) → Has xs x → P x) → All P xs
 all_from P [] held = All-nil P
 all_from P (x ∷ xs) held = All-cons P x xs (held x (inl refl)) (all_from P xs (λ y h. held y (inr h)))
@@ -107,11 +108,14 @@ inner_kind : (g : Graph) (s t : NodeId) (a : Arc) (v : NodeId) → ArcKind g s t
 inner_kind g s t a v (Inner x not_s not_t is) e =
     let same : v ≡ x = ap (λ (w : Way). node_of w.0) (sym e) ∙ ap (λ (b : Arc). node_of b.from) is in
     ((λ f. not_s (sym same ∙ f)), (λ f. not_t (sym same ∙ f)))
-inner_kind g s t a v (Edge_arc x y weight not_t not_s edge is) e = absurd (let x : false ≡ true = ap (λ (w : Way). is_out w.0) (sym e) ∙ ap (λ (b : Arc). is_out b.from) is in cc)
+inner_kind g s t a v (Edge_arc x y weight not_t not_s edge is) e =
+    absurd (let x : false ≡ true = ap (λ (w : Way). is_out w.0) (sym e) ∙ ap (λ (b : Arc). is_out b.from) is in cc)
 
 -- a step is along an edge, not from the destination and not to the source
-step_kind : (g : Graph) (s t : NodeId) (a : Arc) (u v : NodeId) → ArcKind g s t a → ends_of a ≡ (parts.Out u, parts.In v) → Between g.edges u v × (u ≢ t) × (v ≢ s)
-step_kind g s t a u v (Inner x not_s not_t is) e = absurd (let x : true ≡ false = ap (λ (w : Way). is_out w.0) (sym e) ∙ ap (λ (b : Arc). is_out b.from) is in cc)
+step_kind : (g : Graph) (s t : NodeId) (a : Arc) (u v : NodeId) → ArcKind g s t a → ends_of a ≡ (parts.Out u, parts.In v)
+    → Between g.edges u v × (u ≢ t) × (v ≢ s)
+step_kind g s t a u v (Inner x not_s not_t is) e =
+    absurd (let x : true ≡ false = ap (λ (w : Way). is_out w.0) (sym e) ∙ ap (λ (b : Arc). is_out b.from) is in cc)
 step_kind g s t a u v (Edge_arc x y weight not_t not_s edge is) e =
     let from : x ≡ u = ap (λ (b : Arc). node_of b.from) (sym is) ∙ ap (λ (w : Way). node_of w.0) e in
     let to : y ≡ v = ap (λ (b : Arc). node_of b.to) (sym is) ∙ ap (λ (w : Way). node_of w.1) e in
@@ -129,7 +133,9 @@ module _ (g : Graph) (s t : NodeId) (apart_ends : s ≢ t) (lanes : List Lane) w
 
   pub path_is : (walk : List ℕ) → Laid g s t lanes walk → Distinct (ways_along lanes walk) → IsPath g s t (path_along lanes s walk)
   path_is walk l once =
-      let line_is_once = line_once s l.inner t (inner_once s l.inner t (subst Distinct l.ways_here once)) (λ h. (inner_is walk l s h).0 refl) (λ h. (inner_is walk l t h).1 refl) apart_ends in
+      let line_is_once =
+      line_once s l.inner t (inner_once s l.inner t (subst Distinct l.ways_here once)) (λ h. (inner_is walk l s h).0 refl)
+      (λ h. (inner_is walk l t h).1 refl) apart_ends in
       let good : IsPath g s t (line s l.inner t) = record {
         ends = (l.inner, refl);
         joined = all_from (Joined g) (steps (line s l.inner t)) (λ x h. joined_by_edge g x.0 x.1 (step_is walk l x.0 x.1 h).0);
@@ -137,7 +143,8 @@ module _ (g : Graph) (s t : NodeId) (apart_ends : s ≢ t) (lanes : List Lane) w
       } in
       subst (IsPath g s t) (sym l.path) good
 
-  pub paths_apart : (one two : List ℕ) → Laid g s t lanes one → Laid g s t lanes two → ((w : Way) → Has (ways_along lanes one) w → Has (ways_along lanes two) w → ⊥) → Apart s t (path_along lanes s one) (path_along lanes s two)
+  pub paths_apart : (one two : List ℕ) → Laid g s t lanes one → Laid g s t lanes two
+      → ((w : Way) → Has (ways_along lanes one) w → Has (ways_along lanes two) w → ⊥) → Apart s t (path_along lanes s one) (path_along lanes s two)
   paths_apart one two l m apart = record { nodes = nodes; edges = edges }
     where
       no_way : (w : Way) → Has (ways s l.inner t) w → Has (ways s m.inner t) w → ⊥
@@ -156,7 +163,9 @@ module _ (g : Graph) (s t : NodeId) (apart_ends : s ≢ t) (lanes : List Lane) w
           last (inr (inr k)) = absurd k
 
       nodes : (v : NodeId) → Contains (path_along lanes s one) v → Contains (path_along lanes s two) v → (v ≡ s) ⊎ (v ≡ t)
-      nodes v h k = go (where_in l.inner v (subst (λ (p : List NodeId). Has p v) l.path (has (path_along lanes s one) v h))) (where_in m.inner v (subst (λ (p : List NodeId). Has p v) m.path (has (path_along lanes s two) v k)))
+      nodes v h k =
+          go (where_in l.inner v (subst (λ (p : List NodeId). Has p v) l.path (has (path_along lanes s one) v h)))
+          (where_in m.inner v (subst (λ (p : List NodeId). Has p v) m.path (has (path_along lanes s two) v k)))
         where
           go : Has l.inner v ⊎ ((v ≡ s) ⊎ (v ≡ t)) → Has m.inner v ⊎ ((v ≡ s) ⊎ (v ≡ t)) → (v ≡ s) ⊎ (v ≡ t)
           go (inr e) f = e
@@ -185,7 +194,8 @@ module _ (g : Graph) (s t : NodeId) (apart_ends : s ≢ t) (lanes : List Lane) w
           go (inr (inl e)) = absurd (not_t (sym e))
           go (inr (inr k)) = absurd k
 
-      edges : (u v : NodeId) → Contains (steps (path_along lanes s one)) (u, v) → Contains (steps (path_along lanes s two)) (u, v) ⊎ Contains (steps (path_along lanes s two)) (v, u) → ⊥
+      edges : (u v : NodeId) → Contains (steps (path_along lanes s one)) (u, v)
+          → Contains (steps (path_along lanes s two)) (u, v) ⊎ Contains (steps (path_along lanes s two)) (v, u) → ⊥
       edges u v h (inl k) = no_way (parts.Out u, parts.In v) (along_way s l.inner t u v (on_one (u, v) h)) (along_way s m.inner t u v (on_two (u, v) k))
       edges u v h (inr k) =
           let leaves = step_is one l u v (on_one (u, v) h) in

@@ -22,7 +22,8 @@ module _ (c : ℕ → Bool) (gap : ℕ) (p q : ℕ → ℕ) (is : (v : ℕ) → 
       go true e = omega (arith, stays v e)
       go false e = omega (arith, rises v e)
 
-  raise_fits_at : (used : Bool) (from to cost : ℕ) → Fits p (lane used from to cost) → (LeadsOut c (lane used from to cost) → gap ≤ slack p (lane used from to cost)) → Fits q (lane used from to cost)
+  raise_fits_at : (used : Bool) (from to cost : ℕ) → Fits p (lane used from to cost)
+      → (LeadsOut c (lane used from to cost) → gap ≤ slack p (lane used from to cost)) → Fits q (lane used from to cost)
   raise_fits_at true from to cost fits room = go (c from) refl (c to) refl
     where
       go : (a : Bool) → c from ≡ a → (b : Bool) → c to ≡ b → cost + q from ≤ q to
@@ -42,7 +43,8 @@ module _ (c : ℕ → Bool) (gap : ℕ) (p q : ℕ → ℕ) (is : (v : ℕ) → 
   raise_fits l = raise_fits_at l.used l.from l.to l.cost
 
   -- a tight lane with both ends reached stays tight
-  still_tight_at : (used : Bool) (from to cost : ℕ) → IsTight p (lane used from to cost) → c (tail (lane used from to cost)) ≡ true → c (head (lane used from to cost)) ≡ true → IsTight q (lane used from to cost)
+  still_tight_at : (used : Bool) (from to cost : ℕ) → IsTight p (lane used from to cost) → c (tail (lane used from to cost)) ≡ true
+      → c (head (lane used from to cost)) ≡ true → IsTight q (lane used from to cost)
   still_tight_at true from to cost tight e f = omega (arith, tight, stays to e, stays from f)
   still_tight_at false from to cost tight e f = omega (arith, tight, stays from e, stays to f)
 
@@ -50,7 +52,8 @@ module _ (c : ℕ → Bool) (gap : ℕ) (p q : ℕ → ℕ) (is : (v : ℕ) → 
   still_tight l = still_tight_at l.used l.from l.to l.cost
 
   -- the nearest lane becomes tight
-  now_tight_at : (used : Bool) (from to cost : ℕ) → Fits p (lane used from to cost) → LeadsOut c (lane used from to cost) → gap ≡ slack p (lane used from to cost) → IsTight q (lane used from to cost)
+  now_tight_at : (used : Bool) (from to cost : ℕ) → Fits p (lane used from to cost) → LeadsOut c (lane used from to cost)
+      → gap ≡ slack p (lane used from to cost) → IsTight q (lane used from to cost)
   now_tight_at true from to cost fits out least = omega (arith, fits, least, stays to out.0, rises from out.1)
   now_tight_at false from to cost fits out least = omega (arith, fits, least, stays from out.0, rises to out.1)
 
@@ -58,7 +61,8 @@ module _ (c : ℕ → Bool) (gap : ℕ) (p q : ℕ → ℕ) (is : (v : ℕ) → 
   now_tight l = now_tight_at l.used l.from l.to l.cost
 
   -- where it ends the potential is at most that where it begins, and its cost
-  end_low_at : (used : Bool) (from to cost : ℕ) → Fits p (lane used from to cost) → LeadsOut c (lane used from to cost) → gap ≡ slack p (lane used from to cost) → q (head (lane used from to cost)) ≤ cost + p (tail (lane used from to cost))
+  end_low_at : (used : Bool) (from to cost : ℕ) → Fits p (lane used from to cost) → LeadsOut c (lane used from to cost) → gap ≡ slack p (lane used from to cost)
+      → q (head (lane used from to cost)) ≤ cost + p (tail (lane used from to cost))
   end_low_at true from to cost fits out least = omega (arith, fits, least, rises from out.1)
   end_low_at false from to cost fits out least = omega (arith, fits, least, rises to out.1)
 

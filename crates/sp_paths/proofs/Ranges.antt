@@ -84,7 +84,8 @@ path_short g s t path right from to good =
     inside : (v : NodeId) → Has (good.ends.0) v → (1 ≤ v.0) × (v.0 ≤ g.nodes)
     inside v h =
         let (a, at) = step_into s good.ends.0 t v h in
-        in_range g a v right (between g a v (held (Joined g) (steps path) (a, v) good.joined (subst (λ (p : List NodeId). Has (steps p) (a, v)) (sym good.ends.1) at)))
+        in_range g a v right
+        (between g a v (held (Joined g) (steps path) (a, v) good.joined (subst (λ (p : List NodeId). Has (steps p) (a, v)) (sym good.ends.1) at)))
 
     last : (v : NodeId) → Has good.ends.0 v ⊎ Has (t ∷ []) v → (1 ≤ v.0) × (v.0 ≤ g.nodes)
     last v (inl h) = inside v h
@@ -100,4 +101,6 @@ path_short g s t path right from to good =
 
 pub paths_short : (g : Graph) (s t : NodeId) (k : ℕ) (ps : List (List NodeId)) → IsGraph g → IsNode g s → IsNode g t → Disjoint g s t k ps
     → All (λ path. length path ≤ MAX_NODES_2) ps
-paths_short g s t k ps right from to good = all_from (λ path. length path ≤ MAX_NODES_2) ps (λ path h. omega (arith, path_short g s t path right from to (held (IsPath g s t) ps path good.are_paths h), right.nodes.1))
+paths_short g s t k ps right from to good =
+    all_from (λ path. length path ≤ MAX_NODES_2) ps
+    (λ path h. omega (arith, path_short g s t path right from to (held (IsPath g s t) ps path good.are_paths h), right.nodes.1))

@@ -55,7 +55,8 @@ pub record Rounds (old : List Lane) (first : List ℕ) (s t round : ℕ) (lanes 
   pub parts : length potential ≡ length first
   pub marks : length reached ≡ length first
 
-pub rounds_begin : (old : List Lane) (first : List ℕ) (s t : ℕ) (reached : List Bool) → IsReady s old first → ((v : ℕ) → at first v ≡ 0) → IsUnused old → length reached ≡ length first → Rounds old first s t 0 old first reached
+pub rounds_begin : (old : List Lane) (first : List ℕ) (s t : ℕ) (reached : List Bool) → IsReady s old first → ((v : ℕ) → at first v ≡ 0) → IsUnused old
+    → length reached ≡ length first → Rounds old first s t 0 old first reached
 rounds_begin old first s t reached ready zero_all unused marks = record {
   same = refl;
   ready = ready;
@@ -70,7 +71,8 @@ module _ (old : List Lane) (first : List ℕ) (s t round : ℕ) (lanes : List La
   low_again : (v : ℕ) → at more v ≤ (round + 1) * most_rise
   low_again v = omega (arith, g.high (round * most_rise) r.low v, g.few, g.marks, r.ready.parts)
 
-  pub rounds_more : (turned : List Lane) → map bare turned ≡ map bare lanes → (AreTight (at more) lanes tree → FitAll (at more) lanes → FitAll (at more) turned) → Flow s t (round + 1) turned → round + 1 ≤ MAX_PATHS
+  pub rounds_more : (turned : List Lane) → map bare turned ≡ map bare lanes → (AreTight (at more) lanes tree → FitAll (at more) lanes → FitAll (at more) turned)
+      → Flow s t (round + 1) turned → round + 1 ≤ MAX_PATHS
       → Rounds old first s t (round + 1) turned more reached
   rounds_more turned same fits flow few = record {
     same = same ∙ r.same;
@@ -78,8 +80,10 @@ module _ (old : List Lane) (first : List ℕ) (s t round : ℕ) (lanes : List La
       parts = omega (arith, g.parts, r.ready.parts);
       source = omega (arith, g.parts, r.ready.source);
       within = λ k inside.
-          let old_one = r.ready.within k (omega (arith, long, inside)) in
-          (omega (arith, g.parts, old_one.0, ap (λ (l : Lane). l.from) (bare_at turned lanes same k)), omega (arith, g.parts, old_one.1, ap (λ (l : Lane). l.to) (bare_at turned lanes same k)));
+          let old_one = r.ready.within k (omega (arith, long, inside)) in (
+            omega (arith, g.parts, old_one.0, ap (λ (l : Lane). l.from) (bare_at turned lanes same k)),
+            omega (arith, g.parts, old_one.1, ap (λ (l : Lane). l.to) (bare_at turned lanes same k)),
+          );
       weights = λ k inside. omega (arith, r.ready.weights k (omega (arith, long, inside)), ap (λ (l : Lane). l.cost) (bare_at turned lanes same k));
       fits = fits g.tight g.fits;
       zero_there = g.zero_there;
@@ -94,7 +98,8 @@ module _ (old : List Lane) (first : List ℕ) (s t round : ℕ) (lanes : List La
       long : length turned ≡ length lanes
       long = same_length turned lanes same
 
-  pub rounds_end : (count : ℕ) → round < count → is_in reached t ≡ false → ((k : ℕ) → k < length lanes → Closed (is_in reached) (lane_at lanes k)) → HasOnly s t round count lanes reached
+  pub rounds_end : (count : ℕ) → round < count → is_in reached t ≡ false → ((k : ℕ) → k < length lanes → Closed (is_in reached) (lane_at lanes k))
+      → HasOnly s t round count lanes reached
   rounds_end count fewer out closed = record {
     fewer = fewer;
     flow = r.flow;
@@ -104,5 +109,6 @@ module _ (old : List Lane) (first : List ℕ) (s t round : ℕ) (lanes : List La
     least_set = λ c source all v inside. g.least_set c source all v (omega (arith, inside, g.marks));
   }
 
-pub rounds_done : (old : List Lane) (first : List ℕ) (s t count : ℕ) (lanes : List Lane) (potential : List ℕ) (reached : List Bool) → count ≤ MAX_PATHS → Rounds old first s t count lanes potential reached → HasAll s t count lanes potential
+pub rounds_done : (old : List Lane) (first : List ℕ) (s t count : ℕ) (lanes : List Lane) (potential : List ℕ) (reached : List Bool) → count ≤ MAX_PATHS
+    → Rounds old first s t count lanes potential reached → HasAll s t count lanes potential
 rounds_done old first s t count lanes potential reached few r = record { flow = r.flow; fits = r.ready.fits; low = λ v. omega (arith, r.low v, few) }

@@ -1,5 +1,6 @@
 -- From what the lanes of a search say to what its answer says of the graph.
-use Rattle.std.proofs.Common.{◌≡◌, ◌+◌, ◌<◌, ℕ, zero, suc, Bool, true, false, not, cond, List, [], ◌∷◌, length, map, sum_by, refl, sym, ap, subst, ◌∙◌, inl, inr, arith}
+use Rattle.std.proofs.Common.{◌≡◌, ◌+◌, ◌<◌, ℕ, zero, suc, Bool, true, false, not, cond, List, [], ◌∷◌, length, map, sum_by, refl, sym, ap, subst, ◌∙◌, inl}
+use Rattle.std.proofs.Common.{inr, arith}
 use Rattle.std.specs.Prelude.{◌⊎◌, ◌≢◌, ◌&&◌, ◌==◌, pos, replicate}
 use Rattle.std.specs.List.{All, Contains, list_all}
 use Rattle.std.proofs.lemmas.Bool.{eqb-true}
@@ -42,7 +43,8 @@ fresh_fits p l fresh none = rw fresh.unused (omega (arith, none))
 pub fresh_unused : (lanes : List Lane) → All IsFresh lanes → IsUnused lanes
 fresh_unused lanes fresh k inside = (fresh k no_lane inside).unused
 
-pub fresh_ready : (s : ℕ) (lanes : List Lane) (potential : List ℕ) → All IsFresh lanes → length potential ≡ PARTS → ((v : ℕ) → at potential v ≡ 0) → s < PARTS → IsReady s lanes potential
+pub fresh_ready : (s : ℕ) (lanes : List Lane) (potential : List ℕ) → All IsFresh lanes → length potential ≡ PARTS → ((v : ℕ) → at potential v ≡ 0) → s < PARTS
+    → IsReady s lanes potential
 fresh_ready s lanes potential fresh long zero_all inside = record {
   parts = omega (arith, long);
   source = omega (arith, long, inside);
@@ -65,7 +67,8 @@ same_arcs old new same = sym (arc_of_bare new) ∙ ap (map arc_of) same ∙ arc_
 -- ---- the cut
 
 -- the arcs that leave a set are the lanes that do
-leaving_is : (g : Graph) (s t : NodeId) (lanes : List Lane) (cut : Part → Bool) → map arc_of lanes ≡ arcs_of g s t → leaving g s t cut ≡ sum_by (leaves (λ n. cut (part_at n))) lanes
+leaving_is : (g : Graph) (s t : NodeId) (lanes : List Lane) (cut : Part → Bool) → map arc_of lanes ≡ arcs_of g s t
+    → leaving g s t cut ≡ sum_by (leaves (λ n. cut (part_at n))) lanes
 leaving_is g s t lanes cut is =
     let f : Arc → ℕ = λ a. cond (cut a.from && not (cut a.to)) 1 0 in
     let h : Lane → ℕ = leaves (λ n. cut (part_at n)) in
@@ -94,9 +97,15 @@ few_is g s t k found lanes reached apart right is only marks = record {
   no_more = λ n paths good. omega (arith, cut_bounds_paths g s t n paths (λ part. is_in reached (number part)) right good cut, whole);
   is_cut = cut;
   size = whole;
-  least = λ other good. omega (arith, leaving_is g s t lanes other is, open_size (number (parts.Out s)) (number (parts.In t)) found lanes (λ n. other (part_at n)) only.flow (source other good) (destination other good));
+  least = λ other good. omega (
+    arith,
+    leaving_is g s t lanes other is,
+    open_size (number (parts.Out s)) (number (parts.In t)) found lanes (λ n. other (part_at n)) only.flow (source other good) (destination other good),
+  );
   smallest = λ other good small part inside there.
-      let closed = least_cut (number (parts.Out s)) (number (parts.In t)) found lanes (λ n. other (part_at n)) only.flow (source other good) (destination other good) (omega (arith, small, leaving_is g s t lanes other is)) in
+      let closed =
+      least_cut (number (parts.Out s)) (number (parts.In t)) found lanes (λ n. other (part_at n)) only.flow (source other good) (destination other good)
+      (omega (arith, small, leaving_is g s t lanes other is)) in
       ap other (sym (part_of_number part)) ∙ only.least_set (λ n. other (part_at n)) (source other good) closed (number part) inside there;
 }
   where
@@ -119,14 +128,25 @@ few_is g s t k found lanes reached apart right is only marks = record {
 
 -- ---- the paths
 
-pub found_is : (g : Graph) (s t : NodeId) (k : ℕ) (old new : List Lane) (potential : List ℕ) (walks : List (List ℕ)) (paths : List (List NodeId)) → s ≢ t → IsGraph g → map arc_of old ≡ arcs_of g s t
-    → HasAll (number (parts.Out s)) (number (parts.In t)) k old potential → IsApart old new (number (parts.Out s)) (number (parts.In t)) k walks → Flow (number (parts.Out s)) (number (parts.In t)) 0 new
+pub found_is : (g : Graph) (s t : NodeId) (k : ℕ) (old new : List Lane) (potential : List ℕ) (walks : List (List ℕ)) (paths : List (List NodeId)) → s ≢ t
+    → IsGraph g → map arc_of old ≡ arcs_of g s t
+    → HasAll (number (parts.Out s)) (number (parts.In t)) k old potential → IsApart old new (number (parts.Out s)) (number (parts.In t)) k walks
+    → Flow (number (parts.Out s)) (number (parts.In t)) 0 new
     → paths ≡ map (λ walk. path_along old s walk) walks → length potential ≡ PARTS → IsFound g s t k paths potential
 found_is g s t k old new potential walks paths apart right is all taken none these numbers =
     let set = map (λ walk. path_along old s walk) walks in
     let disjoint = walks_are_disjoint g s t apart right old new is k walks taken in
     let optimal = walks_are_optimal g s t apart right old new is k walks taken (at potential) all.fits none in
-    let found : IsFound g s t k set potential = record { disjoint = disjoint; ordered = walks_in_order g s t right old new is k walks taken; optimal = optimal; least = certified_is_least g s t k set (λ part. pos (at potential (number part))) right disjoint optimal; low = all.low; numbers = numbers } in
+    let found : IsFound g s t k set potential =
+    record {
+      disjoint = disjoint;
+      ordered = walks_in_order g s t right old new is k walks taken;
+      optimal = optimal;
+      least =
+          certified_is_least g s t k set (λ part. pos (at potential (number part))) right disjoint optimal;
+      low = all.low;
+      numbers = numbers;
+    } in
     subst (λ (ps : List (List NodeId)). IsFound g s t k ps potential) (sym these) found
 
 -- ---- what the functions hand on
@@ -139,9 +159,12 @@ zeros_read (x ∷ xs) e (suc v) = zeros_read xs (both_true (x == 0) (list_all (�
 abbrev pub zeros : List ℕ
 zeros = replicate PARTS 0
 
-pub places_inside : {X : Type 0} (f : X → List ℕ) (walks : List X) (n : ℕ) → ((i : ℕ) → Contains (joined (map f walks)) i → i < n) → All (λ walk. All (λ i. i < n) (f walk)) walks
+pub places_inside : {X : Type 0} (f : X → List ℕ) (walks : List X) (n : ℕ) → ((i : ℕ) → Contains (joined (map f walks)) i → i < n)
+    → All (λ walk. All (λ i. i < n) (f walk)) walks
 places_inside f walks n inside =
-    all_from (λ walk. All (λ i. i < n) (f walk)) walks (λ walk h. all_from (λ i. i < n) (f walk) (λ i at. inside i (contains (joined (map f walks)) i (walk_in_joined (map f walks) (f walk) i (has_map f walks walk h) at))))
+    all_from (λ walk. All (λ i. i < n) (f walk)) walks
+    (λ walk h. all_from (λ i. i < n) (f walk)
+    (λ i at. inside i (contains (joined (map f walks)) i (walk_in_joined (map f walks) (f walk) i (has_map f walks walk h) at))))
 
 -- a lane that was taken has the ends that it had
 way_same : (old new : List Lane) (places : List ℕ) → Taken old new places → (i : ℕ) → way_of (lane_at new i) ≡ way_of (lane_at old i)
@@ -153,9 +176,11 @@ way_same old new places taken i = go (in_or_not places i)
 
 along_same : (old new : List Lane) (walk : List ℕ) → ((i : ℕ) → way_of (lane_at new i) ≡ way_of (lane_at old i)) → ways_along new walk ≡ ways_along old walk
 along_same old new [] same = refl
-along_same old new (i ∷ walk) same = ap (λ (w : Way). w ∷ ways_along new walk) (same i) ∙ ap (λ (ws : List Way). way_of (lane_at old i) ∷ ws) (along_same old new walk same)
+along_same old new (i ∷ walk) same =
+    ap (λ (w : Way). w ∷ ways_along new walk) (same i) ∙ ap (λ (ws : List Way). way_of (lane_at old i) ∷ ws) (along_same old new walk same)
 
-pub paths_same : {X : Type 0} (f : X → List ℕ) (walks : List X) (old new : List Lane) (s : NodeId) (places : List ℕ) → Taken old new places → map (λ walk. path_along new s (f walk)) walks ≡ map (λ walk. path_along old s walk) (map f walks)
+pub paths_same : {X : Type 0} (f : X → List ℕ) (walks : List X) (old new : List Lane) (s : NodeId) (places : List ℕ) → Taken old new places
+    → map (λ walk. path_along new s (f walk)) walks ≡ map (λ walk. path_along old s walk) (map f walks)
 paths_same f [] old new s places taken = refl
 paths_same f (w ∷ walks) old new s places taken =
     let path : List ℕ → List NodeId = λ walk. path_along old s walk in

@@ -1,5 +1,6 @@
 -- All walks of a flow together are disjoint paths, and the potentials of the search are their certificate.
-use Rattle.std.proofs.Common.{◌≡◌, ◌+◌, ◌*◌, ◌<◌, ◌≤◌, ℕ, suc, Bool, true, false, cond, List, [], ◌∷◌, ◌++◌, length, map, refl, sym, ap, subst, ◌∙◌, inl, inr, arith}
+use Rattle.std.proofs.Common.{◌≡◌, ◌+◌, ◌*◌, ◌<◌, ◌≤◌, ℕ, suc, Bool, true, false, cond, List, [], ◌∷◌, ◌++◌, length, map, refl, sym, ap, subst, ◌∙◌, inl, inr}
+use Rattle.std.proofs.Common.{arith}
 use Rattle.std.specs.Prelude.{◌⊎◌, ◌≢◌, pos, ◌≤ℤ◌, nat_abs}
 use Rattle.std.specs.List.{All, AllPairs, flat_map}
 use Rattle.std.proofs.lemmas.Int.{ints}
@@ -41,7 +42,8 @@ module _ (g : Graph) (s t : NodeId) (apart_ends : s ≢ t) (lanes : List Lane) w
   along_both : (one two : List ℕ) → ways_along lanes (one ++ two) ≡ ways_along lanes one ++ ways_along lanes two
   along_both one two = map-append (λ i. way_of (lane_at lanes i)) one two
 
-  pub together_is : (walks : List (List ℕ)) → ((walk : List ℕ) → Has walks walk → Laid g s t lanes walk) → together (map (λ walk. path_along lanes s walk) walks) ≡ ways_along lanes (joined walks)
+  pub together_is : (walks : List (List ℕ)) → ((walk : List ℕ) → Has walks walk → Laid g s t lanes walk)
+      → together (map (λ walk. path_along lanes s walk) walks) ≡ ways_along lanes (joined walks)
   together_is [] laid = refl
   together_is (w ∷ walks) laid =
       ap (λ (ws : List Way). ws ++ together (map (λ walk. path_along lanes s walk) walks)) (ways_here w (laid w (inl refl)))
@@ -50,11 +52,14 @@ module _ (g : Graph) (s t : NodeId) (apart_ends : s ≢ t) (lanes : List Lane) w
   in_joined : (walks : List (List ℕ)) (walk : List ℕ) (w : Way) → Has walks walk → Has (ways_along lanes walk) w → Has (ways_along lanes (joined walks)) w
   in_joined [] walk w h k = absurd h
   in_joined (v ∷ walks) walk w (inl e) k =
-      subst (λ (ws : List Way). Has ws w) (sym (along_both v (joined walks))) (has_left (ways_along lanes v) (ways_along lanes (joined walks)) w (subst (λ (u : List ℕ). Has (ways_along lanes u) w) (sym e) k))
+      subst (λ (ws : List Way). Has ws w) (sym (along_both v (joined walks)))
+      (has_left (ways_along lanes v) (ways_along lanes (joined walks)) w (subst (λ (u : List ℕ). Has (ways_along lanes u) w) (sym e) k))
   in_joined (v ∷ walks) walk w (inr h) k =
-      subst (λ (ws : List Way). Has ws w) (sym (along_both v (joined walks))) (has_right (ways_along lanes v) (ways_along lanes (joined walks)) w (in_joined walks walk w h k))
+      subst (λ (ws : List Way). Has ws w) (sym (along_both v (joined walks)))
+      (has_right (ways_along lanes v) (ways_along lanes (joined walks)) w (in_joined walks walk w h k))
 
-  are_paths : (walks : List (List ℕ)) → ((walk : List ℕ) → Has walks walk → Laid g s t lanes walk) → Distinct (ways_along lanes (joined walks)) → All (IsPath g s t) (map (λ walk. path_along lanes s walk) walks)
+  are_paths : (walks : List (List ℕ)) → ((walk : List ℕ) → Has walks walk → Laid g s t lanes walk) → Distinct (ways_along lanes (joined walks))
+      → All (IsPath g s t) (map (λ walk. path_along lanes s walk) walks)
   are_paths [] laid once = All-nil (IsPath g s t)
   are_paths (w ∷ walks) laid once =
       let split = subst Distinct (along_both w (joined walks)) once in
@@ -62,7 +67,8 @@ module _ (g : Graph) (s t : NodeId) (apart_ends : s ≢ t) (lanes : List Lane) w
       (path_is g s t apart_ends lanes w (laid w (inl refl)) (distinct_left (ways_along lanes w) (ways_along lanes (joined walks)) split))
       (are_paths walks (λ v h. laid v (inr h)) (distinct_right (ways_along lanes w) (ways_along lanes (joined walks)) split))
 
-  are_apart : (walks : List (List ℕ)) → ((walk : List ℕ) → Has walks walk → Laid g s t lanes walk) → Distinct (ways_along lanes (joined walks)) → AllPairs (Apart s t) (map (λ walk. path_along lanes s walk) walks)
+  are_apart : (walks : List (List ℕ)) → ((walk : List ℕ) → Has walks walk → Laid g s t lanes walk) → Distinct (ways_along lanes (joined walks))
+      → AllPairs (Apart s t) (map (λ walk. path_along lanes s walk) walks)
   are_apart [] laid once = λ i j d less inside. absurd (omega (arith, inside))
   are_apart (w ∷ walks) laid once =
       let split = subst Distinct (along_both w (joined walks)) once in
@@ -74,19 +80,24 @@ module _ (g : Graph) (s t : NodeId) (apart_ends : s ≢ t) (lanes : List Lane) w
       (λ x a b. distinct_across (ways_along lanes w) (ways_along lanes (joined walks)) split x a (in_joined walks v x at b)))))
       (are_apart walks (λ v h. laid v (inr h)) (distinct_right (ways_along lanes w) (ways_along lanes (joined walks)) split))
 
-  pub are_disjoint : (k : ℕ) (walks : List (List ℕ)) → length walks ≡ k → ((walk : List ℕ) → Has walks walk → Laid g s t lanes walk) → Distinct (ways_along lanes (joined walks))
+  pub are_disjoint : (k : ℕ) (walks : List (List ℕ)) → length walks ≡ k → ((walk : List ℕ) → Has walks walk → Laid g s t lanes walk)
+      → Distinct (ways_along lanes (joined walks))
       → Disjoint g s t k (map (λ walk. path_along lanes s walk) walks)
-  are_disjoint k walks count laid once = record { count = length-map walks (λ walk. path_along lanes s walk) ∙ count; are_paths = are_paths walks laid once; apart = are_apart walks laid once }
+  are_disjoint k walks count laid once =
+      record { count = length-map walks (λ walk. path_along lanes s walk) ∙ count; are_paths = are_paths walks laid once; apart = are_apart walks laid once }
 
 -- ---- which lanes are taken
 
 distinct_along : {Y : Type 0} (f : ℕ → Y) (xs : List ℕ) → ((i j : ℕ) → Has xs i → Has xs j → f i ≡ f j → i ≡ j) → Distinct xs → Distinct (map f xs)
 distinct_along f [] one once = tt
-distinct_along f (x ∷ xs) one once =
-    ((λ h. let (y, at, e) = from_map f xs (f x) h in once.0 (subst (Has xs) (one y x (inr at) (inl refl) e) at)), distinct_along f xs (λ i j h k. one i j (inr h) (inr k)) once.1)
+distinct_along f (x ∷ xs) one once = (
+  (λ h. let (y, at, e) = from_map f xs (f x) h in once.0 (subst (Has xs) (one y x (inr at) (inl refl) e) at)),
+  distinct_along f xs (λ i j h k. one i j (inr h) (inr k)) once.1,
+)
 
 -- an arc goes through a node, or costs 1 at least
-edge_weight : (nodes : ℕ) (edges : List Edge) (a : Arc) → All (IsEdge nodes) edges → Has (flat_map edge_arcs edges) a → (weight : ℕ) × (1 ≤ weight) × (a.cost ≡ pos weight)
+edge_weight : (nodes : ℕ) (edges : List Edge) (a : Arc) → All (IsEdge nodes) edges → Has (flat_map edge_arcs edges) a
+    → (weight : ℕ) × (1 ≤ weight) × (a.cost ≡ pos weight)
 edge_weight nodes edges a good h = from edges good h
   where
     from : (es : List Edge) → All (IsEdge nodes) es → Has (flat_map edge_arcs es) a → (weight : ℕ) × (1 ≤ weight) × (a.cost ≡ pos weight)
@@ -95,11 +106,14 @@ edge_weight nodes edges a good h = from edges good h
     from (e ∷ es) all (inr (inl f)) = (e.weight, (held (IsEdge nodes) (e ∷ es) e all (inl refl)).3.0, ap (λ (b : Arc). b.cost) (sym f))
     from (e ∷ es) all (inr (inr k)) = from es (all_from (IsEdge nodes) es (λ f m. held (IsEdge nodes) (e ∷ es) f all (inr m))) k
 
-arc_weight : (g : Graph) (s t : NodeId) (a : Arc) → IsGraph g → Has (arcs_of g s t) a → ((is_out a.from ≡ false) × (is_out a.to ≡ true)) ⊎ ((weight : ℕ) × (1 ≤ weight) × (a.cost ≡ pos weight))
+arc_weight : (g : Graph) (s t : NodeId) (a : Arc) → IsGraph g → Has (arcs_of g s t) a
+    → ((is_out a.from ≡ false) × (is_out a.to ≡ true)) ⊎ ((weight : ℕ) × (1 ≤ weight) × (a.cost ≡ pos weight))
 arc_weight g s t a good h = go (has_either (map node_arc (nodes_to g.nodes)) (flat_map edge_arcs g.edges) a (from_filter (is_there s t) (all_arcs g) a h).0)
   where
-    go : Has (map node_arc (nodes_to g.nodes)) a ⊎ Has (flat_map edge_arcs g.edges) a → ((is_out a.from ≡ false) × (is_out a.to ≡ true)) ⊎ ((weight : ℕ) × (1 ≤ weight) × (a.cost ≡ pos weight))
-    go (inl k) = let (v, at, e) = from_map node_arc (nodes_to g.nodes) a k in inl (ap (λ (b : Arc). is_out b.from) (sym e), ap (λ (b : Arc). is_out b.to) (sym e))
+    go : Has (map node_arc (nodes_to g.nodes)) a ⊎ Has (flat_map edge_arcs g.edges) a
+        → ((is_out a.from ≡ false) × (is_out a.to ≡ true)) ⊎ ((weight : ℕ) × (1 ≤ weight) × (a.cost ≡ pos weight))
+    go (inl k) = let (v, at, e) = from_map node_arc (nodes_to g.nodes) a k in
+        inl (ap (λ (b : Arc). is_out b.from) (sym e), ap (λ (b : Arc). is_out b.to) (sym e))
     go (inr k) = inr (edge_weight g.nodes g.edges a good.edges k)
 
 -- twice the potential, and one more for an out-part: it rises along each used lane
@@ -110,11 +124,13 @@ bit_small : (b : Bool) → cond b 1 0 ≤ 1
 bit_small true = omega arith
 bit_small false = omega arith
 
-rank_rises : (g : Graph) (s t : NodeId) (p : ℕ → ℕ) (l : Lane) → IsGraph g → Has (arcs_of g s t) (arc_of l) → l.cost + p l.from ≤ p l.to → rank p l.from < rank p l.to
+rank_rises : (g : Graph) (s t : NodeId) (p : ℕ → ℕ) (l : Lane) → IsGraph g → Has (arcs_of g s t) (arc_of l) → l.cost + p l.from ≤ p l.to
+    → rank p l.from < rank p l.to
 unfolding rank
 rank_rises g s t p l good h fits = go (arc_weight g s t (arc_of l) good h)
   where
-    go : ((is_out (part_at l.from) ≡ false) × (is_out (part_at l.to) ≡ true)) ⊎ ((weight : ℕ) × (1 ≤ weight) × (pos l.cost ≡ pos weight)) → 2 * p l.from + cond (is_out (part_at l.from)) 1 0 < 2 * p l.to + cond (is_out (part_at l.to)) 1 0
+    go : ((is_out (part_at l.from) ≡ false) × (is_out (part_at l.to) ≡ true)) ⊎ ((weight : ℕ) × (1 ≤ weight) × (pos l.cost ≡ pos weight))
+        → 2 * p l.from + cond (is_out (part_at l.from)) 1 0 < 2 * p l.to + cond (is_out (part_at l.to)) 1 0
     go (inl e) = rw (e.0, e.1) (omega (arith, fits))
     go (inr (weight, some, e)) =
         let cost : l.cost ≡ weight = ap nat_abs e in
@@ -126,16 +142,20 @@ used_fits p l fits used = rw used at fits
 free_fits : (p : ℕ → ℕ) (l : Lane) → Fits p l → l.used ≡ false → p l.to ≤ l.cost + p l.from
 free_fits p l fits used = rw used at fits
 
-module _ (g : Graph) (s t : NodeId) (apart_ends : s ≢ t) (right : IsGraph g) (old new : List Lane) (is : map arc_of old ≡ arcs_of g s t) (k : ℕ) (walks : List (List ℕ))
+module _ (g : Graph) (s t : NodeId) (apart_ends : s ≢ t) (right : IsGraph g) (old new : List Lane) (is : map arc_of old ≡ arcs_of g s t) (k : ℕ)
+    (walks : List (List ℕ))
     (taken : IsApart old new (number (parts.Out s)) (number (parts.In t)) k walks) where
   inside : (i : ℕ) → Has (joined walks) i → i < length old
   inside i h = taken.taken.inside i (contains (joined walks) i h)
 
   laid : (walk : List ℕ) → Has walks walk → Laid g s t old walk
-  laid walk h = lay g s t old is walk (λ i at. inside i (walk_in_joined walks walk i h at)) (held (λ w. Leads old (number (parts.Out s)) w (number (parts.In t))) walks walk taken.lead h)
+  laid walk h =
+      lay g s t old is walk (λ i at. inside i (walk_in_joined walks walk i h at))
+      (held (λ w. Leads old (number (parts.Out s)) w (number (parts.In t))) walks walk taken.lead h)
 
   ways_once : Distinct (ways_along old (joined walks))
-  ways_once = distinct_along (λ i. way_of (lane_at old i)) (joined walks) (λ i j h m e. place_once g s t old right is i j (inside i h) (inside j m) e) (distinct (joined walks) taken.taken.once)
+  ways_once = distinct_along (λ i. way_of (lane_at old i)) (joined walks) (λ i j h m e. place_once g s t old right is i j (inside i h) (inside j m) e)
+      (distinct (joined walks) taken.taken.once)
 
   pub walks_are_disjoint : Disjoint g s t k (map (λ walk. path_along old s walk) walks)
   walks_are_disjoint = are_disjoint g s t apart_ends old k walks taken.count laid ways_once
@@ -158,7 +178,8 @@ module _ (g : Graph) (s t : NodeId) (apart_ends : s ≢ t) (right : IsGraph g) (
         (λ i less used.
         let same = still_used i used in
         let there : i < length old = omega (arith, less, taken.taken.long) in
-        let up = rank_rises g s t p (lane_at old i) right (has_arc old (arcs_of g s t) is i there) (used_fits p (lane_at old i) (fits i there) (ap (λ (l : Lane). l.used) (sym same) ∙ used)) in
+        let up = rank_rises g s t p (lane_at old i) right (has_arc old (arcs_of g s t) is i there)
+        (used_fits p (lane_at old i) (fits i there) (ap (λ (l : Lane). l.used) (sym same) ∙ used)) in
         subst (λ (l : Lane). rank p l.from < rank p l.to) (sym same) up)
         none
 
@@ -179,20 +200,25 @@ module _ (g : Graph) (s t : NodeId) (apart_ends : s ≢ t) (right : IsGraph g) (
     uses_used : (i : ℕ) → i < length old → uses (map (λ walk. path_along old s walk) walks) (arc_of (lane_at old i)) ≡ (lane_at old i).used
     uses_used i less = go (lane_at old i).used refl (uses (map (λ walk. path_along old s walk) walks) (arc_of (lane_at old i))) refl
       where
-        go : (a : Bool) → (lane_at old i).used ≡ a → (b : Bool) → uses (map (λ walk. path_along old s walk) walks) (arc_of (lane_at old i)) ≡ b → uses (map (λ walk. path_along old s walk) walks) (arc_of (lane_at old i)) ≡ (lane_at old i).used
+        go : (a : Bool) → (lane_at old i).used ≡ a → (b : Bool) → uses (map (λ walk. path_along old s walk) walks) (arc_of (lane_at old i)) ≡ b
+            → uses (map (λ walk. path_along old s walk) walks) (arc_of (lane_at old i)) ≡ (lane_at old i).used
         go true e b f =
             let at = has_map (λ j. way_of (lane_at old j)) (joined walks) i (used_is_taken i less e) in
-            way_is_used g (map (λ walk. path_along old s walk) walks) (way_of (lane_at old i)) (subst (λ (ws : List Way). Has ws (way_of (lane_at old i))) (sym all_ways) at) ∙ sym e
+            way_is_used g (map (λ walk. path_along old s walk) walks) (way_of (lane_at old i))
+            (subst (λ (ws : List Way). Has ws (way_of (lane_at old i))) (sym all_ways) at) ∙ sym e
         go false e false f = f ∙ sym e
         go false e true f =
             let way = used_is_way g (map (λ walk. path_along old s walk) walks) (way_of (lane_at old i)) f in
-            let (j, at, same) = from_map (λ j. way_of (lane_at old j)) (joined walks) (way_of (lane_at old i)) (subst (λ (ws : List Way). Has ws (way_of (lane_at old i))) all_ways way) in
+            let (j, at, same) =
+            from_map (λ j. way_of (lane_at old j)) (joined walks) (way_of (lane_at old i))
+            (subst (λ (ws : List Way). Has ws (way_of (lane_at old i))) all_ways way) in
             let one : j ≡ i = place_once g s t old right is j i (inside j at) less same in
             let used : (lane_at old i).used ≡ true = taken.taken.used i (contains (joined walks) i (subst (Has (joined walks)) one at)) in
             let x : true ≡ false = sym used ∙ e in absurd cc
 
     -- each residual arc has a reduced cost of at least 0
-    fits_arc : (i : ℕ) → i < length old → (b : Bool) → (lane_at old i).used ≡ b → pos 0 ≤ℤ reduced_cost (λ q. pos (p (number q))) (cond b (turned (arc_of (lane_at old i))) (arc_of (lane_at old i)))
+    fits_arc : (i : ℕ) → i < length old → (b : Bool) → (lane_at old i).used ≡ b
+        → pos 0 ≤ℤ reduced_cost (λ q. pos (p (number q))) (cond b (turned (arc_of (lane_at old i))) (arc_of (lane_at old i)))
     fits_arc i less true e =
         let l = lane_at old i in
         let from : p (number (part_at l.from)) ≡ p l.from = ap p (number_at l.from) in

@@ -26,7 +26,8 @@ pub from_filter : {X : Type 0} (test : X → Bool) (xs : List X) (a : X) → Has
 from_filter test [] a h = absurd h
 from_filter {X} test (x ∷ xs) a h = go (test x) refl h (from_filter test xs a)
   where
-    go : (b : Bool) → test x ≡ b → Has (cond b (x ∷ filter test xs) (filter test xs)) a → (Has (filter test xs) a → Has xs a × (test a ≡ true)) → Has (x ∷ xs) a × (test a ≡ true)
+    go : (b : Bool) → test x ≡ b → Has (cond b (x ∷ filter test xs) (filter test xs)) a → (Has (filter test xs) a → Has xs a × (test a ≡ true))
+        → Has (x ∷ xs) a × (test a ≡ true)
     go true e (inl f) rest = (inl f, ap test (sym f) ∙ e)
     go true e (inr k) rest = let at = rest k in (inr at.0, at.1)
     go false e k rest = let at = rest k in (inr at.0, at.1)
@@ -51,7 +52,8 @@ pub data ArcKind (g : Graph) (s t : NodeId) (a : Arc) : Type 0 where
   Inner : (v : NodeId) → v ≢ s → v ≢ t → a ≡ node_arc v → ArcKind g s t a
   Edge_arc : (u v : NodeId) (weight : ℕ) → u ≢ t → v ≢ s → Between g.edges u v → a ≡ edge_arc u v weight → ArcKind g s t a
 
-pub from_edges : (edges : List Edge) (a : Arc) → Has (flat_map edge_arcs edges) a → (u : NodeId) × (v : NodeId) × (weight : ℕ) × Between edges u v × (a ≡ edge_arc u v weight)
+pub from_edges : (edges : List Edge) (a : Arc) → Has (flat_map edge_arcs edges) a
+    → (u : NodeId) × (v : NodeId) × (weight : ℕ) × Between edges u v × (a ≡ edge_arc u v weight)
 from_edges [] a h = absurd h
 from_edges (e ∷ edges) a (inl f) = (e.low, e.high, e.weight, (e, inl refl, between_itself e), sym f)
 from_edges (e ∷ edges) a (inr (inl f)) = (e.high, e.low, e.weight, (e, inl refl, between_back e), sym f)
@@ -89,7 +91,8 @@ arc_kind g s t a h = go (has_either (map node_arc (nodes_to g.nodes)) (flat_map 
         Inner v (in_there s t v (ap (λ (b : Arc). stays s t b.from) is ∙ there.0)) (out_there s t v (ap (λ (b : Arc). stays s t b.to) is ∙ there.1)) (sym is)
     go (inr k) =
         let (u, v, weight, edge, is) = from_edges g.edges a k in
-        Edge_arc u v weight (out_there s t u (ap (λ (b : Arc). stays s t b.from) (sym is) ∙ there.0)) (in_there s t v (ap (λ (b : Arc). stays s t b.to) (sym is) ∙ there.1)) edge is
+        Edge_arc u v weight (out_there s t u (ap (λ (b : Arc). stays s t b.from) (sym is) ∙ there.0))
+        (in_there s t v (ap (λ (b : Arc). stays s t b.to) (sym is) ∙ there.1)) edge is
 
 -- ---- numbers of parts
 
@@ -119,7 +122,8 @@ pub record Shape (lanes : List Lane) (u t : NodeId) (walk : List ℕ) : Type 0 w
 
 module _ (g : Graph) (s t : NodeId) (lanes : List Lane) (kind : (i : ℕ) → i < length lanes → ArcKind g s t (arc_of (lane_at lanes i))) where
   -- a lane out of a node is an edge's
-  along : (u : NodeId) (i : ℕ) → i < length lanes → (lane_at lanes i).from ≡ number (parts.Out u) → (v : NodeId) × (way_of (lane_at lanes i) ≡ (parts.Out u, parts.In v))
+  along : (u : NodeId) (i : ℕ) → i < length lanes → (lane_at lanes i).from ≡ number (parts.Out u)
+      → (v : NodeId) × (way_of (lane_at lanes i) ≡ (parts.Out u, parts.In v))
   along u i inside from = go (kind i inside)
     where
       begins : part_at (lane_at lanes i).from ≡ parts.Out u
@@ -139,13 +143,15 @@ module _ (g : Graph) (s t : NodeId) (lanes : List Lane) (kind : (i : ℕ) → i 
       go : ArcKind g s t (arc_of (lane_at lanes i)) → way_of (lane_at lanes i) ≡ (parts.In v, parts.Out v)
       go (Inner x not_s not_t is) =
           let same : v ≡ x = ap node_of (sym begins) ∙ ap (λ (a : Arc). node_of a.from) is in
-          ap (λ (p : Part). (p, part_at (lane_at lanes i).to)) begins ∙ ap (λ (b : Arc). (parts.In v, b.to)) is ∙ ap (λ (y : NodeId). (parts.In v, parts.Out y)) (sym same)
+          ap (λ (p : Part). (p, part_at (lane_at lanes i).to)) begins ∙ ap (λ (b : Arc). (parts.In v, b.to)) is
+          ∙ ap (λ (y : NodeId). (parts.In v, parts.Out y)) (sym same)
       go (Edge_arc a x weight not_t not_s edge is) = absurd (let x : false ≡ true = ap is_out (sym begins) ∙ ap (λ (b : Arc). is_out b.from) is in cc)
 
   ends_at : (l : Lane) (p : Part) → part_at l.to ≡ p → l.to ≡ number p
   ends_at l p e = sym (number_at l.to) ∙ ap number e
 
-  pub shape : (u : NodeId) (walk : List ℕ) → ((i : ℕ) → Has walk i → i < length lanes) → Leads lanes (number (parts.Out u)) walk (number (parts.In t)) → Shape lanes u t walk
+  pub shape : (u : NodeId) (walk : List ℕ) → ((i : ℕ) → Has walk i → i < length lanes) → Leads lanes (number (parts.Out u)) walk (number (parts.In t))
+      → Shape lanes u t walk
   shape u [] inside leads = absurd (let odd : 2 * u.0 + 1 ≡ 2 * t.0 = leads in omega (arith, odd))
   shape u (i ∷ []) inside leads =
       let (v, is) = along u i (inside i (inl refl)) leads.0 in
@@ -160,6 +166,7 @@ module _ (g : Graph) (s t : NodeId) (lanes : List Lane) (kind : (i : ℕ) → i 
       let rest = shape v walk (λ k h. inside k (inr (inr h))) (subst (λ (n : ℕ). Leads lanes n walk (number (parts.In t))) out leads.1.1) in
       record {
         inner = v ∷ rest.inner;
-        is = ap (λ (w : Way). w ∷ way_of (lane_at lanes j) ∷ ways_along lanes walk) is ∙ ap (λ (w : Way). (parts.Out u, parts.In v) ∷ w ∷ ways_along lanes walk) through
+        is = ap (λ (w : Way). w ∷ way_of (lane_at lanes j) ∷ ways_along lanes walk) is
+            ∙ ap (λ (w : Way). (parts.Out u, parts.In v) ∷ w ∷ ways_along lanes walk) through
             ∙ ap (λ (ws : List Way). (parts.Out u, parts.In v) ∷ (parts.In v, parts.Out v) ∷ ws) rest.is;
       }

@@ -10,7 +10,8 @@ use Rattle.sp_graph.specs.Disjoint.{Apart}
 use Rattle.sp_graph.specs.Walks.{IsPath, Joined, is_between, steps}
 use Rattle.laws_paths.proofs.Kept.{between, both_true, same_node, same_number}
 use Rattle.laws_paths.proofs.Lists.{Has, any_has, contains, either_true, has, has_any, held, or_first, or_true}
-use Rattle.sp_paths.specs.Tests.{all_apart, all_differ, are_apart, ends_at, goes_between, has_node, has_step, is_end, is_joined, is_node, is_path, is_step, share_no_edge, share_no_node}
+use Rattle.sp_paths.specs.Tests.{all_apart, all_differ, are_apart, ends_at, goes_between, has_node, has_step, is_end, is_joined, is_node, is_path, is_step}
+use Rattle.sp_paths.specs.Tests.{share_no_edge, share_no_node}
 use Rattle.sp_paths.proofs.PathLemmas.{all_from}
 
 -- ---- tests of whole lists
@@ -30,7 +31,8 @@ all_has test (x ∷ xs) a e (inr h) = all_has test xs a (both_true (test x) (lis
 
 -- a test of each element decides what it decides of each
 pub all_is : {X : Type 0} (P : X → Type 0) (test : X → Bool) → ((x : X) → (test x ≡ true) ↔ P x) → (xs : List X) → (list_all test xs ≡ true) ↔ All P xs
-all_is P test decides xs = (λ e. all_from P xs (λ x h. (decides x).0 (all_has test xs x e h)), λ all. all_when test xs (λ x h. (decides x).1 (held P xs x all h)))
+all_is P test decides xs =
+    (λ e. all_from P xs (λ x h. (decides x).0 (all_has test xs x e h)), λ all. all_when test xs (λ x h. (decides x).1 (held P xs x all h)))
 
 not_true : (b : Bool) → (b ≡ true → ⊥) → not b ≡ true
 not_true b never = go b refl
@@ -69,7 +71,8 @@ differ_is (v ∷ path) = (when (differ_is path).0, back (differ_is path).1)
     when : (all_differ path ≡ true → AllPairs (λ u w. u ≢ w) path) → all_differ (v ∷ path) ≡ true → AllPairs (λ u w. u ≢ w) (v ∷ path)
     when rest e =
         let k = both_true (not (has_node path v)) (all_differ path) e in
-        AllPairs-cons (λ u w. u ≢ w) v path (all_from (λ w. v ≢ w) path (λ w h same. not_both (has_node path v) k.0 ((has_node_is path v).1 (subst (Has path) (sym same) h)))) (rest k.1)
+        AllPairs-cons (λ u w. u ≢ w) v path
+        (all_from (λ w. v ≢ w) path (λ w h same. not_both (has_node path v) k.0 ((has_node_is path v).1 (subst (Has path) (sym same) h)))) (rest k.1)
 
     back : (AllPairs (λ u w. u ≢ w) path → all_differ path ≡ true) → AllPairs (λ u w. u ≢ w) (v ∷ path) → all_differ (v ∷ path) ≡ true
     back rest pairs =
@@ -83,7 +86,8 @@ pub joined_is : (g : Graph) (path : List NodeId) → (list_all (is_joined g.edge
 joined_is g path = all_is (Joined g) (is_joined g.edges) (λ step. (joined_by step, joined_test step)) (steps path)
   where
     joined_by : (step : NodeId × NodeId) → is_joined g.edges step ≡ true → Joined g step
-    joined_by step e = let at = any_has (is_between step.0 step.1) g.edges e in let place = contains g.edges at.0 at.1 in (place.0, at.0, place.1, place.2, at.2)
+    joined_by step e = let at = any_has (is_between step.0 step.1) g.edges e in let place = contains g.edges at.0 at.1 in
+        (place.0, at.0, place.1, place.2, at.2)
 
     joined_test : (step : NodeId × NodeId) → Joined g step → is_joined g.edges step ≡ true
     joined_test step joined = let at = between g step.0 step.1 joined in has_any (is_between step.0 step.1) g.edges at.0 at.1 at.2
@@ -94,8 +98,10 @@ ends_push t (u ∷ []) v = refl
 ends_push t (u ∷ w ∷ inner) v = ends_push t (w ∷ inner) v
 
 -- what the list's first and last say
-pub first_and_last : (s t first last : NodeId) (path rest inner : List NodeId) → path ≡ first ∷ rest → rest ≡ inner ++ last ∷ [] → goes_between s t path ≡ (is_node first s && is_node last t)
-first_and_last s t first last path rest inner one two = ap (goes_between s t) (one ∙ ap (λ (vs : List NodeId). first ∷ vs) two) ∙ ap (λ (b : Bool). is_node first s && b) (ends_push t inner last)
+pub first_and_last : (s t first last : NodeId) (path rest inner : List NodeId) → path ≡ first ∷ rest → rest ≡ inner ++ last ∷ []
+    → goes_between s t path ≡ (is_node first s && is_node last t)
+first_and_last s t first last path rest inner one two =
+    ap (goes_between s t) (one ∙ ap (λ (vs : List NodeId). first ∷ vs) two) ∙ ap (λ (b : Bool). is_node first s && b) (ends_push t inner last)
 
 pub too_short : (s t first : NodeId) (path rest : List NodeId) → path ≡ first ∷ rest → length rest ≡ 0 → goes_between s t path ≡ false
 too_short s t first path [] one short = ap (goes_between s t) one ∙ nothing (is_node first s)
@@ -111,7 +117,8 @@ inner_of t (v ∷ []) e = ([], ap (λ (u : NodeId). u ∷ []) (is_node_true v t 
 inner_of t (v ∷ w ∷ path) e = let (inner, is) = inner_of t (w ∷ path) e in (v ∷ inner, ap (λ (us : List NodeId). v ∷ us) is)
 
 between_is : (s t : NodeId) (path : List NodeId) → (goes_between s t path ≡ true) ↔ ((inner : List NodeId) × (path ≡ s ∷ (inner ++ t ∷ [])))
-between_is s t path = (when path, λ k. ap (goes_between s t) k.1 ∙ both (is_node s s) (ends_at t (k.0 ++ t ∷ [])) (same_number s.0) (ends_push t k.0 t ∙ same_number t.0))
+between_is s t path =
+    (when path, λ k. ap (goes_between s t) k.1 ∙ both (is_node s s) (ends_at t (k.0 ++ t ∷ [])) (same_number s.0) (ends_push t k.0 t ∙ same_number t.0))
   where
     when : (vs : List NodeId) → goes_between s t vs ≡ true → (inner : List NodeId) × (vs ≡ s ∷ (inner ++ t ∷ []))
     when [] e = absurd cc
@@ -132,8 +139,10 @@ path_is g s t path = (when, back)
     back : IsPath g s t path → is_path g.edges s t path ≡ true
     back good =
         both (goes_between s t path && list_all (is_joined g.edges) (steps path)) (all_differ path)
-        (both (goes_between s t path) (list_all (is_joined g.edges) (steps path)) ((between_is s t path).1 good.ends) ((joined_is g path).1 good.joined)) ((differ_is path).1 good.once)
+        (both (goes_between s t path) (list_all (is_joined g.edges) (steps path)) ((between_is s t path).1 good.ends) ((joined_is g path).1 good.joined))
+        ((differ_is path).1 good.once)
 
+-- the test that each is a path says so exactly
 pub all_paths_is : (g : Graph) (s t : NodeId) (paths : List (List NodeId)) → (list_all (is_path g.edges s t) paths ≡ true) ↔ All (IsPath g s t) paths
 all_paths_is g s t paths = all_is (IsPath g s t) (is_path g.edges s t) (path_is g s t) paths
 
@@ -154,16 +163,20 @@ step_is : (u v : NodeId) (x : NodeId × NodeId) → (is_step u v x ≡ true) ↔
 step_is u v x = (λ e. go (either_true (is_node u x.0 && is_node v x.1) (is_node u x.1 && is_node v x.0) e), back)
   where
     go : ((is_node u x.0 && is_node v x.1) ≡ true) ⊎ ((is_node u x.1 && is_node v x.0) ≡ true) → (x ≡ (u, v)) ⊎ (x ≡ (v, u))
-    go (inl k) = let k = both_true (is_node u x.0) (is_node v x.1) k in let one = is_node_true u x.0 k.0 in let two = is_node_true v x.1 k.1 in inl (rw (one, two) refl)
-    go (inr k) = let k = both_true (is_node u x.1) (is_node v x.0) k in let one = is_node_true u x.1 k.0 in let two = is_node_true v x.0 k.1 in inr (rw (one, two) refl)
+    go (inl k) = let k = both_true (is_node u x.0) (is_node v x.1) k in let one = is_node_true u x.0 k.0 in let two = is_node_true v x.1 k.1 in
+        inl (rw (one, two) refl)
+    go (inr k) = let k = both_true (is_node u x.1) (is_node v x.0) k in let one = is_node_true u x.1 k.0 in let two = is_node_true v x.0 k.1 in
+        inr (rw (one, two) refl)
 
     back : (x ≡ (u, v)) ⊎ (x ≡ (v, u)) → is_step u v x ≡ true
     back (inl e) =
         or_first (is_node u x.0 && is_node v x.1) (is_node u x.1 && is_node v x.0)
-        (both (is_node u x.0) (is_node v x.1) (is_node_same u x.0 (ap (λ (y : NodeId × NodeId). y.0) (sym e))) (is_node_same v x.1 (ap (λ (y : NodeId × NodeId). y.1) (sym e))))
+        (both (is_node u x.0) (is_node v x.1) (is_node_same u x.0 (ap (λ (y : NodeId × NodeId). y.0) (sym e)))
+        (is_node_same v x.1 (ap (λ (y : NodeId × NodeId). y.1) (sym e))))
     back (inr e) =
         or_true (is_node u x.0 && is_node v x.1) (is_node u x.1 && is_node v x.0)
-        (both (is_node u x.1) (is_node v x.0) (is_node_same u x.1 (ap (λ (y : NodeId × NodeId). y.1) (sym e))) (is_node_same v x.0 (ap (λ (y : NodeId × NodeId). y.0) (sym e))))
+        (both (is_node u x.1) (is_node v x.0) (is_node_same u x.1 (ap (λ (y : NodeId × NodeId). y.1) (sym e)))
+        (is_node_same v x.0 (ap (λ (y : NodeId × NodeId). y.0) (sym e))))
 
 has_step_is : (path : List NodeId) (u v : NodeId) → (has_step path u v ≡ true) ↔ (Has (steps path) (u, v) ⊎ Has (steps path) (v, u))
 has_step_is path u v = (when, back)
@@ -196,14 +209,17 @@ apart_is s t p q = (when, back)
             go (inr f) = absurd (not_both (has_node q v) f ((has_node_is q v).1 (has q v on_q)))
 
         edges : (u v : NodeId) → Contains (steps p) (u, v) → Contains (steps q) (u, v) ⊎ Contains (steps q) (v, u) → ⊥
-        edges u v on_p on_q = not_both (has_step q u v) (all_has (λ step. not (has_step q step.0 step.1)) (steps p) (u, v) two.1 (has (steps p) (u, v) on_p)) ((has_step_is q u v).1 (go on_q))
+        edges u v on_p on_q =
+            not_both (has_step q u v) (all_has (λ step. not (has_step q step.0 step.1)) (steps p) (u, v) two.1 (has (steps p) (u, v) on_p))
+            ((has_step_is q u v).1 (go on_q))
           where
             go : Contains (steps q) (u, v) ⊎ Contains (steps q) (v, u) → Has (steps q) (u, v) ⊎ Has (steps q) (v, u)
             go (inl at) = inl (has (steps q) (u, v) at)
             go (inr at) = inr (has (steps q) (v, u) at)
 
     back : Apart s t p q → are_apart s t p q ≡ true
-    back a = both (share_no_node s t p q) (share_no_edge p q) (all_when (λ v. is_end s t v || not (has_node q v)) p one) (all_when (λ step. not (has_step q step.0 step.1)) (steps p) two)
+    back a = both (share_no_node s t p q) (share_no_edge p q) (all_when (λ v. is_end s t v || not (has_node q v)) p one)
+        (all_when (λ step. not (has_step q step.0 step.1)) (steps p) two)
       where
         one : (v : NodeId) → Has p v → (is_end s t v || not (has_node q v)) ≡ true
         one v h = go (has_node q v) refl
@@ -221,6 +237,7 @@ apart_is s t p q = (when, back)
 
 -- ---- many paths
 
+-- the test that paths share no inner node says so exactly
 pub all_apart_is : (s t : NodeId) (paths : List (List NodeId)) → (all_apart s t paths ≡ true) ↔ AllPairs (Apart s t) paths
 all_apart_is s t [] = (λ e i j d less inside. absurd (omega (arith, inside)), λ pairs. refl)
 all_apart_is s t (p ∷ paths) = (when (all_apart_is s t paths).0, back (all_apart_is s t paths).1)

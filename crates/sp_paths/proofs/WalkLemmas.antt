@@ -1,5 +1,6 @@
 -- A walk goes on while it isn't at its end, and takes a lane at each step.
-use Rattle.std.proofs.Common.{◌≡◌, ◌+◌, ◌<◌, ℕ, suc, Bool, true, false, cond, List, [], ◌∷◌, ◌++◌, length, set, sum_by, count_by, refl, sym, ap, subst, ◌∙◌, inl, inr, arith}
+use Rattle.std.proofs.Common.{◌≡◌, ◌+◌, ◌<◌, ℕ, suc, Bool, true, false, cond, List, [], ◌∷◌, ◌++◌, length, set, sum_by, count_by, refl, sym, ap, subst, ◌∙◌}
+use Rattle.std.proofs.Common.{inl, inr, arith}
 use Rattle.std.specs.Prelude.{◌⊎◌, ◌≢◌, ◌==◌, Option, Some, None, IsSome, slice_index_or}
 use Rattle.std.specs.List.{Contains}
 use Rattle.std.proofs.lemmas.Bool.{eqb-true}
@@ -17,9 +18,16 @@ use Rattle.sp_paths.proofs.AugmentLemmas.{flip_flow}
 -- ---- going on
 
 -- where no lane begins, nothing does
-none_begin : (lanes : List Lane) (here : ℕ) → ((k : ℕ) → k < length lanes → (lane_at lanes k).used ≡ true → (lane_at lanes k).from ≢ here) → sum_by (begins (λ v. v == here)) lanes ≡ 0
+none_begin : (lanes : List Lane) (here : ℕ) → ((k : ℕ) → k < length lanes → (lane_at lanes k).used ≡ true → (lane_at lanes k).from ≢ here)
+    → sum_by (begins (λ v. v == here)) lanes ≡ 0
 none_begin [] here none = refl
-none_begin (l ∷ lanes) here none = omega (arith, sum_by-cons (begins (λ v. v == here)) l lanes, none_begin lanes here (λ k inside. none (suc k) (omega (arith, inside))), one l.used refl (l.from == here) refl)
+none_begin (l ∷ lanes) here none =
+    omega (
+      arith,
+      sum_by-cons (begins (λ v. v == here)) l lanes,
+      none_begin lanes here (λ k inside. none (suc k) (omega (arith, inside))),
+      one l.used refl (l.from == here) refl,
+    )
   where
     one : (used : Bool) → l.used ≡ used → (at : Bool) → (l.from == here) ≡ at → ◌≡◌ {A = ℕ} (cond l.used (cond (l.from == here) 1 0) 0) 0
     one false e at f = rw e refl
@@ -50,21 +58,24 @@ goes_on s t r here lanes None flow apart first =
 
 -- ---- a step
 
-leads_push : (lanes : List Lane) (start here : ℕ) (walk : List ℕ) (i : ℕ) → Leads lanes start walk here → (lane_at lanes i).from ≡ here → Leads lanes start (walk ++ i ∷ []) (lane_at lanes i).to
+leads_push : (lanes : List Lane) (start here : ℕ) (walk : List ℕ) (i : ℕ) → Leads lanes start walk here → (lane_at lanes i).from ≡ here
+    → Leads lanes start (walk ++ i ∷ []) (lane_at lanes i).to
 leads_push lanes start here [] i leads begins_here = (begins_here ∙ sym leads, refl)
 leads_push lanes start here (j ∷ walk) i leads begins_here = (leads.0, leads_push lanes (lane_at lanes j).to here walk i leads.1 begins_here)
 
 start_half : (s t r : ℕ) (lanes : List Lane) → Flow s t (r + 1) lanes → Halfway s t r s lanes
 start_half s t r lanes flow c = go (c s) (flow c)
   where
-    go : (b : Bool) → sum_by (begins c) lanes + cond (c t) (r + 1) 0 ≡ sum_by (ends c) lanes + cond b (r + 1) 0 → sum_by (begins c) lanes + cond (c t) (r + 1) 0 ≡ sum_by (ends c) lanes + cond b r 0 + cond b 1 0
+    go : (b : Bool) → sum_by (begins c) lanes + cond (c t) (r + 1) 0 ≡ sum_by (ends c) lanes + cond b (r + 1) 0
+        → sum_by (begins c) lanes + cond (c t) (r + 1) 0 ≡ sum_by (ends c) lanes + cond b r 0 + cond b 1 0
     go true e = omega (arith, e)
     go false e = omega (arith, e)
 
 end_half : (s t r here : ℕ) (lanes : List Lane) → here ≡ t → Halfway s t r here lanes → Flow s t r lanes
 end_half s t r here lanes is flow c = go (c t) (ap c is) (flow c)
   where
-    go : (b : Bool) → c here ≡ b → sum_by (begins c) lanes + cond b (r + 1) 0 ≡ sum_by (ends c) lanes + cond (c s) r 0 + cond (c here) 1 0 → sum_by (begins c) lanes + cond b r 0 ≡ sum_by (ends c) lanes + cond (c s) r 0
+    go : (b : Bool) → c here ≡ b → sum_by (begins c) lanes + cond b (r + 1) 0 ≡ sum_by (ends c) lanes + cond (c s) r 0 + cond (c here) 1 0
+        → sum_by (begins c) lanes + cond b r 0 ≡ sum_by (ends c) lanes + cond (c s) r 0
     go true f e = let one : ◌≡◌ {A = ℕ} (cond (c here) 1 0) 1 = rw f refl in omega (arith, e, one)
     go false f e = let none : ◌≡◌ {A = ℕ} (cond (c here) 1 0) 0 = rw f refl in omega (arith, e, none)
 
@@ -93,7 +104,8 @@ walk_begins old s t = record {
   first = λ k less. absurd (omega (arith, less));
 }
 
-pub walk_ends : (old : List Lane) (s t here : ℕ) (lanes : List Lane) (walk : List ℕ) → Walking old s t here lanes walk → here ≡ t → (r : ℕ) → Flow s t (r + 1) old → Flow s t r lanes
+pub walk_ends : (old : List Lane) (s t here : ℕ) (lanes : List Lane) (walk : List ℕ) → Walking old s t here lanes walk → here ≡ t → (r : ℕ)
+    → Flow s t (r + 1) old → Flow s t r lanes
 walk_ends old s t here lanes walk w is r flow = end_half s t r here lanes is (w.flow r flow)
 
 pub leads_home : (old : List Lane) (s t here : ℕ) (walk : List ℕ) → Leads old s walk here → here ≡ t → Leads old s walk t
@@ -132,15 +144,18 @@ module _ (old : List Lane) (s t here : ℕ) (lanes : List Lane) (walk : List ℕ
 
   pub walk_goes_on : Walking old s t (lane_at lanes i).to (set lanes i (flipped (lane_at lanes i))) (walk ++ i ∷ [])
   walk_goes_on = record {
-    flow = λ r flow. subst (λ (v : ℕ). Halfway s t r v (set lanes i (flipped (lane_at lanes i)))) ends_there (flip_flow s t r here lanes i inside begins_here (w.flow r flow));
-    leads = subst (λ (l : Lane). Leads old s (walk ++ i ∷ []) l.to) (sym as_old) (leads_push old s here walk i w.leads (ap (λ (l : Lane). l.from) (sym as_old) ∙ from));
+    flow = λ r flow. subst (λ (v : ℕ). Halfway s t r v (set lanes i (flipped (lane_at lanes i)))) ends_there
+        (flip_flow s t r here lanes i inside begins_here (w.flow r flow));
+    leads = subst (λ (l : Lane). Leads old s (walk ++ i ∷ []) l.to) (sym as_old)
+        (leads_push old s here walk i w.leads (ap (λ (l : Lane). l.from) (sym as_old) ∙ from));
     taken = record {
       long = length-set lanes i (flipped (lane_at lanes i)) ∙ w.taken.long;
       inside = each_place (λ j. j < length old) w.taken.inside (omega (arith, inside, w.taken.long));
       used = each_place (λ j. (lane_at old j).used ≡ true) w.taken.used (ap (λ (l : Lane). l.used) (sym as_old) ∙ used);
       free = each_place (λ j. lane_at (set lanes i (flipped (lane_at lanes i))) j ≡ flipped (lane_at old j))
           (λ j h. elsewhere j (λ e. fresh (subst (Contains walk) e h)) ∙ w.taken.free j h) turned_at;
-      others = λ j out. elsewhere j (λ e. out (subst (Contains (walk ++ i ∷ [])) (sym e) (Contains-push walk i))) ∙ w.taken.others j (λ h. out (Contains-append_left walk (i ∷ []) j h));
+      others = λ j out. elsewhere j (λ e. out (subst (Contains (walk ++ i ∷ [])) (sym e) (Contains-push walk i)))
+          ∙ w.taken.others j (λ h. out (Contains-append_left walk (i ∷ []) j h));
       once = all_pairs_push (λ j k. j ≢ k) walk i w.taken.once (λ k d less e. fresh (k, less, get_or_as walk k d i less e));
     };
     first = still_first walk w.leads w.taken w.first;

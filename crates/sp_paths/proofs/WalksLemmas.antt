@@ -15,20 +15,25 @@ use Rattle.sp_paths.specs.Taken.{IsApart, IsLowest, Leads, Taken, first_of, join
 contains_next : (x : ℕ) (xs : List ℕ) (y : ℕ) → Contains xs y → Contains (x ∷ xs) y
 contains_next x xs y h = (suc h.0, omega (arith, h.1), h.2)
 
-leads_same : (old new : List Lane) (s t : ℕ) (walk : List ℕ) → ((i : ℕ) → Contains walk i → lane_at new i ≡ lane_at old i) → Leads new s walk t → Leads old s walk t
+leads_same : (old new : List Lane) (s t : ℕ) (walk : List ℕ) → ((i : ℕ) → Contains walk i → lane_at new i ≡ lane_at old i) → Leads new s walk t
+    → Leads old s walk t
 leads_same old new s t [] same leads = leads
 leads_same old new s t (i ∷ walk) same leads =
     let here = same i (0, omega arith, refl) in (
       ap (λ (l : Lane). l.from) (sym here) ∙ leads.0,
-      subst (λ (v : ℕ). Leads old v walk t) (ap (λ (l : Lane). l.to) here) (leads_same old new (lane_at new i).to t walk (λ j h. same j (contains_next i walk j h)) leads.1),
+      subst (λ (v : ℕ). Leads old v walk t) (ap (λ (l : Lane). l.to) here)
+          (leads_same old new (lane_at new i).to t walk (λ j h. same j (contains_next i walk j h)) leads.1),
     )
 
-pairs_both : {X : Type 0} (R : X → X → Type 0) (xs ys : List X) → AllPairs R xs → AllPairs R ys → ((x y : X) → Contains xs x → Contains ys y → R x y) → AllPairs R (xs ++ ys)
+pairs_both : {X : Type 0} (R : X → X → Type 0) (xs ys : List X) → AllPairs R xs → AllPairs R ys → ((x y : X) → Contains xs x → Contains ys y → R x y)
+    → AllPairs R (xs ++ ys)
 pairs_both R [] ys one two across = two
 pairs_both R (x ∷ xs) ys one two across =
     AllPairs-cons R x (xs ++ ys)
-    (All-append (R x) xs ys (λ k d inside. one 0 (suc k) d (omega arith) (omega (arith, inside))) (λ k d inside. across x _ (0, omega arith, refl) (Contains-get_or ys k d inside)))
-    (pairs_both R xs ys (λ i j d less inside. one (suc i) (suc j) d (omega (arith, less)) (omega (arith, inside))) two (λ u v h k. across u v (suc h.0, omega (arith, h.1), h.2) k))
+    (All-append (R x) xs ys (λ k d inside. one 0 (suc k) d (omega arith) (omega (arith, inside)))
+    (λ k d inside. across x _ (0, omega arith, refl) (Contains-get_or ys k d inside)))
+    (pairs_both R xs ys (λ i j d less inside. one (suc i) (suc j) d (omega (arith, less)) (omega (arith, inside))) two
+    (λ u v h k. across u v (suc h.0, omega (arith, h.1), h.2) k))
 
 joined_push : (walks : List (List ℕ)) (walk : List ℕ) → joined (walks ++ walk ∷ []) ≡ joined walks ++ walk
 joined_push [] walk = append-nil walk
@@ -97,12 +102,14 @@ lowest_after old new places s i taken low k less used =
     subst (λ (l : Lane). l.from ≢ s) (sym same) (low k less (ap (λ (l : Lane). l.used) (sym same) ∙ used))
 
 -- a walk to another part has a first lane, which begins where the walk does
-begins_with : (lanes : List Lane) (s t : ℕ) (walk : List ℕ) → s ≢ t → Leads lanes s walk t → Contains walk (first_of walk) × ((lane_at lanes (first_of walk)).from ≡ s)
+begins_with : (lanes : List Lane) (s t : ℕ) (walk : List ℕ) → s ≢ t → Leads lanes s walk t
+    → Contains walk (first_of walk) × ((lane_at lanes (first_of walk)).from ≡ s)
 begins_with lanes s t [] apart leads = absurd (apart leads)
 begins_with lanes s t (i ∷ walk) apart leads = ((0, omega arith, refl), leads.0)
 
 -- the first lane of a walk that is taken later stands after that of an earlier one
-after_first : (old mid new : List Lane) (s t n : ℕ) (walks : List (List ℕ)) (walk : List ℕ) → IsApart old mid s t n walks → Taken mid new walk → Leads mid s walk t → s ≢ t
+after_first : (old mid new : List Lane) (s t n : ℕ) (walks : List (List ℕ)) (walk : List ℕ) → IsApart old mid s t n walks → Taken mid new walk
+    → Leads mid s walk t → s ≢ t
     → (earlier : List ℕ) → Has walks earlier → first_of earlier < first_of walk
 after_first old mid new s t n walks walk a b leads apart earlier h =
     let this = begins_with mid s t walk apart leads in
@@ -112,7 +119,8 @@ after_first old mid new s t n walks walk a b leads apart earlier h =
     let at = contains (joined walks) (first_of earlier) (walk_in_joined walks earlier (first_of earlier) h (has earlier (first_of earlier) that.0)) in
     let not_used : (flipped (lane_at old (first_of earlier))).used ≡ false = rw (a.taken.used (first_of earlier) at) refl in
     let other : first_of walk ≢ first_of earlier = λ e.
-    (let x : true ≡ false = sym used ∙ ap (λ (k : ℕ). (lane_at mid k).used) e ∙ ap (λ (l : Lane). l.used) (a.taken.free (first_of earlier) at) ∙ not_used in absurd cc) in
+    (let x : true ≡ false = sym used ∙ ap (λ (k : ℕ). (lane_at mid k).used) e ∙ ap (λ (l : Lane). l.used) (a.taken.free (first_of earlier) at) ∙ not_used in
+    absurd cc) in
     let not_below : first_of walk < first_of earlier → ⊥ = λ less. low (first_of walk) less used this.1 in
     above (first_of earlier) (first_of walk) other not_below
   where
@@ -120,14 +128,17 @@ after_first old mid new s t n walks walk a b leads apart earlier h =
     above a b other not_below = grind arith
 
 -- one walk more
-pub one_more : (old mid new : List Lane) (s t n : ℕ) (walks : List (List ℕ)) (walk : List ℕ) → IsApart old mid s t n walks → Taken mid new walk → Leads mid s walk t
+pub one_more : (old mid new : List Lane) (s t n : ℕ) (walks : List (List ℕ)) (walk : List ℕ) → IsApart old mid s t n walks → Taken mid new walk
+    → Leads mid s walk t
     → IsLowest mid s (first_of walk) → IsApart old new s t (n + 1) (walks ++ walk ∷ [])
 one_more old mid new s t n walks walk a b leads first = record {
   count = length_push walks walk ∙ omega (arith, a.count);
   lead = All-push (λ w. Leads old s w t) walks walk a.lead (leads_same old mid s t walk (as_before old mid new (joined walks) walk a.taken b) leads);
   taken = subst (Taken old new) (sym (joined_push walks walk)) (taken_both old mid new (joined walks) walk a.taken b);
-  lowest = All-push (λ w. IsLowest new s (first_of w)) walks walk (λ k d inside. lowest_after mid new walk s (first_of (slice_index_or walks k d)) b (a.lowest k d inside))
+  lowest = All-push (λ w. IsLowest new s (first_of w)) walks walk
+      (λ k d inside. lowest_after mid new walk s (first_of (slice_index_or walks k d)) b (a.lowest k d inside))
       (lowest_after mid new walk s (first_of walk) b first);
   ascend = λ apart. all_pairs_push (λ v w. first_of v < first_of w) walks walk (a.ascend apart)
-      (λ k d inside. after_first old mid new s t n walks walk a b leads apart (slice_index_or walks k d) (has walks (slice_index_or walks k d) (Contains-get_or walks k d inside)));
+      (λ k d inside. after_first old mid new s t n walks walk a b leads apart (slice_index_or walks k d)
+      (has walks (slice_index_or walks k d) (Contains-get_or walks k d inside)));
 }

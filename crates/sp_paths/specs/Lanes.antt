@@ -8,9 +8,11 @@ use Rattle.sp_paths.specs.declared.lane.Lane.{Lane}
 abbrev pub no_lane : Lane
 no_lane = record { from = 0; to = 0; cost = 0; used = false }
 
+-- the lane at a place
 abbrev pub lane_at : List Lane → ℕ → Lane
 lane_at lanes i = slice_index_or lanes i no_lane
 
+-- the number at a place; beyond the list it is 0
 abbrev pub at : List ℕ → ℕ → ℕ
 at numbers v = slice_index_or numbers v 0
 
@@ -26,6 +28,7 @@ tail l = cond l.used l.to l.from
 abbrev pub head : Lane → ℕ
 head l = cond l.used l.from l.to
 
+-- a lane that is used where it wasn't, and the other way round
 abbrev pub flipped : Lane → Lane
 flipped l = record { from = l.from; to = l.to; cost = l.cost; used = not l.used }
 
@@ -37,6 +40,7 @@ Fits p l = MatchBool l.used (l.cost + p l.from ≤ p l.to) (p l.to ≤ l.cost + 
 abbrev pub slack : (ℕ → ℕ) → Lane → ℕ
 slack p l = cond l.used (p l.to - (l.cost + p l.from)) (l.cost + p l.from - p l.to)
 
+-- each lane fits the potential
 abbrev pub FitAll : (ℕ → ℕ) → List Lane → Type 0
 FitAll p lanes = (k : ℕ) → k < length lanes → Fits p (lane_at lanes k)
 
@@ -44,6 +48,7 @@ FitAll p lanes = (k : ℕ) → k < length lanes → Fits p (lane_at lanes k)
 abbrev pub IsWithin : ℕ → Lane → Type 0
 IsWithin parts l = (l.from < parts) × (l.to < parts)
 
+-- each lane joins two of so many parts
 abbrev pub AreWithin : ℕ → List Lane → Type 0
 AreWithin parts lanes = (k : ℕ) → k < length lanes → IsWithin parts (lane_at lanes k)
 
@@ -59,6 +64,7 @@ LeadsOut c l = (c (tail l) ≡ true) × (c (head l) ≡ false)
 abbrev pub Closed : (ℕ → Bool) → Lane → Type 0
 Closed c l = c (tail l) ≡ true → c (head l) ≡ true
 
+-- how far the potential is from making a lane tight that leads out of what is reached
 abbrev pub Gap : (ℕ → ℕ) → (ℕ → Bool) → Lane → Option ℕ → Type 0
 Gap p c l None = Closed c l
 Gap p c l (Some gap) = LeadsOut c l × (gap ≡ slack p l)
@@ -70,6 +76,7 @@ pub record Nearest (p : ℕ → ℕ) (c : ℕ → Bool) (lanes : List Lane) (n p
   pub is : gap ≡ slack p (lane_at lanes place)
   pub least : (k : ℕ) → k < n → LeadsOut c (lane_at lanes k) → gap ≤ slack p (lane_at lanes k)
 
+-- of the first lanes, the one that leads out with the least gap
 abbrev pub Best : (ℕ → ℕ) → (ℕ → Bool) → List Lane → ℕ → Option (ℕ × ℕ) → Type 0
 Best p c lanes n None = (k : ℕ) → k < n → Closed c (lane_at lanes k)
 Best p c lanes n (Some (place, gap)) = Nearest p c lanes n place gap

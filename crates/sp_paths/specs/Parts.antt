@@ -14,6 +14,7 @@ abbrev pub node_of : Part → NodeId
 node_of (parts.In v) = v
 node_of (parts.Out v) = v
 
+-- the number of a part
 abbrev pub number : Part → ℕ
 number (parts.In v) = 2 * v.0
 number (parts.Out v) = 2 * v.0 + 1
@@ -22,6 +23,7 @@ number (parts.Out v) = 2 * v.0 + 1
 abbrev pub part_at : ℕ → Part
 part_at n = cond ((n % 2) == 0) (parts.In (record { 0 = n / 2 })) (parts.Out (record { 0 = n / 2 }))
 
+-- an arc between two parts
 abbrev pub arc : Part → Part → ℕ → Arc
 arc from to cost = record { from = from; to = to; cost = pos cost }
 

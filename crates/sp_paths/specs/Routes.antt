@@ -26,6 +26,7 @@ pub record HasOnly (s t found count : ℕ) (lanes : List Lane) (reached : List B
   pub least_set : (c : ℕ → Bool) → c s ≡ true → ((k : ℕ) → k < length lanes → Closed c (lane_at lanes k))
       → (v : ℕ) → v < length reached → is_in reached v ≡ true → c v ≡ true
 
+-- how a search ended: with all paths, or with what proves that there are no more
 abbrev pub IsRouted : ℕ → ℕ → ℕ → List Lane → List ℕ → List Bool → Routed → Type 0
 IsRouted s t count lanes potential reached ways.All = HasAll s t count lanes potential
 IsRouted s t count lanes potential reached (ways.Only found) = HasOnly s t found count lanes reached

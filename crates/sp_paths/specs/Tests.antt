@@ -16,9 +16,11 @@ use Rattle.sp_paths.specs.Parts.{is_there}
 abbrev pub is_node : NodeId → NodeId → Bool
 is_node u v = u.0 == v.0
 
+-- whether a path has a node
 abbrev pub has_node : List NodeId → NodeId → Bool
 has_node path v = list_any (is_node v) path
 
+-- whether an edge joins a step's two nodes
 abbrev pub is_joined : List Edge → NodeId × NodeId → Bool
 is_joined edges step = list_any (is_between step.0 step.1) edges
 
@@ -38,6 +40,7 @@ abbrev pub all_differ : List NodeId → Bool
 all_differ [] = true
 all_differ (v ∷ path) = not (has_node path v) && all_differ path
 
+-- whether nodes are a path: from one end to the other, along edges, none twice
 abbrev pub is_path : List Edge → NodeId → NodeId → List NodeId → Bool
 is_path edges s t path = goes_between s t path && list_all (is_joined edges) (steps path) && all_differ path
 
@@ -45,9 +48,11 @@ is_path edges s t path = goes_between s t path && list_all (is_joined edges) (st
 abbrev pub is_step : NodeId → NodeId → NodeId × NodeId → Bool
 is_step u v step = (is_node u step.0 && is_node v step.1) || (is_node u step.1 && is_node v step.0)
 
+-- whether a path has a step
 abbrev pub has_step : List NodeId → NodeId → NodeId → Bool
 has_step path u v = list_any (is_step u v) (steps path)
 
+-- whether a node is one of the two ends
 abbrev pub is_end : NodeId → NodeId → NodeId → Bool
 is_end s t v = is_node v s || is_node v t
 
@@ -55,12 +60,15 @@ is_end s t v = is_node v s || is_node v t
 abbrev pub share_no_node : NodeId → NodeId → List NodeId → List NodeId → Bool
 share_no_node s t p q = list_all (λ v. is_end s t v || not (has_node q v)) p
 
+-- whether two paths share no step
 abbrev pub share_no_edge : List NodeId → List NodeId → Bool
 share_no_edge p q = list_all (λ step. not (has_step q step.0 step.1)) (steps p)
 
+-- whether two paths share neither an inner node nor a step
 abbrev pub are_apart : NodeId → NodeId → List NodeId → List NodeId → Bool
 are_apart s t p q = share_no_node s t p q && share_no_edge p q
 
+-- whether each two paths are apart
 abbrev pub all_apart : NodeId → NodeId → List (List NodeId) → Bool
 all_apart s t [] = true
 all_apart s t (p ∷ paths) = list_all (are_apart s t p) paths && all_apart s t paths
@@ -95,6 +103,7 @@ place s t (parts.Out v) = before s t v.0 + cond (v.0 == s.0) 0 1
 abbrev pub FitsAs : Graph → NodeId → NodeId → List ℤ → Bool → Arc → Type 0
 FitsAs g s t potentials used a = is_there s t a ≡ true → pos 0 ≤ℤ reduced_cost (number_of (parts_of g s t) potentials) (cond used (turned a) a)
 
+-- an arc fits the potentials that the paths tell
 unfoldable pub FitsAt : Graph → NodeId → NodeId → Paths → Arc → Type 0
 FitsAt g s t p a = FitsAs g s t p.potentials (uses p.paths a) a
 

@@ -14,6 +14,7 @@ IsTight p l = l.cost + p l.from ≡ p l.to
 abbrev pub Reaches : List Lane → List ℕ → ℕ → ℕ → Type 0
 Reaches lanes tree n v = (j : ℕ) × (j < n) × (head (lane_at lanes (at tree j)) ≡ v)
 
+-- each lane of the tree is tight
 abbrev pub AreTight : (ℕ → ℕ) → List Lane → List ℕ → Type 0
 AreTight p lanes tree = (j : ℕ) → j < length tree → IsTight p (lane_at lanes (at tree j))
 

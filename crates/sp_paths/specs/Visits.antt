@@ -13,6 +13,7 @@ use Rattle.sp_paths.specs.Parts.{part_at}
 abbrev pub way_of : Lane → Part × Part
 way_of l = (part_at l.from, part_at l.to)
 
+-- the ways of a walk's lanes
 abbrev pub ways_along : List Lane → List ℕ → List (Part × Part)
 ways_along lanes walk = map (λ i. way_of (lane_at lanes i)) walk
 
@@ -22,5 +23,6 @@ visits [] = []
 visits ((from, parts.In v) ∷ ways) = v ∷ visits ways
 visits ((from, parts.Out v) ∷ ways) = visits ways
 
+-- the nodes of a walk, from its source on
 abbrev pub path_along : List Lane → NodeId → List ℕ → List NodeId
 path_along lanes s walk = s ∷ visits (ways_along lanes walk)

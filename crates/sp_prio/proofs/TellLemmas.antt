@@ -1,5 +1,6 @@
 -- Effects that are told one after another.
-use Rattle.std.proofs.Common.{◌≡◌, ◌≤◌, ◌<◌, ℕ, suc, ◌+◌, Bool, true, false, cond, List, [], ◌∷◌, ◌++◌, length, map, get_or, drop, Option, Some, None, refl, sym, ap, ◌∙◌, arith, drop-cons, length-append}
+use Rattle.std.proofs.Common.{◌≡◌, ◌≤◌, ◌<◌, ℕ, suc, ◌+◌, Bool, true, false, cond, List, [], ◌∷◌, ◌++◌, length, map, get_or, drop, Option, Some, None, refl}
+use Rattle.std.proofs.Common.{sym, ap, ◌∙◌, arith, drop-cons, length-append}
 use Rattle.std.specs.Prelude.{filter, find, not, sum_by}
 use Rattle.std.proofs.lemmas.List.Sums.{count_by-le-length, length-filter, sum_by-cons}
 use Rattle.std.proofs.lemmas.List.Concat.{flat_map-cons}
@@ -156,6 +157,7 @@ gone_few : (place : ℕ) (why : Why) (e : Option Entry) → length (gone place w
 gone_few place why None = omega arith
 gone_few place why (Some e) = omega arith
 
+-- at most two effects are told of a neighbour's store
 pub given_few : (kept : Kept) (came : Option NodeId) (q : PrioPeer) → length (given_effects kept came q) ≤ 2
 given_few kept came q = go (goes_to kept.body came q) refl
   where

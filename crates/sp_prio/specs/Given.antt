@@ -11,6 +11,7 @@ use Rattle.sp_rules.specs.Told.{told}
 abbrev pub goes_along : ℕ → Option NodeId → PrioPeer → Bool
 goes_along mask came q = not (is_from came q.peer) && names_edge mask q.edge && not q.shut
 
+-- a neighbour's store after it was given a copy of a message, and what is told of it
 pub record IsGiven (kept : Kept) (came : Option NodeId) (old new : PrioPeer) (copies : List Kept) (was now : Caused) : Type 0 where
   pub peer : new ≡ given kept came old
   pub told_is : now ≡ told was (given_effects kept came old)

@@ -50,7 +50,15 @@ impl Model for PrioTable {
 
     ghost Value = { PrioState };
 
-    ghost view = { λ t. record { me = t.me.0; nodes = t.nodes.items; removed = t.removed.items; inbox = t.inbox; peers = t.peers.items; windows = t.windows.items; next = t.next } };
+    ghost view = { λ t. record {
+      me = t.me.0;
+      nodes = t.nodes.items;
+      removed = t.removed.items;
+      inbox = t.inbox;
+      peers = t.peers.items;
+      windows = t.windows.items;
+      next = t.next;
+    } };
 
     ghost invariant = { λ t. IsSound t.nodes.items (vec_capacity t.removed) t.peers.items t.windows.items };
 }

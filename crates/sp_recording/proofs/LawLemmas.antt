@@ -1,5 +1,6 @@
 -- The laws of readings.
-use Rattle.std.proofs.Common.{◌≡◌, ◌≤◌, ◌<◌, ◌^◌, ℕ, ◌+◌, List, [], ◌∷◌, ◌++◌, length, map, Result, Ok, Err, Option, Some, None, refl, sym, ap, ◌∙◌, subst, append-nil, length-append, arith}
+use Rattle.std.proofs.Common.{◌≡◌, ◌≤◌, ◌<◌, ◌^◌, ℕ, ◌+◌, List, [], ◌∷◌, ◌++◌, length, map, Result, Ok, Err, Option, Some, None, refl, sym, ap, ◌∙◌, subst}
+use Rattle.std.proofs.Common.{append-nil, length-append, arith}
 use Rattle.std.specs.Prelude.{IfOk}
 use Rattle.std.specs.List.{flat_map, join_with_byte}
 use Rattle.std.proofs.lemmas.List.{length-map}
@@ -26,13 +27,15 @@ use Rattle.sp_recording.proofs.StageLemmas.{all_lines}
 use Rattle.sp_recording.proofs.WalkLemmas.{recording_follows}
 
 -- the stage of a reading is good
-pub good_stage : (total : ℕ) (near : List NodeId) (before : ℕ) (text : List ℕ) (reading : Reading) → total < 2 ^ 64 → IsReading total near before text reading → IsGoodStage total near reading.stage
+pub good_stage : (total : ℕ) (near : List NodeId) (before : ℕ) (text : List ℕ) (reading : Reading) → total < 2 ^ 64 → IsReading total near before text reading
+    → IsGoodStage total near reading.stage
 good_stage total near before text reading few is =
     let led = led_by (says total near) is.leads in
     (all_lines total near led.lines stages.Start reading.stage few tt led.follows).1
 
 -- or memory was wanting
-pub good_answer : (total : ℕ) (near : List NodeId) (before : ℕ) (text : List ℕ) (answer : Result Reading Memory) → total < 2 ^ 64 → IfOk answer (IsReading total near before text)
+pub good_answer : (total : ℕ) (near : List NodeId) (before : ℕ) (text : List ℕ) (answer : Result Reading Memory) → total < 2 ^ 64
+    → IfOk answer (IsReading total near before text)
     → IfOk answer (λ reading. IsGoodStage total near reading.stage)
 good_answer total near before text (Ok reading) few is = good_stage total near before text reading few is
 good_answer total near before text (Err e) few is = tt
@@ -70,8 +73,10 @@ readings_are_of_their_text total near before text reading few is =
       whole = λ whole.
           let lines = whole_lines (says total near) is.leads (whole_stop reading.stage (before + is.line) is.stop (sym is.ends ∙ whole)) in
           let again = all_lines total near lines.lines stages.Start reading.stage few tt lines.follows in
-          nothing_more (flat_map line_text led.lines) (flat_map line_text lines.lines) led.rest text led.spelled lines.spelled (ap (flat_map line_text) (sym all.0 ∙ again.0));
-      bad = λ line bad. bad_line reading.stage (before + is.line) line is.stop (sym is.ends ∙ bad) ∙ ap (λ (n : ℕ). before + n) led.count ∙ ap (λ (ls : List (List Word)). before + (1 + length ls)) (sym all.0);
+          nothing_more (flat_map line_text led.lines) (flat_map line_text lines.lines) led.rest text led.spelled lines.spelled
+          (ap (flat_map line_text) (sym all.0 ∙ again.0));
+      bad = λ line bad. bad_line reading.stage (before + is.line) line is.stop (sym is.ends ∙ bad) ∙ ap (λ (n : ℕ). before + n) led.count
+          ∙ ap (λ (ls : List (List Word)). before + (1 + length ls)) (sym all.0);
     }
 
 at_whole : (o : Opening) (ls : List Line) (c : Option Closing) (line : ℕ) → at_end (stage_of o ls c) line ≡ endings.Whole
@@ -115,7 +120,8 @@ more_lines stages.Start = omega arith
 more_lines (stages.Lines o ls held) = omega (arith, length-map ls line_words)
 more_lines (stages.End o ls c) = omega (arith, length-append (map line_words ls) (closing_words c ∷ []), length-map ls line_words)
 
-few_lines : (total : ℕ) (near : List NodeId) (before : ℕ) (text : List ℕ) (reading : Reading) → total < 2 ^ 64 → before + length text ≤ MAX_INPUT_BYTES → IsReading total near before text reading
+few_lines : (total : ℕ) (near : List NodeId) (before : ℕ) (text : List ℕ) (reading : Reading) → total < 2 ^ 64 → before + length text ≤ MAX_INPUT_BYTES
+    → IsReading total near before text reading
     → before + length (lines_in reading.stage) ≤ MAX_INPUT_BYTES
 few_lines total near before text reading few within is =
     let of = readings_are_of_their_text total near before text reading few is in
@@ -123,7 +129,8 @@ few_lines total near before text reading few within is =
     ap length of.spelled ∙ length-append (flat_map line_text (lines_to reading.stage)) of.rest in
     omega (arith, within, long, no_fewer_bytes (lines_to reading.stage), more_lines reading.stage)
 
-pub few_answer : (total : ℕ) (near : List NodeId) (before : ℕ) (text : List ℕ) (answer : Result Reading Memory) → total < 2 ^ 64 → before + length text ≤ MAX_INPUT_BYTES
+pub few_answer : (total : ℕ) (near : List NodeId) (before : ℕ) (text : List ℕ) (answer : Result Reading Memory) → total < 2 ^ 64
+    → before + length text ≤ MAX_INPUT_BYTES
     → IfOk answer (IsReading total near before text) → IfOk answer (λ reading. before + length (lines_in reading.stage) ≤ MAX_INPUT_BYTES)
 few_answer total near before text (Ok reading) few within is = few_lines total near before text reading few within is
 few_answer total near before text (Err e) few within is = tt

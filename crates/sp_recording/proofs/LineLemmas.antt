@@ -96,7 +96,8 @@ module _ (total : ℕ) (near : List NodeId) (held : ℕ) where
       let row = row_read (cells total near held form) words step.0 parts.0 parts.1 step.1 in
       let of = of_form form step.0 in
       let is : line_with total near held form step.0 ≡ l = let same_ok : Ok (line_with total near held form step.0) ≡ Ok l = step.2 in cc in
-      let all : IsInRange total near held (line_with total near held form step.0) × (words ≡ line_words (line_with total near held form step.0)) = (of.ranges row.0, row.1 ∙ sym of.words) in
+      let all : IsInRange total near held (line_with total near held form step.0) × (words ≡ line_words (line_with total near held form step.0)) =
+      (of.ranges row.0, row.1 ∙ sym of.words) in
       subst (λ (k : Line). IsInRange total near held k × (words ≡ line_words k)) is all
 
   line_read : (words : List Word) (l : Line) (found : Option Form) → form_for total near held words ≡ found → read_for total near held found words ≡ Ok l
@@ -107,7 +108,8 @@ module _ (total : ℕ) (near : List NodeId) (held : ℕ) where
   line_back_read : (l : Line) → total < 2 ^ 64 → IsInRange total near held l → read_line total near held (line_words l) ≡ Ok l
   unfolding read_form
   line_back_read l few is =
-      let row = row_back (cells total near held (form_of l)) (values_of total near held l) (good_row_room (cells total near held (form_of l)) (good_form (form_of l) few)) is in
+      let row = row_back (cells total near held (form_of l)) (values_of total near held l)
+      (good_row_room (cells total near held (form_of l)) (good_form (form_of l) few)) is in
       let at : row_at (cells total near held (form_of l)) (line_words l) ≡ Ok (values_of total near held l) =
       subst (λ (ws : List Word). row_at (cells total near held (form_of l)) ws ≡ Ok (values_of total near held l)) (row_words l) row in
       rw (form_again l) (rw at (rw (line_back l) refl))

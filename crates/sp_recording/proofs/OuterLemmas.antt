@@ -9,7 +9,8 @@ use Rattle.sp_lines.specs.Rows.{AreIn, line_of}
 use Rattle.sp_lines.proofs.RowLemmas.{line_back, line_read}
 use Rattle.sp_lines.proofs.TextLemmas.{IsGoodLine}
 use Rattle.sp_lines.proofs.WidthLemmas.{good_row_line}
-use Rattle.sp_recording.specs.OuterRows.{IsClosing, IsOpening, closing_cells, closing_of, closing_values, if_ordered, opening_cells, opening_of, opening_values, read_closing, read_opening}
+use Rattle.sp_recording.specs.OuterRows.{IsClosing, IsOpening, closing_cells, closing_of, closing_values, if_ordered, opening_cells, opening_of, opening_values}
+use Rattle.sp_recording.specs.OuterRows.{read_closing, read_opening}
 use Rattle.sp_recording.specs.RecordingText.{closing_words, opening_words}
 use Rattle.sp_recording.specs.declared.line.Closing.{Closing}
 use Rattle.sp_recording.specs.declared.line.Opening.{Opening}
@@ -63,7 +64,8 @@ closing_in c is = (is.turns.0, is.turns.1, (omega arith, omega (arith, is.lost),
 
 pub closing_back : (c : Closing) → IsClosing c → read_closing (closing_words c) ≡ Ok c
 closing_back c is =
-    let row : line_of closing_cells (closing_words c) ≡ Ok (closing_values c) = line_back closing_cells (closing_values c) (omega arith, (omega arith, tt)) (closing_in c is) in
+    let row : line_of closing_cells (closing_words c) ≡ Ok (closing_values c) =
+    line_back closing_cells (closing_values c) (omega arith, (omega arith, tt)) (closing_in c is) in
     rw row refl
 
 pub good_closing : (c : Closing) → IsClosing c → IsGoodLine (closing_words c)

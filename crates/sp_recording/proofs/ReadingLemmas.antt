@@ -22,7 +22,8 @@ SoFar total near text stage count rest = GoesOn (says total near) stages.Start t
 
 module _ (total : ℕ) (near : List NodeId) (before : ℕ) (text : List ℕ) (stage : Stage) (count : ℕ) where
   -- nothing is left
-  pub ends_at_end : (rest : List ℕ) (ending : Ending) (line : ℕ) → SoFar total near text stage count rest → rest ≡ [] → line ≡ before + (count + 1) → ending ≡ at_end stage line
+  pub ends_at_end : (rest : List ℕ) (ending : Ending) (line : ℕ) → SoFar total near text stage count rest → rest ≡ [] → line ≡ before + (count + 1)
+      → ending ≡ at_end stage line
       → IsReading total near before text (record { stage = stage; ending = ending })
   ends_at_end rest ending line so_far none at is = record {
     line = count + 1;
@@ -32,7 +33,8 @@ module _ (total : ℕ) (near : List NodeId) (before : ℕ) (text : List ℕ) (st
   }
 
   -- what a refused call says of the next line
-  no_line : (old : Unread) (refused : TextRefused) → NoLine old refused → refused ≢ texts.Memory → (old.rest ≢ []) × (first_words (old.given + 1) old.rest ≡ Err refused)
+  no_line : (old : Unread) (refused : TextRefused) → NoLine old refused → refused ≢ texts.Memory
+      → (old.rest ≢ []) × (first_words (old.given + 1) old.rest ≡ Err refused)
   no_line old texts.Memory line other = absurd (other refl)
   no_line old (texts.LineLong place) line other = line
   no_line old (texts.Cut place) line other = line
@@ -41,7 +43,8 @@ module _ (total : ℕ) (near : List NodeId) (before : ℕ) (text : List ℕ) (st
   no_line old (texts.BadHex place) line other = line
 
   -- the next line isn't words
-  pub ends_at_line : (old : Unread) (refused : TextRefused) (line : ℕ) → SoFar total near text stage count old.rest → old.given ≡ count → NoLine old refused → refused ≢ texts.Memory
+  pub ends_at_line : (old : Unread) (refused : TextRefused) (line : ℕ) → SoFar total near text stage count old.rest → old.given ≡ count → NoLine old refused
+      → refused ≢ texts.Memory
       → line ≡ before + (count + 1) → IsReading total near before text (record { stage = stage; ending = endings.Form line })
   ends_at_line old refused line so_far given takes other at =
       let bad = no_line old refused takes other in

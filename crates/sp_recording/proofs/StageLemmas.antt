@@ -25,7 +25,8 @@ held_push held [] line = refl
 held_push held (l ∷ ls) line = held_push (held_with held l) ls line
 
 module _ (total : ℕ) (near : List NodeId) where
-  pub in_range_push : (held : ℕ) (ls : List Line) (line : Line) → AreInRange total near held ls → IsInRange total near (held_after held ls) line → AreInRange total near held (ls ++ line ∷ [])
+  pub in_range_push : (held : ℕ) (ls : List Line) (line : Line) → AreInRange total near held ls → IsInRange total near (held_after held ls) line
+      → AreInRange total near held (ls ++ line ∷ [])
   in_range_push held [] line each is = (is, tt)
   in_range_push held (l ∷ ls) line each is = (each.0, in_range_push (held_with held l) ls line each.1 is)
 
@@ -41,7 +42,8 @@ module _ (total : ℕ) (near : List NodeId) where
       (ap (λ (ws : List Word). ws ∷ []) (sym read.1), (record { opening = read.0; each = tt; closing = tt }, refl)) in
       subst (Grows stages.Start words) to all
 
-  closes : (o : Opening) (ls : List Line) (held : ℕ) (words : List Word) (c : Closing) (next : Stage) → IsGoodStage total near (stages.Lines o ls held) → read_closing words ≡ Ok c
+  closes : (o : Opening) (ls : List Line) (held : ℕ) (words : List Word) (c : Closing) (next : Stage) → IsGoodStage total near (stages.Lines o ls held)
+      → read_closing words ≡ Ok c
       → stages.End o ls c ≡ next → Grows (stages.Lines o ls held) words next
   closes o ls held words c next good is to =
       let read = closing_read words c is in
@@ -67,18 +69,21 @@ module _ (total : ℕ) (near : List NodeId) where
       ) in
       subst (Grows (stages.Lines o ls held) words) to all
 
-  after_lines : (o : Opening) (ls : List Line) (held : ℕ) (words : List Word) (end : Result Closing Fault) (next : Stage) → total < 2 ^ 64 → IsGoodStage total near (stages.Lines o ls held)
+  after_lines : (o : Opening) (ls : List Line) (held : ℕ) (words : List Word) (end : Result Closing Fault) (next : Stage) → total < 2 ^ 64
+      → IsGoodStage total near (stages.Lines o ls held)
       → read_closing words ≡ end → end_or_line o ls held end (read_line total near held words) ≡ Ok next → Grows (stages.Lines o ls held) words next
   after_lines o ls held words (Ok c) next few good end is = closes o ls held words c next good end (let oks : Ok (stages.End o ls c) ≡ Ok next = is in cc)
   after_lines o ls held words (Err fault) next few good end is = one_more o ls held words next few good is
 
-  pub says_more : (stage : Stage) (words : List Word) (next : Stage) → total < 2 ^ 64 → IsGoodStage total near stage → says total near stage words ≡ Ok next → Grows stage words next
+  pub says_more : (stage : Stage) (words : List Word) (next : Stage) → total < 2 ^ 64 → IsGoodStage total near stage → says total near stage words ≡ Ok next
+      → Grows stage words next
   says_more stages.Start words next few good is = begins words next is
   says_more (stages.Lines o ls held) words next few good is = after_lines o ls held words (read_closing words) next few good refl is
   says_more (stages.End o ls c) words next few good is = absurd cc
 
   -- all lines that were read
-  pub all_lines : (all : List (List Word)) (stage last : Stage) → total < 2 ^ 64 → IsGoodStage total near stage → follow_all (says total near) stage all ≡ Ok last
+  pub all_lines : (all : List (List Word)) (stage last : Stage) → total < 2 ^ 64 → IsGoodStage total near stage
+      → follow_all (says total near) stage all ≡ Ok last
       → (lines_to last ≡ lines_to stage ++ all) × IsGoodStage total near last
   all_lines [] stage last few good is =
       let same_stage : stage ≡ last = cc in

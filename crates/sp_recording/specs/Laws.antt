@@ -27,6 +27,7 @@ pub record IsOfItsText (total : ℕ) (near : List NodeId) (before : ℕ) (text :
   pub whole : reading.ending ≡ endings.Whole → rest ≡ []
   pub bad : (line : ℕ) → reading.ending ≡ endings.Form line → line ≡ before + (1 + length (lines_to reading.stage))
 
+-- the law that a reading is of its text: the lines that were read are a front of it
 abbrev pub ReadingsAreOfTheirText : Type 0
 ReadingsAreOfTheirText =
     (total : ℕ) (near : List NodeId) (before : ℕ) (text : List ℕ) (reading : Reading) → total < 2 ^ 64 → IsReading total near before text reading

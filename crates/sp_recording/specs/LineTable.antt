@@ -31,6 +31,7 @@ pub data Form : Type 0 where
 
 -- ---- places
 
+-- the greatest port
 abbrev pub MAX_PORT : ℕ
 MAX_PORT = 2 ^ 16 - 1
 
@@ -42,15 +43,19 @@ is_above held upto = nat_lt held upto
 abbrev pub is_neighbour : List NodeId → ℕ → Bool
 is_neighbour near n = list_any (λ id. id.0 == n) near
 
+-- a neighbour of the node
 abbrev pub neighbour : List NodeId → Cell
 neighbour near = Tested 1 MAX_NODES_2 (is_neighbour near)
 
+-- the bytes of a datagram
 abbrev pub datagram : Cell
 datagram = Bytes 0 DATAGRAM_BYTES
 
+-- a port
 abbrev pub port : Cell
 port = Number 0 MAX_PORT
 
+-- a digest
 abbrev pub digest : Cell
 digest = Bytes 32 32
 
@@ -71,9 +76,11 @@ forms = Reserve ∷ Tick ∷ Overlay ∷ Stray ∷ Client ∷ Poll ∷ []
 
 -- ---- lines
 
+-- a node by its number
 abbrev pub id : ℕ → NodeId
 id n = record { 0 = n }
 
+-- a digest by its bytes
 abbrev pub digest_of : List ℕ → Digest
 digest_of bytes = record { 0 = bytes }
 
@@ -110,6 +117,7 @@ IsInRange total near held line = AreIn (cells total near held (form_of line)) (v
 
 -- ---- reading
 
+-- the form of a line with these words
 abbrev pub form_for : ℕ → List NodeId → ℕ → List Word → Option Form
 form_for total near held words = form_among (cells total near held) forms words
 
@@ -117,6 +125,7 @@ form_for total near held words = form_among (cells total near held) forms words
 unfoldable pub read_form : ℕ → List NodeId → ℕ → Form → List Word → Result Line Fault
 read_form total near held form words = row_at (cells total near held form) words >>= λ xs. Ok (line_with total near held form xs)
 
+-- the line that words of a form say, or the first fault
 abbrev pub read_for : ℕ → List NodeId → ℕ → Option Form → List Word → Result Line Fault
 read_for total near held None words = Err faults.Form
 read_for total near held (Some form) words = read_form total near held form words

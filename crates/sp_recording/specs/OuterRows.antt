@@ -17,12 +17,15 @@ use Rattle.sp_recording.specs.declared.line.Opening.{Opening}
 abbrev pub opening_cells : ℕ → List Cell
 opening_cells total = Name (codes "recording") ∷ Name (codes "1") ∷ Number 1 MAX_BOOT ∷ Number 0 total ∷ Number 0 total ∷ []
 
+-- the values of the first line
 abbrev pub opening_values : (total : ℕ) → Opening → Values (opening_cells total)
 opening_values total o = (o.boot, (o.index, (o.bound, tt)))
 
+-- what the values of the first line say
 abbrev pub opening_of : (total : ℕ) → Values (opening_cells total) → Opening
 opening_of total x = record { boot = x.0; index = x.1.0; bound = x.1.1.0 }
 
+-- the opening, if its index isn't above its bound
 abbrev pub if_ordered : Opening → Result Opening Fault
 if_ordered o = if nat_le o.index o.bound then Ok o else Err faults.Range
 
@@ -38,12 +41,15 @@ pub record IsOpening (total : ℕ) (o : Opening) : Type 0 where
 
 -- ---- the end line
 
+-- the end line
 abbrev pub closing_cells : List Cell
 closing_cells = Name (codes "end") ∷ Name (codes "turns") ∷ Number 1 MAX_TURNS ∷ Name (codes "lost") ∷ Number 0 (2 ^ 32 - 1) ∷ []
 
+-- the values of the end line
 abbrev pub closing_values : Closing → Values closing_cells
 closing_values c = (c.turns, (c.lost, tt))
 
+-- what the values of the end line say
 abbrev pub closing_of : Values closing_cells → Closing
 closing_of x = record { turns = x.0; lost = x.1.0 }
 

@@ -36,6 +36,7 @@ abbrev pub held_with : ℕ → Line → ℕ
 held_with held (lines.Reserve upto) = upto
 held_with held _ = held
 
+-- the bound that is held after these lines
 abbrev pub held_after : ℕ → List Line → ℕ
 held_after held [] = held
 held_after held (line ∷ ls) = held_after (held_with held line) ls
@@ -110,6 +111,7 @@ lines_in stages.Start = []
 lines_in (stages.Lines o ls held) = ls
 lines_in (stages.End o ls c) = ls
 
+-- the opening that was read, if one was
 abbrev pub opening_in : Stage → Option Opening
 opening_in stages.Start = None
 opening_in (stages.Lines o ls held) = Some o

@@ -29,9 +29,11 @@ line_in (refs.Poll node told) = lines.Poll node told
 
 -- ---- words
 
+-- the words of the first line
 abbrev pub opening_words : Opening → List Word
 opening_words o = codes "recording" ∷ codes "1" ∷ decimal o.boot ∷ decimal o.index ∷ decimal o.bound ∷ []
 
+-- the words of the end line
 abbrev pub closing_words : Closing → List Word
 closing_words c = codes "end" ∷ codes "turns" ∷ decimal c.turns ∷ codes "lost" ∷ decimal c.lost ∷ []
 
@@ -44,6 +46,7 @@ line_name (lines.Stray from) = codes "stray"
 line_name (lines.Client from bytes told) = codes "client"
 line_name (lines.Poll node told) = codes "poll"
 
+-- the words of a line behind its name
 abbrev pub line_fields : Line → List Word
 line_fields (lines.Reserve upto) = decimal upto ∷ []
 line_fields (lines.Tick now told) = decimal now ∷ hex_word told.0 ∷ []
@@ -52,6 +55,7 @@ line_fields (lines.Stray from) = decimal from ∷ []
 line_fields (lines.Client from bytes told) = decimal from ∷ hex_word bytes ∷ hex_word told.0 ∷ []
 line_fields (lines.Poll node told) = decimal node.0 ∷ hex_word told.0 ∷ []
 
+-- the words of a line
 abbrev pub line_words : Line → List Word
 line_words line = line_name line ∷ line_fields line
 

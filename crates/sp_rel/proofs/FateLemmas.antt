@@ -61,13 +61,35 @@ few_end fate (f ∷ flows) = go (touches fate (ends f)) f.active refl refl (few_
     go true true is on rest split =
         let told : length (end_of fate f) ≡ 1 = rw (is, on) refl in
         let one : cond f.active 1 0 ≡ 1 = ap (λ (b : Bool). let n : ℕ = cond b 1 0 in n) on in
-        omega (arith, ap (λ (es : List Effect). length es) (flat_map-cons (end_of fate) f flows), length-append (end_of fate f) (flat_map (end_of fate) flows), told, rest, split, one)
+        omega (
+          arith,
+          ap (λ (es : List Effect). length es) (flat_map-cons (end_of fate) f flows),
+          length-append (end_of fate f) (flat_map (end_of fate) flows),
+          told,
+          rest,
+          split,
+          one,
+        )
     go true false is on rest split =
         let told : length (end_of fate f) ≡ 0 = rw (is, on) refl in
-        omega (arith, ap (λ (es : List Effect). length es) (flat_map-cons (end_of fate) f flows), length-append (end_of fate f) (flat_map (end_of fate) flows), told, rest, split)
+        omega (
+          arith,
+          ap (λ (es : List Effect). length es) (flat_map-cons (end_of fate) f flows),
+          length-append (end_of fate f) (flat_map (end_of fate) flows),
+          told,
+          rest,
+          split,
+        )
     go false a is on rest split =
         let told : length (end_of fate f) ≡ 0 = rw is refl in
-        omega (arith, ap (λ (es : List Effect). length es) (flat_map-cons (end_of fate) f flows), length-append (end_of fate f) (flat_map (end_of fate) flows), told, rest, split)
+        omega (
+          arith,
+          ap (λ (es : List Effect). length es) (flat_map-cons (end_of fate) f flows),
+          length-append (end_of fate f) (flat_map (end_of fate) flows),
+          told,
+          rest,
+          split,
+        )
 
 -- ---- where nodes are removed, as the rules say it
 

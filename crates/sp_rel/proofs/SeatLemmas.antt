@@ -48,6 +48,7 @@ was_idle (x ∷ flows) k flow f is on off = go (is_flow k x) refl (is_flow flow 
     go false at true there others off = rw there at off
     go false at false there others off = others (rw there at off)
 
+-- a seat in a table of flows stays one where an active flow's row is put back
 pub stays_seated : (r : RelState) (k flow : Flow) (f : FlowState) (seat : SeatState) → ends f ≡ k → f.active ≡ true → IsSeated r flow seat
     → IsSeated (with_flow r k f) flow seat
 stays_seated r k flow f seat is on seated off = seated (was_idle r.flows k flow f is on off)

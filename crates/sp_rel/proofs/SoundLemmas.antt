@@ -1,5 +1,6 @@
 -- The rows of flows and their flags: at the start, and where a row is put in the place of another.
-use Rattle.std.proofs.Common.{◌≡◌, ◌==◌, ◌<◌, ℕ, Bool, true, false, List, [], ◌∷◌, All, length, map, get_or, set, replicate, refl, sym, ap, ◌∙◌, subst, ◌&&◌, Some}
+use Rattle.std.proofs.Common.{◌≡◌, ◌==◌, ◌<◌, ℕ, Bool, true, false, List, [], ◌∷◌, All, length, map, get_or, set, replicate, refl, sym, ap, ◌∙◌, subst, ◌&&◌}
+use Rattle.std.proofs.Common.{Some}
 use Rattle.std.specs.List.{position}
 use Rattle.std.proofs.lemmas.List.{map-set}
 use Rattle.std.proofs.Math.Seq.{map-set_same}

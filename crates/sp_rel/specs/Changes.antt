@@ -12,6 +12,7 @@ changed (changes.Receive payload) f = received f payload
 changed (changes.Acknowledge ack) f = acknowledged_by f ack
 changed (changes.Conclude ack) f = concluded f ack
 
+-- when a change may happen to a flow
 abbrev pub CanChange : NodeId → ℕ → FlowState → Change → Type 0
 CanChange me bound f (changes.Push message) = CanPush me bound f message
 CanChange me bound f (changes.Receive payload) = CanReceive me bound f

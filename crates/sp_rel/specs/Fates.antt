@@ -25,6 +25,7 @@ abbrev pub met_with : Fate → FlowState → FlowState
 met_with (fates.Restarted node) f = no_flow (ends f)
 met_with (fates.Removed nodes) f = ended_if f
 
+-- a flow after its fate, where it meets it
 abbrev pub flow_after : Fate → FlowState → FlowState
 flow_after fate f = if touches fate (ends f) then met_with fate f else f
 
@@ -34,12 +35,15 @@ end_of fate f = if touches fate (ends f) && f.active then Ended (ends f) ∷ [] 
 
 -- ---- rows of flows
 
+-- whether a row's flow ends by this fate
 abbrev pub is_ended : Fate → RowState → Bool
 is_ended fate row = touches fate (ends row.state) && row.state.active
 
+-- what is told of a row by this fate
 abbrev pub ended_row : Fate → RowState → List Effect
 ended_row fate row = end_of fate row.state
 
+-- a row after this fate
 abbrev pub row_after : Fate → RowState → RowState
 row_after fate row = with_state row (flow_after fate row.state)
 

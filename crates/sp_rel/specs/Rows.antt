@@ -9,6 +9,7 @@ pub record RowState : Type 0 where
   pub bound : ℕ
   pub state : FlowState
 
+-- a row with another state of its flow
 abbrev pub with_state : RowState → FlowState → RowState
 with_state row f = record row { state = f }
 

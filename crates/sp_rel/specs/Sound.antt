@@ -15,11 +15,13 @@ is_active helds.Idle = false
 is_active (helds.Relay buffer) = true
 is_active (helds.End inbox) = true
 
+-- where a flow stands that is held so
 abbrev pub at_of : Held → Position Kept
 at_of helds.Idle = start
 at_of (helds.Relay buffer) = buffer.at
 at_of (helds.End inbox) = record { base = inbox.base; have = inbox.have; list = [] }
 
+-- the messages that wait for a client in what is held
 abbrev pub inbox_of : Held → List (List ℕ)
 inbox_of helds.Idle = []
 inbox_of (helds.Relay buffer) = []
@@ -33,6 +35,7 @@ row_of me bound flow held ended ack = record {
   state = record { src = flow.src; dst = flow.dst; active = is_active held && not ended; at = at_of held; ack = ack; inbox = inbox_of held };
 }
 
+-- the seat that what is held gives
 abbrev pub seat_of : NodeId → ℕ → Flow → Held → SeatState
 seat_of me bound flow held = record { me = me; bound = bound; flow = flow; holds = is_active held }
 

@@ -12,9 +12,11 @@ pub record FlowsState : Type 0 where
   pub bound : ℕ
   pub flows : List FlowState
 
+-- a table with one flow changed
 abbrev pub put_in : FlowsState → Flow → FlowState → FlowsState
 put_in t flow f = record t { flows = put_flow t.flows flow f }
 
+-- the states of rows
 abbrev pub states : List RowState → List FlowState
 states rows = map (λ row. row.state) rows
 

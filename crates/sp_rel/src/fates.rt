@@ -79,8 +79,8 @@ impl RelTable {
         self.flows.active_count()
     }
 
-    /// From now on these nodes are removed: each active flow with one of them as an end ends, and is told, in order. Its inbox can still be taken. Each place stays
-    /// that of its flow. It takes no memory.
+    /// From now on these nodes are removed: each active flow with one of them as an end ends, and is told, in order. Its inbox can still be taken. Each place
+    /// stays that of its flow. It takes no memory.
     pub fn end(&mut self, removed: &[NodeId], effects: &mut Effects)
         requires few { length removed.now ≤ length self.old.nodes }
         requires room { count_by (λ f. f.active) self.old.flows ≤ effects.old.room }

@@ -1,5 +1,6 @@
 -- What the sink of a replay has is a beginning of an output of the whole input, whatever that is.
-use Rattle.std.proofs.Common.{◌≡◌, ◌≤◌, ◌+◌, ◌-◌, ℕ, Bool, false, List, [], ◌++◌, length, take, nat_lt, Option, Some, None, refl, sym, ap, ◌∙◌, subst, arith, append_assoc, append-nil, inr, length-append}
+use Rattle.std.proofs.Common.{◌≡◌, ◌≤◌, ◌+◌, ◌-◌, ℕ, Bool, false, List, [], ◌++◌, length, take, nat_lt, Option, Some, None, refl, sym, ap, ◌∙◌, subst, arith}
+use Rattle.std.proofs.Common.{append_assoc, append-nil, inr, length-append}
 use Rattle.std.specs.Io.KnownBytes.{Appends, Consumes}
 use Rattle.std.proofs.KnownBytes.{Appends-nil, Appends-trans, Consumes-nil}
 use Rattle.std.proofs.Math.Seq.{take-append-add}
@@ -44,11 +45,13 @@ whole_begins before after text whole = record {
 }
 
 -- what was written, and then a beginning of more
-pub then_begins : (start before after : Option (List ℕ)) (first text : List ℕ) → Appends start before first → AppendsFront before after text → AppendsFront start after (first ++ text)
+pub then_begins : (start before after : Option (List ℕ)) (first text : List ℕ) → Appends start before first → AppendsFront before after text
+    → AppendsFront start after (first ++ text)
 then_begins start before after first text written front = record {
   count = length first + front.count;
   within = omega (arith, front.within, length-append first text);
-  appended = subst (Appends start after) (sym (take-append-add first text front.count)) (Appends-trans start before after first (take front.count text) written front.appended);
+  appended = subst (Appends start after) (sym (take-append-add first text front.count))
+      (Appends-trans start before after first (take front.count text) written front.appended);
 }
 
 pub nothing_begins : (sink : Option (List ℕ)) (text : List ℕ) → AppendsFront sink sink text
@@ -86,12 +89,14 @@ has_input (Some text) None front taken short = absurd taken
 has_input (Some text) (Some rest) front taken short =
     let all : MAX_INPUT_BYTES ≡ length front + (MAX_INPUT_BYTES - length front) = omega (arith, short) in
     let same : front ++ take (MAX_INPUT_BYTES - length front) rest ≡ take MAX_INPUT_BYTES text =
-    sym (take-append-add front rest (MAX_INPUT_BYTES - length front)) ∙ ap (λ (n : ℕ). take n (front ++ rest)) (sym all) ∙ ap (take MAX_INPUT_BYTES) (sym taken) in
+    sym (take-append-add front rest (MAX_INPUT_BYTES - length front)) ∙ ap (λ (n : ℕ). take n (front ++ rest)) (sym all)
+    ∙ ap (take MAX_INPUT_BYTES) (sym taken) in
     record { more = take (MAX_INPUT_BYTES - length front) rest; is_cut = nat_lt MAX_INPUT_BYTES (length text); input = (same, refl) }
 
 -- ---- beginnings
 
-pub begun_of : (left : Option (List ℕ)) (front : List ℕ) (world past : Option Past) (start after : Option (List ℕ)) → HasInput left front → Ways front past → IsFront world past
+pub begun_of : (left : Option (List ℕ)) (front : List ℕ) (world past : Option Past) (start after : Option (List ℕ)) → HasInput left front → Ways front past
+    → IsFront world past
     → AppendsFront start after (lines_before past) → IsBegun left world start after
 begun_of left front world past start after has ways front_of begun =
     let way = ways has.more has.is_cut in
@@ -101,26 +106,30 @@ begun_of left front world past start after has ways front_of begun =
       goes_on = front_of_front world past way.whole front_of way.goes_on;
       status = way.status;
       output = way.output;
-      is_output = played_output readings_are_of_their_text good_texts_are_read one_reading left (front ++ has.more) has.is_cut way.whole way.status way.output has.input way.played;
+      is_output = played_output readings_are_of_their_text good_texts_are_read one_reading left (front ++ has.more) has.is_cut way.whole way.status way.output
+          has.input way.played;
       begun = subst (AppendsFront start after) (sym way.begins) (begins_more start after (lines_before past) way.rest begun);
     }
 
 -- what was begun of a journal but for its last piece
-pub sunk_of : (left : Option (List ℕ)) (front : List ℕ) (past : Past) (start after : Option (List ℕ)) (rest : List ℕ) → HasInput left front → Ways front (Some past)
+pub sunk_of : (left : Option (List ℕ)) (front : List ℕ) (past : Past) (start after : Option (List ℕ)) (rest : List ℕ) → HasInput left front
+    → Ways front (Some past)
     → Appends start after (lines_but_last past.journal ++ rest) → AppendsFront start after (journal_lines past.journal) → IsSunk left (Some past) start after
 sunk_of left front past start after rest has ways least most = record {
   begun = begun_of left front (Some past) (Some past) start after has ways (all_of_it (Some past)) most;
   wrote = ((rest, least), inr most);
 }
 
-pub sunk_to : (left : Option (List ℕ)) (front : List ℕ) (world : Option Past) (start after : Option (List ℕ)) → HasInput left front → IsSunkThere front world start after
+pub sunk_to : (left : Option (List ℕ)) (front : List ℕ) (world : Option Past) (start after : Option (List ℕ)) → HasInput left front
+    → IsSunkThere front world start after
     → IsSunkTo left world start after
 sunk_to left front world start after has there = rw there.is (record {
   buffers = there.buffers;
   sunk = sunk_of left front there.past start after there.rest has there.ways there.least there.most;
 })
 
-pub begun_to : (left : Option (List ℕ)) (front : List ℕ) (world : Option Past) (start after : Option (List ℕ)) → HasInput left front → IsBegunThere front world start after
+pub begun_to : (left : Option (List ℕ)) (front : List ℕ) (world : Option Past) (start after : Option (List ℕ)) → HasInput left front
+    → IsBegunThere front world start after
     → IsBegunTo left world start after
 begun_to left front world start after has there = record {
   buffers = there.buffers;
@@ -132,6 +141,7 @@ pub no_ways : Ways [] None
 unfolding text_to
 no_ways = ways unfed None (λ more is_cut. reads_on unfed is_feed_unfed more is_cut) tt tt
 
+-- where nothing is to be written, nothing is begun
 pub nothing_begun : (left sink : Option (List ℕ)) → IsBegun left None sink sink
 nothing_begun left sink = begun_of left [] None None sink sink (has_input left left [] (Consumes-nil left) (omega arith)) no_ways tt (nothing_begins sink [])
 
@@ -168,9 +178,11 @@ halts_at left now front world start after halts.Source has there = absurd there
 
 -- ---- what holds whatever follows a text holds whatever follows more of it
 
-reading_on : (front more rest : List ℕ) (is_cut : Bool) (stage : Stage) (ending : Ending) → IsReading (front ++ (more ++ rest)) is_cut (record { stage = stage; ending = ending })
+reading_on : (front more rest : List ℕ) (is_cut : Bool) (stage : Stage) (ending : Ending)
+    → IsReading (front ++ (more ++ rest)) is_cut (record { stage = stage; ending = ending })
     → IsReading ((front ++ more) ++ rest) is_cut (record { stage = stage; ending = ending })
-reading_on front more rest is_cut stage ending is = subst (λ (xs : List ℕ). IsReading xs is_cut (record { stage = stage; ending = ending })) (sym (append_assoc front more rest)) is
+reading_on front more rest is_cut stage ending is =
+    subst (λ (xs : List ℕ). IsReading xs is_cut (record { stage = stage; ending = ending })) (sym (append_assoc front more rest)) is
 
 ways_on : (front more : List ℕ) (past : Option Past) → Ways front past → Ways (front ++ more) past
 ways_on front more past ways rest is_cut = rw append_assoc (ways (more ++ rest) is_cut)
@@ -179,7 +191,8 @@ forged_on : (front more rest : List ℕ) (is_cut : Bool) (past : Past) (number :
     → IsForgedOf ((front ++ more) ++ rest) is_cut past number what
 forged_on front more rest is_cut past number what is = subst (λ (xs : List ℕ). IsForgedOf xs is_cut past number what) (sym (append_assoc front more rest)) is
 
-begun_on : (front more : List ℕ) (world : Option Past) (start after : Option (List ℕ)) → IsBegunThere front world start after → IsBegunThere (front ++ more) world start after
+begun_on : (front more : List ℕ) (world : Option Past) (start after : Option (List ℕ)) → IsBegunThere front world start after
+    → IsBegunThere (front ++ more) world start after
 begun_on front more world start after there = record {
   past = there.past;
   ways = ways_on front more there.past there.ways;
@@ -188,7 +201,8 @@ begun_on front more world start after there = record {
   begun = there.begun;
 }
 
-sunk_on : (front more : List ℕ) (world : Option Past) (start after : Option (List ℕ)) → IsSunkThere front world start after → IsSunkThere (front ++ more) world start after
+sunk_on : (front more : List ℕ) (world : Option Past) (start after : Option (List ℕ)) → IsSunkThere front world start after
+    → IsSunkThere (front ++ more) world start after
 sunk_on front more world start after there = record {
   past = there.past;
   is = there.is;

@@ -42,7 +42,8 @@ one_stage one text a b x y first second =
 -- ---- forgery
 
 -- what is forged stands among these events
-never_forged : (s : Scenario) (es : List Event) (past : Past) (event : Event) (rest : List Event) → (s ≡ past.scenario) × (es ≡ past.events ++ event ∷ rest) → NothingForged s es
+never_forged : (s : Scenario) (es : List Event) (past : Past) (event : Event) (rest : List Event) → (s ≡ past.scenario) × (es ≡ past.events ++ event ∷ rest)
+    → NothingForged s es
     → NothingForged past.scenario (past.events ++ event ∷ rest)
 never_forged s es past event rest same unforged =
     let P : Scenario → Type 0 = λ t. NothingForged t (past.events ++ event ∷ rest) in
@@ -71,8 +72,10 @@ honest_is_done good one text honest past status out (Whole_journal run going rea
 honest_is_done good one text honest past status out (First_bad_line run line kind is) = absurd (is.bad honest.scenario honest.events honest.spells)
 honest_is_done good one text honest past status out (First_forgery run number what is) =
     let read = spelled_is_read good text honest.scenario honest.events honest.spells in
-    let same : is.stage ≡ stages.End honest.scenario honest.events = one_stage one text is.stage (stages.End honest.scenario honest.events) is.ending endings.Whole is.reading read in
-    absurd (none_forged (stages.End honest.scenario honest.events) run number what honest.unforged (subst (λ (p : Stage). IsForgedIn p run number what) same is.forged))
+    let same : is.stage ≡ stages.End honest.scenario honest.events =
+    one_stage one text is.stage (stages.End honest.scenario honest.events) is.ending endings.Whole is.reading read in
+    absurd (none_forged (stages.End honest.scenario honest.events) run number what honest.unforged
+    (subst (λ (p : Stage). IsForgedIn p run number what) same is.forged))
 
 bad_is_refused : GoodTextsAreRead → OneReading → (text : List ℕ) → HasBadLine text → (past : Option Past) (status : Status) (out : List ℕ)
     → IsOutput (Some text) past status out → status ≡ statuses.Refused

@@ -55,13 +55,16 @@ module _ (left : Option (List ℕ)) (start after : Option (List ℕ)) where
     run = subst (IsPlayedBy is.stage p) (sym is.done.1) is.done;
     claims = claims;
     status_is = ap (λ (s : Option WorldRefused). status_by s (endings.Refused line kind)) (sym is.done.1);
-    text_is = subst (λ (s : Option WorldRefused). ToldBy p (endings.Refused line kind) s (lines_before (Some p) ++ line_at (Some p) (endings.Refused line kind))) (sym is.done.1) refl;
+    text_is = subst
+        (λ (s : Option WorldRefused). ToldBy p (endings.Refused line kind) s (lines_before (Some p) ++ line_at (Some p) (endings.Refused line kind)))
+        (sym is.done.1) refl;
   }
 
   pub read_output : (world : Option Past) (ending : Ending) → IsReadTo left world start after ending → IfSome world WorldClaims
       → IsOutput left world (status_at (halts.Read ending)) (lines_before world ++ line_at world ending)
   read_output world ending is claims =
-      played_output readings_are_of_their_text good_texts_are_read one_reading left is.text is.is_cut world (status_at (halts.Read ending)) (lines_before world ++ line_at world ending)
+      played_output readings_are_of_their_text good_texts_are_read one_reading left is.text is.is_cut world (status_at (halts.Read ending))
+      (lines_before world ++ line_at world ending)
       is.input (played_read world ending is claims)
 
   pub forged_output : (world : Option Past) → IsForgedTo left world start after → IfSome world WorldClaims
@@ -71,7 +74,8 @@ module _ (left : Option (List ℕ)) (start after : Option (List ℕ)) where
       let at = is.forged in
       let known : WorldClaims p = subst (λ (w : Option Past). IfSome w WorldClaims) is.is claims in
       rw is.is
-      (played_output readings_are_of_their_text good_texts_are_read one_reading left is.text is.is_cut (Some p) statuses.Forged (journal_lines p.journal ++ line_of_stop p.stopped) is.input
+      (played_output readings_are_of_their_text good_texts_are_read one_reading left is.text is.is_cut (Some p) statuses.Forged
+      (journal_lines p.journal ++ line_of_stop p.stopped) is.input
       (record {
         stage = at.reading.stage;
         ending = at.reading.ending;
@@ -79,33 +83,40 @@ module _ (left : Option (List ℕ)) (start after : Option (List ℕ)) where
         run = subst (IsPlayedBy at.reading.stage p) (sym at.forged.next.stopped) at.forged;
         claims = known;
         status_is = ap (λ (s : Option WorldRefused). status_by s at.reading.ending) (sym at.forged.next.stopped);
-        text_is = subst (λ (s : Option WorldRefused). ToldBy p at.reading.ending s (journal_lines p.journal ++ line_of_stop s)) (sym at.forged.next.stopped) refl;
+        text_is = subst (λ (s : Option WorldRefused). ToldBy p at.reading.ending s (journal_lines p.journal ++ line_of_stop s)) (sym at.forged.next.stopped)
+            refl;
       }))
 
 -- ---- what must hold for its last line
 
-pub read_can_end : (left : Option (List ℕ)) (world : Option Past) (start after : Option (List ℕ)) (ending : Ending) → IsReadTo left world start after ending → CanEnd (halts.Read ending) world
+pub read_can_end : (left : Option (List ℕ)) (world : Option Past) (start after : Option (List ℕ)) (ending : Ending) → IsReadTo left world start after ending
+    → CanEnd (halts.Read ending) world
 read_can_end left None start after endings.Whole is = absurd (no_world_at_end left start after is)
 read_can_end left None start after (endings.Refused line kind) is = tt
 read_can_end left (Some p) start after endings.Whole is = (fit is.stage p is.good is.done.0).short
 read_can_end left (Some p) start after (endings.Refused line kind) is = tt
 
-pub read_buffers : (left : Option (List ℕ)) (world : Option Past) (start after : Option (List ℕ)) (ending : Ending) → IsReadTo left world start after ending → IfSome world HasBuffers
+pub read_buffers : (left : Option (List ℕ)) (world : Option Past) (start after : Option (List ℕ)) (ending : Ending) → IsReadTo left world start after ending
+    → IfSome world HasBuffers
 read_buffers left world start after ending is = all_fit is.stage world is.good is.done
 
-pub forged_can_end : (left : Option (List ℕ)) (world : Option Past) (start after : Option (List ℕ)) → IsForgedTo left world start after → CanEnd halts.Forged world
+pub forged_can_end : (left : Option (List ℕ)) (world : Option Past) (start after : Option (List ℕ)) → IsForgedTo left world start after
+    → CanEnd halts.Forged world
 forged_can_end left world start after is = rw is.is (subst IsStopped (sym is.forged.forged.next.stopped) tt)
 
-pub forged_buffers : (left : Option (List ℕ)) (world : Option Past) (start after : Option (List ℕ)) → IsForgedTo left world start after → IfSome world HasBuffers
+pub forged_buffers : (left : Option (List ℕ)) (world : Option Past) (start after : Option (List ℕ)) → IsForgedTo left world start after
+    → IfSome world HasBuffers
 forged_buffers left world start after is = rw is.is is.buffers
 
-pub forged_written : (left : Option (List ℕ)) (world : Option Past) (start after : Option (List ℕ)) → IsForgedTo left world start after → Appends start after (lines_before world)
+pub forged_written : (left : Option (List ℕ)) (world : Option Past) (start after : Option (List ℕ)) → IsForgedTo left world start after
+    → Appends start after (lines_before world)
 forged_written left world start after is = rw is.is is.written
 
 -- ---- what was written, and the status
 
 -- the whole journal was written, and a beginning of the last line
-wrote_all : (world : Option Past) (start middle after : Option (List ℕ)) (line : List ℕ) → Appends start middle (lines_before world) → AppendsFront middle after line
+wrote_all : (world : Option Past) (start middle after : Option (List ℕ)) (line : List ℕ) → Appends start middle (lines_before world)
+    → AppendsFront middle after line
     → WroteUpTo world world start after
 wrote_all None start middle after line written front = refl
 wrote_all (Some p) start middle after line written front =
@@ -114,11 +125,15 @@ wrote_all (Some p) start middle after line written front =
     let all = Appends-trans start middle after (lines_but_last p.journal ++ piece.0) (take front.count line) lines front.appended in
     ((piece.0 ++ take front.count line, subst (Appends start after) (append_assoc (lines_but_last p.journal) piece.0 (take front.count line)) all), inl refl)
 
-module _ (left : Option (List ℕ)) (would : Status) (line : List ℕ) (world : Option Past) (start middle after : Option (List ℕ)) (output : IsOutput left world would (lines_before world ++ line)) where
-  pub end_wrote : (now : Option Past) (status : Status) → IfSome world WorldClaims → Appends start middle (lines_before world) → TellsEnd would line world now status middle after
+module _ (left : Option (List ℕ)) (would : Status) (line : List ℕ) (world : Option Past) (start middle after : Option (List ℕ))
+    (output : IsOutput left world would (lines_before world ++ line)) where
+  pub end_wrote : (now : Option Past) (status : Status) → IfSome world WorldClaims → Appends start middle (lines_before world)
+      → TellsEnd would line world now status middle after
       → Replays left now status start after
   end_wrote now status claims written (inl whole) =
-      rw (whole.0, whole.1) (wrote_whole left world would (lines_before world ++ line) start after output (Appends-trans start middle after (lines_before world) line written whole.2))
+      rw (whole.0, whole.1)
+      (wrote_whole left world would (lines_before world ++ line) start after output
+      (Appends-trans start middle after (lines_before world) line written whole.2))
   end_wrote now status claims written (inr (inl sink)) = rw (sink.0, sink.1) (record {
     begun = record {
       whole = world;
@@ -141,7 +156,9 @@ module _ (left : Option (List ℕ)) (would : Status) (line : List ℕ) (world : 
     begun = begins_more start middle (lines_before world) line (whole_begins start middle (lines_before world) written);
   })
 
-  pub end_complete : (now : Option Past) (status : Status) → TellsEnd would line world now status middle after → status ≢ statuses.Sink → IsCompleteReplay left status
-  end_complete now status (inl whole) written = rw whole.0 (complete_output good_texts_are_read one_reading left world would (lines_before world ++ line) output)
+  pub end_complete : (now : Option Past) (status : Status) → TellsEnd would line world now status middle after → status ≢ statuses.Sink
+      → IsCompleteReplay left status
+  end_complete now status (inl whole) written =
+      rw whole.0 (complete_output good_texts_are_read one_reading left world would (lines_before world ++ line) output)
   end_complete now status (inr (inl sink)) written = absurd (written sink.0)
   end_complete now status (inr (inr memory)) written = record { honest = λ tells. inr memory.0; bad = λ tells. inr memory.0 }

@@ -13,7 +13,8 @@ use Rattle.sp_replay.specs.Played.{IsPlayedBy}
 use Rattle.sp_replay.proofs.Complete.{none_forged}
 
 -- nothing of it is forged, so all its events are done
-pub generated_run : GeneratedForgeNothing → (number : ℕ) (s : Scenario) (es : List Event) (past : Past) → s ≡ generated_scenario number → es ≡ generated_events number
+pub generated_run : GeneratedForgeNothing → (number : ℕ) (s : Scenario) (es : List Event) (past : Past) → s ≡ generated_scenario number
+    → es ≡ generated_events number
     → IsPlayedBy (stages.End s es) past past.stopped → IsGenerated number past
 generated_run law number s es past scenario events played = go past.stopped refl played
   where

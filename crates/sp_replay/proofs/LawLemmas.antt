@@ -1,5 +1,6 @@
 -- What follows of a replay from what is claimed of it.
-use Rattle.std.proofs.Common.{◌≡◌, ◌+◌, ◌==◌, ◌<◌, ℕ, Bool, true, false, List, [], ◌∷◌, ◌++◌, length, Option, Some, None, Result, Ok, refl, sym, ap, ◌∙◌, subst, arith, append_assoc, length-append, if◌then◌else◌}
+use Rattle.std.proofs.Common.{◌≡◌, ◌+◌, ◌==◌, ◌<◌, ℕ, Bool, true, false, List, [], ◌∷◌, ◌++◌, length, Option, Some, None, Result, Ok, refl, sym, ap, ◌∙◌, subst}
+use Rattle.std.proofs.Common.{arith, append_assoc, length-append, if◌then◌else◌}
 use Rattle.std.specs.List.{flat_map, join_with_byte}
 use Rattle.std.specs.Prelude.{◌≢◌}
 use Rattle.std.proofs.lemmas.Bool.Decides.{nat_tests}
@@ -11,7 +12,8 @@ use Rattle.sp_lines.specs.Rows.{line_text}
 use Rattle.sp_lines.specs.Texts.{At_end, Leads, Nothing_left, follow_all}
 use Rattle.sp_replay.proofs.Ways.{all_but_last}
 use Rattle.sp_replay.specs.Fronts.{HasCome}
-use Rattle.sp_replay.specs.Laws.{AllButTheLastIsWritten, EmptyTextsAreRefused, ForgeriesLeaveOthers, HarmlessSchedulesAreRun, LeavesOthers, NothingReadIsNothingDone}
+use Rattle.sp_replay.specs.Laws.{AllButTheLastIsWritten, EmptyTextsAreRefused, ForgeriesLeaveOthers, HarmlessSchedulesAreRun, LeavesOthers}
+use Rattle.sp_replay.specs.Laws.{NothingReadIsNothingDone}
 use Rattle.sp_replay.specs.Outputs.{AreDone, IsForgedNext, lines_before, lines_but_last}
 use Rattle.sp_rules.specs.Node.{NodeState}
 use Rattle.sp_runs.specs.Inputs.{acting}
@@ -30,7 +32,8 @@ harmless_schedules_are_run text s es status spells plain all complete =
 
 pub empty_texts_are_refused : EmptyTextsAreRefused
 empty_texts_are_refused status complete =
-    complete.bad (record { stage = stages.Start; line = 1; kind = _; reading = record { line = 1; stop = Nothing_left; leads = At_end; ends = refl }; unforged = tt })
+    complete.bad
+    (record { stage = stages.Start; line = 1; kind = _; reading = record { line = 1; stop = Nothing_left; leads = At_end; ends = refl }; unforged = tt })
 
 -- ---- nothing was read
 
@@ -38,10 +41,18 @@ no_more : (front text : List ℕ) → text ≡ front ++ text → front ≡ []
 no_more [] text same = refl
 no_more (x ∷ xs) text same = absurd (let long = ap length same in omega (arith, long, length-append (x ∷ xs) text))
 
-no_lines : (lines : List (List Word)) (rest : List ℕ) (stage : Stage) → [] ≡ flat_map line_text lines ++ rest → follow_all says stages.Start lines ≡ Ok stage → stage ≡ stages.Start
+no_lines : (lines : List (List Word)) (rest : List ℕ) (stage : Stage) → [] ≡ flat_map line_text lines ++ rest → follow_all says stages.Start lines ≡ Ok stage
+    → stage ≡ stages.Start
 no_lines [] rest stage spelled follows = cc
 no_lines (words ∷ lines) rest stage spelled follows =
-    absurd (let long = ap length spelled in omega (arith, long, length-append (flat_map line_text (words ∷ lines)) rest, length-append (line_text words) (flat_map line_text lines), length-append (join_with_byte 32 words) (10 ∷ [])))
+    absurd (let long = ap length spelled in
+    omega (
+      arith,
+      long,
+      length-append (flat_map line_text (words ∷ lines)) rest,
+      length-append (line_text words) (flat_map line_text lines),
+      length-append (join_with_byte 32 words) (10 ∷ []),
+    ))
 
 still_at_start : (front : List ℕ) (stage : Stage) → HasCome front stage → front ≡ [] → stage ≡ stages.Start
 still_at_start front stage come none =

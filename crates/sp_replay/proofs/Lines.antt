@@ -1,5 +1,6 @@
 -- What one line of a replay does: the events so far are done, and what the sink has goes with them.
-use Rattle.std.proofs.Common.{◌≡◌, ◌+◌, ℕ, Bool, List, [], ◌∷◌, ◌++◌, length, take, Option, Some, None, Result, Ok, Err, refl, sym, ap, ◌∙◌, subst, arith, append_assoc, append-nil, IfSome, OnOk}
+use Rattle.std.proofs.Common.{◌≡◌, ◌+◌, ℕ, Bool, List, [], ◌∷◌, ◌++◌, length, take, Option, Some, None, Result, Ok, Err, refl, sym, ap, ◌∙◌, subst, arith}
+use Rattle.std.proofs.Common.{append_assoc, append-nil, IfSome, OnOk}
 use Rattle.std.specs.Io.KnownBytes.{Appends}
 use Rattle.std.proofs.KnownBytes.{Appends-trans}
 use Rattle.std.proofs.lemmas.List.{same_from_push}
@@ -54,7 +55,8 @@ pub leads_line : (old new : Fed) (given : Parsed) → LeadsFrom old → TakesLin
 leads_line old new given leads takes = λ rest last end stop more.
     let on = takes.leads in
     let stepped = step old new given (good_lines old leads) takes in
-    let here : Leads says new.stage (old.count + 1 + 1) rest last end stop = subst (λ (n : ℕ). Leads says new.stage (n + 1) rest last end stop) takes.count more in
+    let here : Leads says new.stage (old.count + 1 + 1) rest last end stop =
+    subst (λ (n : ℕ). Leads says new.stage (n + 1) rest last end stop) takes.count more in
     let all = leads (old.waiting ++ rest) last end stop (Good on.words rest new.stage (on.first rest) on.good here) in
     let text : text_to old.stage ++ old.waiting ≡ text_to new.stage =
     sym stepped.text ∙ ap (λ (xs : List ℕ). text_to new.stage ++ xs) takes.waiting ∙ append-nil (text_to new.stage) in
@@ -151,7 +153,8 @@ all_fit stage None good done = tt
 all_fit stage (Some p) good done = (fit stage p good done.0).buffers
 
 -- whatever follows, what the sink has begins an output
-pub begun_there : (f : Fed) (world : Option Past) (start after : Option (List ℕ)) → ((more : List ℕ) (is_cut : Bool) → ReadsOn f more is_cut) → IsGoodStage f.stage → AreDone f.stage world
+pub begun_there : (f : Fed) (world : Option Past) (start after : Option (List ℕ)) → ((more : List ℕ) (is_cut : Bool) → ReadsOn f more is_cut)
+    → IsGoodStage f.stage → AreDone f.stage world
     → IfSome world IsPast → AppendsFront start after (lines_before world) → IsBegunThere (text_of f) world start after
 begun_there f world start after reads good done runs begun = record {
   past = world;
@@ -162,7 +165,8 @@ begun_there f world start after reads good done runs begun = record {
 }
 
 -- the sink failed while it was given the last piece of the journal
-sunk_there : (f : Fed) (p : Past) (start middle after : Option (List ℕ)) (last : List ℕ) → ((more : List ℕ) (is_cut : Bool) → ReadsOn f more is_cut) → IsGoodStage f.stage → AreDone f.stage (Some p)
+sunk_there : (f : Fed) (p : Past) (start middle after : Option (List ℕ)) (last : List ℕ) → ((more : List ℕ) (is_cut : Bool) → ReadsOn f more is_cut)
+    → IsGoodStage f.stage → AreDone f.stage (Some p)
     → IsPast p → journal_lines p.journal ≡ lines_but_last p.journal ++ last → Appends start middle (lines_but_last p.journal) → AppendsFront middle after last
     → IsSunkThere (text_of f) (Some p) start after
 sunk_there f p start middle after last reads good done past whole written front = record {
@@ -176,7 +180,8 @@ sunk_there f p start middle after last reads good done past whole written front 
 }
 
 -- the same where the world is gone
-pub forgotten_there : (f : Fed) (world : Option Past) (start after : Option (List ℕ)) → ((more : List ℕ) (is_cut : Bool) → ReadsOn f more is_cut) → AreDone f.stage world
+pub forgotten_there : (f : Fed) (world : Option Past) (start after : Option (List ℕ)) → ((more : List ℕ) (is_cut : Bool) → ReadsOn f more is_cut)
+    → AreDone f.stage world
     → IfSome world IsPast → AppendsFront start after (lines_before world) → IsBegunThere (text_of f) None start after
 forgotten_there f world start after reads done runs begun = record {
   past = world;
@@ -208,19 +213,22 @@ none_before : (old next : Stage) (s : Scenario) (world : Option Past) → IsPars
 none_before old next s None parsed done = refl
 none_before old next s (Some p) parsed done = absurd (not_of_header old p.scenario p.events parsed.0 done.0)
 
-so_far_at : (old new : Fed) (world : Option Past) (s : Scenario) → SoFar old world → TakesLine old (parts.Began s) new → IsGoodStage new.stage → SoFar new (Some (at_first s))
+so_far_at : (old new : Fed) (world : Option Past) (s : Scenario) → SoFar old world → TakesLine old (parts.Began s) new → IsGoodStage new.stage
+    → SoFar new (Some (at_first s))
 so_far_at old new world s so_far takes good = record {
   good = good;
   done = begun_done old.stage new.stage s takes.leads.parsed;
   leads = leads_line old new (parts.Began s) so_far.leads takes;
 }
 
-pub so_far_begun : {T : Type 0} (old new : Fed) (world made : Option Past) (s : Scenario) (before after : Option (List ℕ)) (result : Result T Halt) → SoFar old world
+pub so_far_begun : {T : Type 0} (old new : Fed) (world made : Option Past) (s : Scenario) (before after : Option (List ℕ)) (result : Result T Halt)
+    → SoFar old world
     → TakesLine old (parts.Began s) new → IsGoodStage new.stage → Begins s made before after result → OnOk result (SoFar new made)
 so_far_begun old new world made s before after (Ok done) so_far takes good begins = rw begins.0 (so_far_at old new world s so_far takes good)
 so_far_begun old new world made s before after (Err halt) so_far takes good begins = tt
 
-pub plays_begun : {T : Type 0} (old new : Fed) (world made : Option Past) (s : Scenario) (before after : Option (List ℕ)) (result : Result T Halt) → SoFar old world
+pub plays_begun : {T : Type 0} (old new : Fed) (world made : Option Past) (s : Scenario) (before after : Option (List ℕ)) (result : Result T Halt)
+    → SoFar old world
     → TakesLine old (parts.Began s) new → IsGoodStage new.stage → text_of new ≡ text_of old → ((more : List ℕ) (is_cut : Bool) → ReadsOn old more is_cut)
     → ((more : List ℕ) (is_cut : Bool) → ReadsOn new more is_cut) → Begins s made before after result → Plays (text_of old) world made before after result
 plays_begun old new world made s before after (Ok done) so_far takes good text reads_old reads begins =
@@ -230,7 +238,8 @@ plays_begun old new world made s before after (Err halts.Sink) so_far takes good
     rw (none_before old.stage new.stage s world takes.leads.parsed so_far.done, begins.0, ← text)
     (λ start written.
     let header = begun_header old.stage new.stage s takes.leads.parsed good in
-    sunk_there new (at_first s) start before after (journal_lines []) reads good (begun_done old.stage new.stage s takes.leads.parsed) (past_at_first s header) refl written begins.1)
+    sunk_there new (at_first s) start before after (journal_lines []) reads good (begun_done old.stage new.stage s takes.leads.parsed) (past_at_first s header)
+    refl written begins.1)
 plays_begun old new world made s before after (Err halts.Memory) so_far takes good text reads_old reads begins =
     let none = none_before old.stage new.stage s world takes.leads.parsed so_far.done in
     let done : AreDone old.stage None = subst (AreDone old.stage) none so_far.done in
@@ -275,7 +284,8 @@ is_next (stages.Epochs s) next p e parsed done good = absurd parsed
 is_next (stages.End s es) next p e parsed done good = absurd parsed
 
 -- so it may come there, by the law of good schedules
-pub next_in_range : ScheduledEventsAreInRange → (old next : Stage) (p : Past) (e : Event) → IsParsed old (parts.Event e) next → AreDone old (Some p) → IsGoodStage next
+pub next_in_range : ScheduledEventsAreInRange → (old next : Stage) (p : Past) (e : Event) → IsParsed old (parts.Event e) next → AreDone old (Some p)
+    → IsGoodStage next
     → InRange (setting_of p.scenario) p.events e
 next_in_range law old next p e parsed done good =
     law p.scenario (p.events ++ e ∷ []) p.events [] e (is_next old next p e parsed done good).schedule refl
@@ -340,7 +350,8 @@ forged_in stage p q e rest number what past going refused events =
     }
 
 -- so all events before it of a list were done
-pub played_to_forgery : (s : Scenario) (es : List Event) (p q : Past) (e : Event) (rest : List Event) (refused : WorldRefused) (number : ℕ) (what : What) → refused ≡ stops.Forged number what
+pub played_to_forgery : (s : Scenario) (es : List Event) (p q : Past) (e : Event) (rest : List Event) (refused : WorldRefused) (number : ℕ) (what : What)
+    → refused ≡ stops.Forged number what
     → IsPast p → p.stopped ≡ None → IsRefused p e refused q → s ≡ p.scenario → es ≡ p.events ++ e ∷ rest → IsPlayedBy (stages.End s es) q q.stopped
 played_to_forgery s es p q e rest refused number what is past going refuses scenario events =
     let there : IsForgedIn (stages.End s es) q number what =
@@ -348,7 +359,8 @@ played_to_forgery s es p q e rest refused number what is past going refuses scen
     subst (IsPlayedBy (stages.End s es) q) (sym there.next.stopped) there
 
 -- the event is forged in the reading of each text that goes on
-forged_of : (f : Fed) (p q : Past) (e : Event) (number : ℕ) (what : What) → ((more : List ℕ) (is_cut : Bool) → ReadsOn f more is_cut) → IsNext p e f.stage → IsPast p
+forged_of : (f : Fed) (p q : Past) (e : Event) (number : ℕ) (what : What) → ((more : List ℕ) (is_cut : Bool) → ReadsOn f more is_cut) → IsNext p e f.stage
+    → IsPast p
     → IsRefused p e (stops.Forged number what) q → (more : List ℕ) (is_cut : Bool) → IsForgedOf (text_of f ++ more) is_cut q number what
 forged_of f p q e number what reads next past refused more is_cut =
     let on = reads more is_cut in
@@ -369,11 +381,13 @@ module _ (old new : Fed) (p q : Past) (e : Event) (before after : Option (List �
 
   pub plays_event : {T : Type 0} (result : Result T Halt) → NotesEvent p e q before after result → Plays (text_of old) (Some p) (Some q) before after result
   plays_event (Ok done) notes = λ start written.
-      subst (Appends start after) (sym (one_more p q e notes.0)) (Appends-trans start before after (journal_lines p.journal) (entry_text (length p.journal + 1) notes.0.entry) written notes.1)
+      subst (Appends start after) (sym (one_more p q e notes.0))
+      (Appends-trans start before after (journal_lines p.journal) (entry_text (length p.journal + 1) notes.0.entry) written notes.1)
   plays_event (Err halts.Sink) notes = λ start written.
       let last = entry_text (length p.journal + 1) notes.0.entry in
       let first : lines_but_last q.journal ≡ journal_lines p.journal = ap lines_but_last notes.0.journal ∙ all_but_last p.journal notes.0.entry in
-      let whole : journal_lines q.journal ≡ lines_but_last q.journal ++ last = subst (λ (xs : List ℕ). journal_lines q.journal ≡ xs ++ last) (sym first) (one_more p q e notes.0) in
+      let whole : journal_lines q.journal ≡ lines_but_last q.journal ++ last =
+      subst (λ (xs : List ℕ). journal_lines q.journal ≡ xs ++ last) (sym first) (one_more p q e notes.0) in
       let before_last : Appends start before (lines_but_last q.journal) = subst (Appends start before) (sym first) written in
       subst (λ (xs : List ℕ). IsSunkThere xs (Some q) start after) text
       (sunk_there new q start before after last reads good (event_done new.stage p q e next_of notes.0) after_past whole before_last notes.1)

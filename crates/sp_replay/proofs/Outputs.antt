@@ -25,7 +25,8 @@ use Rattle.sp_world.specs.declared.refused.WorldRefused.TheVariants as stops
 use Rattle.sp_words.specs.declared.status.Status.{Status}
 use Rattle.sp_words.specs.declared.status.Status.TheVariants as statuses
 use Rattle.sp_replay.specs.Claims.{Replays}
-use Rattle.sp_replay.specs.Outputs.{AreDone, First_bad_line, First_forgery, IsForgedIn, IsForgery, IsOfStage, IsOutput, IsRefusal, IsRead, ReadsWhole, Spells, Whole_journal}
+use Rattle.sp_replay.specs.Outputs.{AreDone, First_bad_line, First_forgery, IsForgedIn, IsForgery, IsOfStage, IsOutput, IsRefusal, IsRead, ReadsWhole, Spells}
+use Rattle.sp_replay.specs.Outputs.{Whole_journal}
 use Rattle.sp_replay.specs.Played.{AreRun, IsPlayed, IsPlayedBy, IsTextOf, ToldBy, ToldWhole, status_by, status_of}
 
 -- ---- whole readings
@@ -76,7 +77,8 @@ uncut text reading short is =
     let Q : List ℕ → Type 0 = λ t. IsReading t false reading in
     subst Q (short_text text short) (subst P short is)
 
-whole_read : ReadingsAreOfTheirText → (text : List ℕ) (stage : Stage) (past : Past) → IsRead text stage endings.Whole → IsOfStage stage past.scenario past.events
+whole_read : ReadingsAreOfTheirText → (text : List ℕ) (stage : Stage) (past : Past) → IsRead text stage endings.Whole
+    → IsOfStage stage past.scenario past.events
     → Spells text past.scenario past.events
 whole_read law text stage past reading of_stage =
     let well = ended_well (nat_lt MAX_INPUT_BYTES (length text)) stage reading.line reading.stop reading.ends in
@@ -91,7 +93,8 @@ whole_read law text stage past reading of_stage =
 -- ---- the output
 
 -- a text that is refused spells no schedule
-pub refused_spells_none : GoodTextsAreRead → OneReading → (text : List ℕ) (stage : Stage) (line : ℕ) (kind : Kind) → IsRead text stage (endings.Refused line kind)
+pub refused_spells_none : GoodTextsAreRead → OneReading → (text : List ℕ) (stage : Stage) (line : ℕ) (kind : Kind)
+    → IsRead text stage (endings.Refused line kind)
     → (s : Scenario) (es : List Event) → Spells text s es → ⊥
 refused_spells_none good one text stage line kind reading s es spells =
     let within = spells.size in
@@ -108,13 +111,15 @@ read_of : (text bytes : List ℕ) (is_cut : Bool) (stage : Stage) (ending : Endi
     → IsReading bytes is_cut (record { stage = stage; ending = ending }) → IsRead text stage ending
 read_of text bytes is_cut stage ending input reading = rw (input.0, input.1) at reading
 
-output_whole : ReadingsAreOfTheirText → (left : Option (List ℕ)) (bytes : List ℕ) (is_cut : Bool) (stage : Stage) (past : Past) → IsInput left MAX_INPUT_BYTES bytes is_cut
+output_whole : ReadingsAreOfTheirText → (left : Option (List ℕ)) (bytes : List ℕ) (is_cut : Bool) (stage : Stage) (past : Past)
+    → IsInput left MAX_INPUT_BYTES bytes is_cut
     → IsReading bytes is_cut (record { stage = stage; ending = endings.Whole }) → IsOfStage stage past.scenario past.events → ReadsWhole left past
 output_whole law None bytes is_cut stage past input reading of_stage = tt
 output_whole law (Some text) bytes is_cut stage past input reading of_stage =
     whole_read law text stage past (read_of text bytes is_cut stage endings.Whole input reading) of_stage
 
-output_refused : GoodTextsAreRead → OneReading → (left : Option (List ℕ)) (bytes : List ℕ) (is_cut : Bool) (stage : Stage) (world : Option Past) (line : ℕ) (kind : Kind)
+output_refused : GoodTextsAreRead → OneReading
+    → (left : Option (List ℕ)) (bytes : List ℕ) (is_cut : Bool) (stage : Stage) (world : Option Past) (line : ℕ) (kind : Kind)
     → IsInput left MAX_INPUT_BYTES bytes is_cut → IsReading bytes is_cut (record { stage = stage; ending = endings.Refused line kind }) → AreDone stage world
     → IsRefusal left world line kind
 output_refused good one None bytes is_cut stage world line kind input reading done = tt
@@ -133,7 +138,8 @@ module _ (law : ReadingsAreOfTheirText) (good : GoodTextsAreRead) (one : OneRead
     (input : IsInput left MAX_INPUT_BYTES bytes is_cut) (stage : Stage) where
   -- nothing is forged
   done_output : (ending : Ending) (past : Past) (out : List ℕ) → IsReading bytes is_cut (record { stage = stage; ending = ending })
-      → IsOfStage stage past.scenario past.events → past.stopped ≡ None → ToldWhole (Some past) ending out → IsOutput left (Some past) (status_by None ending) out
+      → IsOfStage stage past.scenario past.events → past.stopped ≡ None → ToldWhole (Some past) ending out
+      → IsOutput left (Some past) (status_by None ending) out
   done_output endings.Whole past out reading of_stage going text =
       rw text (Whole_journal past going (output_whole law left bytes is_cut stage past input reading of_stage))
   done_output (endings.Refused line kind) past out reading of_stage going text =
@@ -149,19 +155,22 @@ module _ (law : ReadingsAreOfTheirText) (good : GoodTextsAreRead) (one : OneRead
   past_output ending past out (Some stops.Memory) is reading played text = absurd played
 
   -- there is no world
-  no_output : (ending : Ending) (out : List ℕ) → IsReading bytes is_cut (record { stage = stage; ending = ending }) → AreDone stage None → ToldWhole None ending out
+  no_output : (ending : Ending) (out : List ℕ) → IsReading bytes is_cut (record { stage = stage; ending = ending }) → AreDone stage None
+      → ToldWhole None ending out
       → IsOutput left None (status_by None ending) out
   no_output endings.Whole out reading done text = absurd text
   no_output (endings.Refused line kind) out reading done text =
       rw text (First_bad_line None line kind (output_refused good one left bytes is_cut stage None line kind input reading done))
 
-  world_output : (ending : Ending) (world : Option Past) (out : List ℕ) → IsReading bytes is_cut (record { stage = stage; ending = ending }) → AreRun stage world
+  world_output : (ending : Ending) (world : Option Past) (out : List ℕ) → IsReading bytes is_cut (record { stage = stage; ending = ending })
+      → AreRun stage world
       → IsTextOf world ending out → IsOutput left world (status_of world ending) out
   world_output ending None out reading run text = no_output ending out reading run text
   world_output ending (Some past) out reading run text = past_output ending past out past.stopped refl reading run text
 
 -- what was played is the output of the input
-pub played_output : ReadingsAreOfTheirText → GoodTextsAreRead → OneReading → (left : Option (List ℕ)) (bytes : List ℕ) (is_cut : Bool) (world : Option Past) (status : Status)
+pub played_output : ReadingsAreOfTheirText → GoodTextsAreRead → OneReading
+    → (left : Option (List ℕ)) (bytes : List ℕ) (is_cut : Bool) (world : Option Past) (status : Status)
     (out : List ℕ) → IsInput left MAX_INPUT_BYTES bytes is_cut → IsPlayed bytes is_cut world status out → IsOutput left world status out
 played_output law good one left bytes is_cut world status out input played =
     rw played.status_is (world_output law good one left bytes is_cut input played.stage played.ending world out played.reading played.run played.text_is)
@@ -169,6 +178,9 @@ played_output law good one left bytes is_cut world status out input played =
 -- the whole output of a replay was written
 pub wrote_whole : (left : Option (List ℕ)) (world : Option Past) (status : Status) (out : List ℕ) (before after : Option (List ℕ))
     → IsOutput left world status out → Appends before after out → Replays left world status before after
-wrote_whole left world status out before after (Whole_journal past going reads) written = record { output = out; is_output = Whole_journal past going reads; written = written }
-wrote_whole left world status out before after (First_forgery past number what is) written = record { output = out; is_output = First_forgery past number what is; written = written }
-wrote_whole left world status out before after (First_bad_line past line kind is) written = record { output = out; is_output = First_bad_line past line kind is; written = written }
+wrote_whole left world status out before after (Whole_journal past going reads) written =
+    record { output = out; is_output = Whole_journal past going reads; written = written }
+wrote_whole left world status out before after (First_forgery past number what is) written =
+    record { output = out; is_output = First_forgery past number what is; written = written }
+wrote_whole left world status out before after (First_bad_line past line kind is) written =
+    record { output = out; is_output = First_bad_line past line kind is; written = written }

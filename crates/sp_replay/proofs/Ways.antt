@@ -1,5 +1,6 @@
 -- Each past of a replay goes on to an output of the whole text, whatever follows what it has read.
-use Rattle.std.proofs.Common.{◌≡◌, ◌<◌, ◌≤◌, ◌+◌, ◌^◌, ℕ, Bool, List, [], ◌∷◌, ◌++◌, length, take, drop, Option, Some, None, refl, sym, ap, ◌∙◌, subst, arith, append_assoc, append-nil, length-append, IfSome}
+use Rattle.std.proofs.Common.{◌≡◌, ◌<◌, ◌≤◌, ◌+◌, ◌^◌, ℕ, Bool, List, [], ◌∷◌, ◌++◌, length, take, drop, Option, Some, None, refl, sym, ap, ◌∙◌, subst, arith}
+use Rattle.std.proofs.Common.{append_assoc, append-nil, length-append, IfSome}
 use Rattle.std.proofs.Math.Seq.{take-append_seam}
 use Rattle.std.proofs.lemmas.List.{take-append-drop}
 use Rattle.sp_journal.specs.declared.entry.Entry.{Entry}
@@ -40,11 +41,13 @@ use Rattle.sp_replay.proofs.Worlds.{world_claims}
 
 -- ---- journals that grow
 
-pub entries_more : (number : ℕ) (first more : List Entry) → entries_from number (first ++ more) ≡ entries_from number first ++ entries_from (number + length first) more
+pub entries_more : (number : ℕ) (first more : List Entry)
+    → entries_from number (first ++ more) ≡ entries_from number first ++ entries_from (number + length first) more
 entries_more number [] more = ap (λ (n : ℕ). entries_from n more) (omega arith)
 entries_more number (e ∷ first) more =
     let next : (number + 1) + length first ≡ number + length (e ∷ first) = omega arith in
-    ap (λ (xs : List ℕ). entry_text number e ++ xs) (entries_more (number + 1) first more ∙ ap (λ (n : ℕ). entries_from (number + 1) first ++ entries_from n more) next)
+    ap (λ (xs : List ℕ). entry_text number e ++ xs)
+    (entries_more (number + 1) first more ∙ ap (λ (n : ℕ). entries_from (number + 1) first ++ entries_from n more) next)
     ∙ sym (append_assoc (entry_text number e) (entries_from (number + 1) first) (entries_from (number + length (e ∷ first)) more))
 
 pub journal_more : (first more : List Entry) → journal_lines (first ++ more) ≡ journal_lines first ++ entries_from (1 + length first) more
@@ -96,10 +99,12 @@ module _ (s : Scenario) (all : List Event) (schedule : IsSchedule s all) where
       let range = scheduled_events_are_in_range s all es rest e schedule same in
       let turn = scheduled_events_have_turns s es js w (header_of s all schedule) clean few e range in
       let again : all ≡ (es ++ e ∷ []) ++ rest = same ∙ sym (append_assoc es (e ∷ []) rest) in
-      go turn.entry turn.new turn.turn (λ j new next. run_on rest (es ++ e ∷ []) (js ++ j ∷ []) new next again) (forged_in (arts_of (setting_of s)) (setting_of s) es js w e turn.entry turn.new turn.turn) refl
+      go turn.entry turn.new turn.turn (λ j new next. run_on rest (es ++ e ∷ []) (js ++ j ∷ []) new next again)
+      (forged_in (arts_of (setting_of s)) (setting_of s) es js w e turn.entry turn.new turn.turn) refl
     where
       go : (j : Entry) (new : World) (turn : Turn (arts_of (setting_of s)) (setting_of s) w e j new)
-          → ((j : Entry) (new : World) → Clean (arts_of (setting_of s)) (setting_of s) (es ++ e ∷ []) (js ++ j ∷ []) new → RunsOn s all (es ++ e ∷ []) (js ++ j ∷ []))
+          → ((j : Entry) (new : World) → Clean (arts_of (setting_of s)) (setting_of s) (es ++ e ∷ []) (js ++ j ∷ []) new
+          → RunsOn s all (es ++ e ∷ []) (js ++ j ∷ []))
           → (f : Option What) → forged_in (arts_of (setting_of s)) (setting_of s) es js w e j new turn ≡ f → RunsOn s all es js
       go j new turn further None is =
           let range = scheduled_events_are_in_range s all es rest e schedule same in
@@ -115,7 +120,14 @@ module _ (s : Scenario) (all : List Event) (schedule : IsSchedule s all) where
             played = on.played;
           }
       go j new turn further (Some what) is = record {
-        whole = record { scenario = s; events = es; journal = js; world = record w { nodes = without_node w.nodes (acting e) }; stopped = Some (stops.Forged (length es + 1) what) };
+        whole = record {
+          scenario = s;
+          events = es;
+          journal = js;
+          world = record w { nodes = without_node w.nodes (acting e) };
+          stopped =
+              Some (stops.Forged (length es + 1) what);
+        };
         scenario = refl;
         more = [];
         events = sym (append-nil es);
@@ -171,7 +183,8 @@ module _ (text : List ℕ) (is_cut : Bool) (stage : Stage) (ending : Ending) (re
   way_of past whole front claims played =
       let t = told stage whole ending whole.stopped played in
       let begins : t.out ≡ journal_lines past.journal ++ (entries_from (1 + length past.journal) front.entries ++ t.rest) =
-      t.begins ∙ ap (λ (js : List Entry). journal_lines js ++ t.rest) front.journal ∙ ap (λ (xs : List ℕ). xs ++ t.rest) (journal_more past.journal front.entries)
+      t.begins ∙ ap (λ (js : List Entry). journal_lines js ++ t.rest) front.journal
+      ∙ ap (λ (xs : List ℕ). xs ++ t.rest) (journal_more past.journal front.entries)
       ∙ append_assoc (journal_lines past.journal) (entries_from (1 + length past.journal) front.entries) t.rest in
       record {
         whole = Some whole;
@@ -215,13 +228,15 @@ module _ (text : List ℕ) (is_cut : Bool) (stage : Stage) (ending : Ending) (re
       (record { scenario = on.scenario ∙ same; more = on.more; events = on.events; entries = on.entries; journal = on.journal })
       (claims_of s all schedule on.whole on.past on.scenario) (at on.whole on.played)
 
-  on_from_start : (s : Scenario) (all : List Event) → IsSchedule s all → ((p : Past) → IsPlayedBy (stages.End s all) p p.stopped → IsPlayedBy stage p p.stopped) → Way text is_cut None
+  on_from_start : (s : Scenario) (all : List Event) → IsSchedule s all → ((p : Past) → IsPlayedBy (stages.End s all) p p.stopped → IsPlayedBy stage p p.stopped)
+      → Way text is_cut None
   on_from_start s all schedule at =
       let on = run_on s all schedule all [] [] (at_start (setting_of s)) Starts refl in
       first_way on.whole (claims_of s all schedule on.whole on.past on.scenario) (at on.whole on.played)
 
 -- a header that isn't whole is refused
-refused_header : (text : List ℕ) (is_cut : Bool) (stage : Stage) (ending : Ending) → HasNoWorld stage → (reading : IsReading text is_cut (record { stage = stage; ending = ending })) → Way text is_cut None
+refused_header : (text : List ℕ) (is_cut : Bool) (stage : Stage) (ending : Ending) → HasNoWorld stage
+    → (reading : IsReading text is_cut (record { stage = stage; ending = ending })) → Way text is_cut None
 refused_header text is_cut stage (endings.Refused line kind) none reading = record {
   whole = None;
   status = status_of None (endings.Refused line kind);
@@ -237,7 +252,8 @@ refused_header text is_cut stage endings.Whole none reading =
 
 -- ---- the lemma
 
-from_none : (text : List ℕ) (is_cut : Bool) (stage : Stage) (ending : Ending) → IsGoodStage stage → IsReading text is_cut (record { stage = stage; ending = ending }) → Way text is_cut None
+from_none : (text : List ℕ) (is_cut : Bool) (stage : Stage) (ending : Ending) → IsGoodStage stage
+    → IsReading text is_cut (record { stage = stage; ending = ending }) → Way text is_cut None
 from_none text is_cut (stages.Events s es) ending good reading =
     on_from_start text is_cut (stages.Events s es) ending reading s es good (λ p played. without_end s es p p.stopped played)
 from_none text is_cut (stages.End s es) ending good reading = on_from_start text is_cut (stages.End s es) ending reading s es good (λ p played. played)
@@ -245,12 +261,14 @@ from_none text is_cut stages.Start ending good reading = refused_header text is_
 from_none text is_cut (stages.Version format) ending good reading = refused_header text is_cut (stages.Version format) ending tt reading
 from_none text is_cut (stages.Seed format seed) ending good reading = refused_header text is_cut (stages.Seed format seed) ending tt reading
 from_none text is_cut (stages.Height format seed height) ending good reading = refused_header text is_cut (stages.Height format seed height) ending tt reading
-from_none text is_cut (stages.Bounds format seed height limits) ending good reading = refused_header text is_cut (stages.Bounds format seed height limits) ending tt reading
+from_none text is_cut (stages.Bounds format seed height limits) ending good reading =
+    refused_header text is_cut (stages.Bounds format seed height limits) ending tt reading
 from_none text is_cut (stages.Edges s) ending good reading = refused_header text is_cut (stages.Edges s) ending tt reading
 from_none text is_cut (stages.Bads s) ending good reading = refused_header text is_cut (stages.Bads s) ending tt reading
 from_none text is_cut (stages.Epochs s) ending good reading = refused_header text is_cut (stages.Epochs s) ending tt reading
 
-from_past : (text : List ℕ) (is_cut : Bool) (stage : Stage) (ending : Ending) → IsGoodStage stage → IsReading text is_cut (record { stage = stage; ending = ending })
+from_past : (text : List ℕ) (is_cut : Bool) (stage : Stage) (ending : Ending) → IsGoodStage stage
+    → IsReading text is_cut (record { stage = stage; ending = ending })
     → (past : Past) (more : List Event) → IsPast past → IsOf stage past.scenario (past.events ++ more) → Way text is_cut (Some past)
 from_past text is_cut (stages.Events s es) ending good reading past more is of =
     on_from text is_cut (stages.Events s es) ending reading s es good (λ p played. without_end s es p p.stopped played) past more is of.0 of.1
@@ -291,7 +309,8 @@ of_stage (stages.Bads t) s es of = absurd of
 of_stage (stages.Epochs t) s es of = absurd of
 
 -- Whatever follows what a feed has read, there is an output of the whole, and its run goes on from the past of the lines that were read.
-pub ways : (f : Fed) (past : Option Past) → ((more : List ℕ) (is_cut : Bool) → ReadsOn f more is_cut) → AreDone f.stage past → IfSome past IsPast → Ways (text_of f) past
+pub ways : (f : Fed) (past : Option Past) → ((more : List ℕ) (is_cut : Bool) → ReadsOn f more is_cut) → AreDone f.stage past → IfSome past IsPast
+    → Ways (text_of f) past
 ways f None reads done is more is_cut =
     let on = reads more is_cut in
     from_none (text_of f ++ more) is_cut on.reading.stage on.reading.ending (good_stage (text_of f ++ more) is_cut on.reading on.is) on.is

@@ -53,5 +53,6 @@ pub record LeavesOthers (past : Past) : Type 0 where
   pub frames : past.world.directions ≡ world.directions
   pub nodes : (u : NodeId) → u ≢ acting event → node_in past.world.nodes u ≡ node_in world.nodes u
 
+-- the law that a forgery leaves all events before it as they were
 abbrev pub ForgeriesLeaveOthers : Type 0
 ForgeriesLeaveOthers = (left : Option (List ℕ)) (past : Past) (number : ℕ) (what : What) → IsForgery left past number what → LeavesOthers past

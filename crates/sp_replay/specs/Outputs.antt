@@ -66,6 +66,7 @@ IsOfStage (stages.Events s es) t fs = (s ≡ t) × (es ≡ fs)
 IsOfStage (stages.End s es) t fs = (s ≡ t) × (es ≡ fs)
 IsOfStage _ t fs = ⊥
 
+-- no event has been read
 abbrev pub HasNoWorld : Stage → Type 0
 HasNoWorld (stages.Events s es) = ⊥
 HasNoWorld (stages.End s es) = ⊥
@@ -115,6 +116,7 @@ pub record RefusalOf (text : List ℕ) (past : Option Past) (line : ℕ) (kind :
   -- the text spells no schedule
   pub bad : (s : Scenario) (es : List Event) → Spells text s es → ⊥
 
+-- what is written for a text that is refused at this line
 abbrev pub IsRefusal : Option (List ℕ) → Option Past → ℕ → Kind → Type 0
 IsRefusal None past line kind = Unit {0}
 IsRefusal (Some text) past line kind = RefusalOf text past line kind
@@ -126,6 +128,7 @@ pub record ForgeryOf (text : List ℕ) (past : Past) (number : ℕ) (what : What
   pub reading : IsRead text stage ending
   pub forged : IsForgedIn stage past number what
 
+-- the next event is forged, and what of it
 abbrev pub IsForgery : Option (List ℕ) → Past → ℕ → What → Type 0
 IsForgery None past number what = (event : Event) × IsForgedNext past event number what
 IsForgery (Some text) past number what = ForgeryOf text past number what

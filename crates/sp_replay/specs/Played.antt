@@ -57,6 +57,7 @@ status_by None endings.Whole = statuses.Done
 status_by None (endings.Refused line kind) = statuses.Refused
 status_by (Some stopped) ending = statuses.Forged
 
+-- the status of a replay whose text ended so
 abbrev pub status_of : Option Past → Ending → Status
 status_of None ending = status_by None ending
 status_of (Some past) ending = status_by past.stopped ending

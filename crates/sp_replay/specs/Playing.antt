@@ -107,6 +107,7 @@ pub record IsSunkThere (front : List ℕ) (world : Option Past) (start after : O
   pub least : Appends start after (lines_but_last past.journal ++ rest)
   pub most : AppendsFront start after (journal_lines past.journal)
 
+-- where a replay halts among what it read
 abbrev pub HaltsThere : List ℕ → Option Past → Option (List ℕ) → Option (List ℕ) → Halt → Type 0
 HaltsThere front world start after (halts.Read ending) = IsReadThere front world start after ending
 HaltsThere front world start after halts.Forged = IsForgedThere front world start after
@@ -140,6 +141,7 @@ pub record WritesLast (journal : List Entry) (before after : Option (List ℕ)) 
   pub is : journal ≡ first ++ entry ∷ []
   pub holds : Holds (entry_text (length first + 1) entry)
 
+-- the last line of a journal is written, or why not
 abbrev pub NotesLast : {T : Type 0} → List Entry → Option (List ℕ) → Option (List ℕ) → Result T Halt → Type 0
 NotesLast journal before after (Ok done) = WritesLast journal before after (Appends before after)
 NotesLast journal before after (Err halts.Sink) = WritesLast journal before after (AppendsFront before after)
@@ -185,6 +187,7 @@ pub record IsSunkTo (left : Option (List ℕ)) (world : Option Past) (before aft
   pub buffers : IfSome world HasBuffers
   pub sunk : IsSunk left world before after
 
+-- where a replay halts, by what is left of its text
 abbrev pub HaltsAt : Option (List ℕ) → Option (List ℕ) → Option Past → Option (List ℕ) → Option (List ℕ) → Halt → Type 0
 HaltsAt left rest world before after (halts.Read ending) = IsReadTo left world before after ending
 HaltsAt left rest world before after halts.Forged = IsForgedTo left world before after
@@ -194,11 +197,13 @@ HaltsAt left rest world before after halts.Source = IsBegunTo left world before 
 
 -- ---- the last line
 
+-- the last line of a replay whose text ended so
 abbrev pub line_at : Option Past → Ending → List ℕ
 line_at None endings.Whole = []
 line_at (Some past) endings.Whole = line_text (summary_words past.journal)
 line_at world (endings.Refused line kind) = refused_line line kind
 
+-- the last line of a run that stopped
 abbrev pub line_of_stop : Option WorldRefused → List ℕ
 line_of_stop None = []
 line_of_stop (Some (stops.Forged number what)) = forged_line number what
@@ -210,6 +215,7 @@ line_after (halts.Read ending) world = line_at world ending
 line_after halts.Forged (Some past) = line_of_stop past.stopped
 line_after _ world = []
 
+-- the status of a replay that halts so
 abbrev pub status_at : Halt → Status
 status_at (halts.Read endings.Whole) = statuses.Done
 status_at (halts.Read (endings.Refused line kind)) = statuses.Refused
@@ -248,6 +254,7 @@ SinkCounts halts.Forged before after = after ≡ before
 SinkCounts halts.Source before after = after ≡ before
 SinkCounts halts.Memory before after = after ≡ before
 
+-- a fault of the sink counts where that is why a replay halts
 abbrev pub SinkCountsIn : {T : Type 0} → Result T Halt → ℕ → ℕ → Type 0
 SinkCountsIn (Ok done) before after = after ≡ before
 SinkCountsIn (Err halt) before after = SinkCounts halt before after

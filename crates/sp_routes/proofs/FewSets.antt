@@ -46,7 +46,8 @@ apart s t other same = other (ap (λ (n : ℕ). record { 0 = n }) same)
 small_at : (g : Graph) (s : NodeId) (set : KeptSet) → g.nodes ≤ MAX_NODES_2 → IsAnswer g s set → seat_of s set < 248
 small_at g s set nodes is =
     let ends = is.2.ends in
-    seat_small s.0 set.destination.0 set.count ends.0.0 (omega (arith, ends.0.1, nodes)) ends.1.0 (omega (arith, ends.1.1, nodes)) (apart s set.destination ends.2) is.0 is.1
+    seat_small s.0 set.destination.0 set.count ends.0.0 (omega (arith, ends.0.1, nodes)) ends.1.0 (omega (arith, ends.1.1, nodes))
+    (apart s set.destination ends.2) is.0 is.1
 
 differ_at : (g : Graph) (s : NodeId) (set later : KeptSet) → IsAnswer g s set → IsAnswer g s later → is_for later.destination later.count set ≡ false
     → seat_of s set ≢ seat_of s later

@@ -1,5 +1,6 @@
 -- The flags of the nodes that steps join, and the mask of the edges between these.
-use Rattle.std.proofs.Common.{◌≡◌, ◌≢◌, ◌⊎◌, ℕ, ◌+◌, ◌-◌, ◌==◌, ◌||◌, ◌<◌, ◌≤◌, ◌^◌, inl, inr, Bool, true, false, Some, None, List, [], ◌∷◌, length, drop, take, refl, sym, ap, subst, ◌∙◌, arith}
+use Rattle.std.proofs.Common.{◌≡◌, ◌≢◌, ◌⊎◌, ℕ, ◌+◌, ◌-◌, ◌==◌, ◌||◌, ◌<◌, ◌≤◌, ◌^◌, inl, inr, Bool, true, false, Some, None, List, [], ◌∷◌, length, drop, take}
+use Rattle.std.proofs.Common.{refl, sym, ap, subst, ◌∙◌, arith}
 use Rattle.std.specs.Prelude.{slice_get, slice_index_or}
 use Rattle.std.specs.List.{All}
 use Rattle.std.specs.Int.RustNames.{bit_or}
@@ -62,7 +63,8 @@ pub next_step : (old now next : List Bool) (rest path : List NodeId) (d f : Node
 next_step old now next [] path d f long so_far adds = absurd (omega (arith, long))
 next_step old now next (u ∷ []) path d f long so_far adds = absurd (omega (arith, long))
 next_step old now next (u ∷ v ∷ more) path d f long so_far adds =
-    rw (take_rest (u ∷ v ∷ more)) (one_added old now next (λ e. is_walked e (u ∷ v ∷ more)) (is_between u v) (λ e. is_walked e (v ∷ more)) (λ e. is_walked e path)
+    rw (take_rest (u ∷ v ∷ more))
+    (one_added old now next (λ e. is_walked e (u ∷ v ∷ more)) (is_between u v) (λ e. is_walked e (v ∷ more)) (λ e. is_walked e path)
     so_far (step_split u v more) adds)
 
 -- ---- the mask

@@ -39,7 +39,8 @@ more_open place (suc n) (w ∷ least) inside =
     go true is rest = rw is rest
     go false is rest = rw is (omega (arith, rest))
 
-pub edge_open : (least : List ℕ) (n mask : ℕ) → n < length least → IsOpenTo least n mask → is_shut least n ≡ false → IsOpenTo least (n + 1) (bit_or mask (2 ^ n))
+pub edge_open : (least : List ℕ) (n mask : ℕ) → n < length least → IsOpenTo least n mask → is_shut least n ≡ false
+    → IsOpenTo least (n + 1) (bit_or mask (2 ^ n))
 edge_open least n mask inside so_far open_ =
     let sum : bit_or mask (2 ^ n) ≡ 2 ^ n + mask =
     or_comm mask (2 ^ n) ∙ ap (λ (k : ℕ). bit_or k mask) (let e : 2 ^ n ≡ 1 * 2 ^ n = omega arith in e) ∙ or_shifted 1 n mask so_far.small

@@ -1,5 +1,6 @@
 -- A topology without its withdrawn edges is a graph in its ranges, where the weights that are in effect are.
-use Rattle.std.proofs.Common.{◌≡◌, ◌<◌, ◌≤◌, ℕ, zero, suc, ◌+◌, max, inl, inr, Bool, true, false, cond, List, [], ◌∷◌, ◌++◌, append_assoc, drop, drop-cons, length, map, refl, sym, ap, ◌∙◌, arith}
+use Rattle.std.proofs.Common.{◌≡◌, ◌<◌, ◌≤◌, ℕ, zero, suc, ◌+◌, max, inl, inr, Bool, true, false, cond, List, [], ◌∷◌, ◌++◌, append_assoc, drop, drop-cons}
+use Rattle.std.proofs.Common.{length, map, refl, sym, ap, ◌∙◌, arith}
 use Rattle.std.specs.Prelude.{◌==◌, ◌||◌, slice_index_or}
 use Rattle.std.specs.List.{All, AllPairs}
 use Rattle.std.proofs.lemmas.Bool.{eqb-true}
@@ -44,7 +45,8 @@ room_for : (format : ℕ) (height : LmsHeight) (before : ℕ) (nodes : List Node
 room_for format height before [] are = omega arith
 room_for format height before (n ∷ nodes) are = let rest = room_for format height n.id.0 nodes are.2 in omega (arith, rest, are.0)
 
-greatest_small : (format : ℕ) (height : LmsHeight) (before : ℕ) (nodes : List NodeKey) → AreNodes format height before nodes → greatest_id nodes ≤ max_nodes format
+greatest_small : (format : ℕ) (height : LmsHeight) (before : ℕ) (nodes : List NodeKey) → AreNodes format height before nodes
+    → greatest_id nodes ≤ max_nodes format
 greatest_small format height before [] are = omega arith
 greatest_small format height before (n ∷ nodes) are = let rest = greatest_small format height n.id.0 nodes are.2 in omega (arith, rest, are.0)
 
@@ -118,17 +120,22 @@ few_left w place (e ∷ edges) = go (is_withdrawn w place) (few_left w (place + 
 -- the topology under these weights is a graph in its ranges
 pub graph_good : (t : Topology) (w : WeightState) → IsRunnable t → ((edge : ℕ) → effective w edge ≤ MAX_WEIGHT) → IsGraph (graph_of t w)
 graph_good t w good small =
-    let known : (id : ℕ) → has_id id (ids_of t.nodes) ≡ true → (0 < id) × (id ≤ greatest_id t.nodes) = λ id is. id_in t.format t.height 0 t.nodes id good.ranges.nodes is in
+    let known : (id : ℕ) → has_id id (ids_of t.nodes) ≡ true → (0 < id) × (id ≤ greatest_id t.nodes) =
+    λ id is. id_in t.format t.height 0 t.nodes id good.ranges.nodes is in
     let left = edges_left t.format (greatest_id t.nodes) (ids_of t.nodes) w 0 (0, 0) t.edges known small good.ranges.graph.are_edges in
     record {
-      nodes = (omega (arith, room_for t.format t.height 0 t.nodes good.ranges.nodes, good.ranges.graph.node_count), omega (arith, greatest_small t.format t.height 0 t.nodes good.ranges.nodes, few_nodes t.format));
+      nodes = (
+        omega (arith, room_for t.format t.height 0 t.nodes good.ranges.nodes, good.ranges.graph.node_count),
+        omega (arith, greatest_small t.format t.height 0 t.nodes good.ranges.nodes, few_nodes t.format),
+      );
       few = omega (arith, few_left w 0 t.edges, good.ranges.graph.edge_count, few_edges t.format);
       edges = left.edges;
       ascend = left.ascend;
     }
 
 -- both ends of each edge of a topology have flags
-ends_flagged : (format : ℕ) (ids : List ℕ) (before : ℕ × ℕ) (edges : List Edge) → ((id : ℕ) → has_id id ids ≡ true → id < IDS) → AreEdges format ids before edges
+ends_flagged : (format : ℕ) (ids : List ℕ) (before : ℕ × ℕ) (edges : List Edge) → ((id : ℕ) → has_id id ids ≡ true → id < IDS)
+    → AreEdges format ids before edges
     → All HasFlag edges
 ends_flagged format ids before [] known are = λ k d inside. absurd (omega (arith, inside))
 ends_flagged format ids before (e ∷ edges) known are =

@@ -12,6 +12,7 @@ use Rattle.sp_paths.specs.declared.limits.TheConstants.{MAX_PATHS}
 abbrev pub no_set : KeptSet
 no_set = record { destination = record { 0 = 0 }; count = 0; paths = [] }
 
+-- the set at a place
 abbrev pub set_at : List KeptSet → ℕ → KeptSet
 set_at sets place = slice_index_or sets place no_set
 

@@ -35,7 +35,8 @@ fn open_edges(weights: &Weights) -> Mask
 }
 
 /// The edges that a message from one node to another takes under the weights that are in effect: those of so many paths that share no node,
-/// of which no others cost less. 0 paths mean all edges that aren't withdrawn, and no memory is taken then. The book keeps the paths for the next call under these weights.
+/// of which no others cost less. 0 paths mean all edges that aren't withdrawn, and no memory is taken then. The book keeps the paths for the next call under
+/// these weights.
 ///
 /// `Fewer` only where there are no so many paths: how many there are. `Memory` may come in place of both.
 pub fn mask_to(

@@ -1,5 +1,6 @@
 -- What a choice by an order gives: it goes on from element to element, and none goes before it. What is left without the first that passes.
-use Rattle.std.proofs.Common.{◌≡◌, ◌<◌, ℕ, zero, suc, ◌+◌, Bool, true, false, List, [], ◌∷◌, ◌++◌, length, get_or, Option, Some, None, refl, sym, ap, subst, ◌∙◌, arith, cond, nat_lt}
+use Rattle.std.proofs.Common.{◌≡◌, ◌<◌, ℕ, zero, suc, ◌+◌, Bool, true, false, List, [], ◌∷◌, ◌++◌, length, get_or, Option, Some, None, refl, sym, ap, subst}
+use Rattle.std.proofs.Common.{◌∙◌, arith, cond, nat_lt}
 use Rattle.std.specs.Prelude.{Contains, find, position}
 use Rattle.std.specs.List.{position_or_len, range_with_len, remove}
 use Rattle.std.proofs.lemmas.Bool.Decides.{nat_tests}
@@ -51,6 +52,7 @@ abbrev pub with_last : {X : Type 0} → (X → X → Bool) → Option X → X �
 with_last R None y = y
 with_last R (Some b) y = sooner R b (Some y)
 
+-- one more item is the first in an order where it comes before the first of the others
 pub first_by_push : {X : Type 0} (R : X → X → Bool) → IsOrder R → (xs : List X) (y : X) → first_by R (xs ++ y ∷ []) ≡ Some (with_last R (first_by R xs) y)
 first_by_push R order [] y = refl
 first_by_push {X} R order (x ∷ xs) y = go (first_by R xs) refl (first_by_push R order xs y)
@@ -134,6 +136,7 @@ none_before {X} R order (x ∷ xs) b d is k inside = go (first_by R xs) refl (λ
 
 -- ---- a range of numbers
 
+-- a range that is one longer has its last number more
 pub range_push : (first count : ℕ) → range_with_len first (count + 1) ≡ range_with_len first count ++ (first + count) ∷ []
 range_push first zero = ap (λ (n : ℕ). n ∷ []) (let e : first ≡ first + 0 = omega arith in e)
 range_push first (suc count) =
@@ -153,6 +156,7 @@ less_first_at {X} test (x ∷ xs) (suc i) d first =
       before = λ k below. first.before (suc k) (omega arith);
     })))
 
+-- taking away the first that passes removes the item at its place
 pub less_first-position : {X : Type 0} (test : X → Bool) (xs : List X) (i : ℕ) → position test xs ≡ Some i → less_first test xs ≡ remove xs i
 less_first-position test [] i at = absurd (cc)
 less_first-position test (x ∷ xs) i at = less_first_at test (x ∷ xs) i x (is_first test (x ∷ xs) i x at)
@@ -181,6 +185,7 @@ none_passes test x xs none = (fails, rw past refl)
     past : nat_lt (position_or_len test xs) (length xs) ≡ false
     past = let e : length xs < position_or_len test (x ∷ xs) = long in let f = same in grind (arith, nat_tests)
 
+-- where nothing passes nothing is found
 pub find-no_position : {X : Type 0} (test : X → Bool) (xs : List X) → position test xs ≡ None → find test xs ≡ None
 find-no_position test [] none = refl
 find-no_position test (x ∷ xs) none = let rest = none_passes test x xs none in rw rest.0 (find-no_position test xs rest.1)

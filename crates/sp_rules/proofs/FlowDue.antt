@@ -1,5 +1,6 @@
 -- The acknowledgement that is due: its flow ends here, and something came of it.
-use Rattle.std.proofs.Common.{◌≡◌, ◌<◌, ◌≤◌, ℕ, ◌+◌, ◌==◌, ◌&&◌, Bool, true, false, List, length, map, drop, get_or, Option, Some, None, refl, sym, ap, ◌∙◌, subst, arith, nat_lt, length-drop}
+use Rattle.std.proofs.Common.{◌≡◌, ◌<◌, ◌≤◌, ℕ, ◌+◌, ◌==◌, ◌&&◌, Bool, true, false, List, length, map, drop, get_or, Option, Some, None, refl, sym, ap, ◌∙◌}
+use Rattle.std.proofs.Common.{subst, arith, nat_lt, length-drop}
 use Rattle.std.specs.List.{position, slice_get}
 use Rattle.std.specs.Option.{option_and_then, option_map}
 use Rattle.std.proofs.lemmas.List.{get_or-map, length-map, get_or-drop}
@@ -55,6 +56,7 @@ both_true : (a b : Bool) → (a && b) ≡ true → a ≡ true
 both_true true b e = refl
 both_true false b e = absurd (cc)
 
+-- the flow in whose place an acknowledgement is due has one due
 pub is_due_at : (r : RelState) (place : ℕ) (f : FlowState) → due_place r ≡ Some place → slice_get r.flows place ≡ Some f → is_due r.me f ≡ true
 is_due_at r place f turn there =
     let on = next_is_on r.signed place (map (is_due r.me) r.flows) turn in
@@ -99,6 +101,7 @@ conclude_at r flow end some standing =
       sound = s.sound;
     }
 
+-- where an acknowledgement is due, its flow can be concluded with it
 pub can_conclude : (r : RelState) (body : Body) → option_map bodies.Ack (due r) ≡ Some (plain body) → FitsAFormat body → AreStanding r
     → CanConclude r.me (flow_in r.flows (flow_said body))
 can_conclude r body is good standing = go (option_and_then (flow_at r.flows) (due_place r)) refl is

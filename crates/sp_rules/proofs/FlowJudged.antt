@@ -1,5 +1,6 @@
 -- What a judgement says of a flow: why it may change where the answer was that a message is new, or next.
-use Rattle.std.proofs.Common.{◌≡◌, ◌≤◌, ℕ, ◌+◌, ◌==◌, ◌&&◌, Bool, true, false, List, [], ◌∷◌, length, Result, Ok, Err, refl, sym, ap, ◌∙◌, subst, arith, cond, not, nat_le, nat_lt}
+use Rattle.std.proofs.Common.{◌≡◌, ◌≤◌, ℕ, ◌+◌, ◌==◌, ◌&&◌, Bool, true, false, List, [], ◌∷◌, length, Result, Ok, Err, refl, sym, ap, ◌∙◌, subst, arith, cond}
+use Rattle.std.proofs.Common.{not, nat_le, nat_lt}
 use Rattle.std.proofs.lemmas.Bool.Decides.{nat_tests}
 use Rattle.sp_base.specs.declared.id.Flow.{Flow}
 use Rattle.sp_base.specs.declared.id.NodeId.{NodeId}
@@ -11,7 +12,8 @@ use Rattle.sp_msg.specs.declared.body.Body.TheVariants as bodies
 use Rattle.sp_msg.specs.declared.kept.Kept.{Kept}
 use Rattle.sp_rules.specs.Changes.{CanAcknowledge, CanPush, CanReceive, FitsAFormat}
 use Rattle.sp_rules.specs.Flow.{FlowState, IsMessage, IsReliable, ends, flow_said, is_flow, is_full, number_said}
-use Rattle.sp_rules.specs.Rel.{IsNextOwn, RelState, are_ends, flow_in, is_from, is_node, is_to, judge_ack, judge_ack_of, judge_rel, judge_rel_of, own_flow, plain_ack, room}
+use Rattle.sp_rules.specs.Rel.{IsNextOwn, RelState, are_ends, flow_in, is_from, is_node, is_to, judge_ack, judge_ack_of, judge_rel, judge_rel_of, own_flow}
+use Rattle.sp_rules.specs.Rel.{plain_ack, room}
 use Rattle.sp_rules.specs.declared.rel.AckJudged.{AckJudged}
 use Rattle.sp_rules.specs.declared.rel.AckJudged.TheVariants as acks
 use Rattle.sp_rules.specs.declared.rel.RelJudged.{RelJudged}
@@ -20,6 +22,7 @@ use Rattle.sp_rules.specs.declared.rel.RelRefused.{RelRefused}
 
 -- ---- the flow that is read has these ends
 
+-- a flow that passes for these ends has them
 pub same_ends : (f : FlowState) (flow : Flow) → is_flow flow f ≡ true → ends f ≡ flow
 same_ends f flow e = go (f.src.0 == flow.src.0) refl (f.dst.0 == flow.dst.0) refl e
   where
@@ -31,6 +34,7 @@ same_ends f flow e = go (f.src.0 == flow.src.0) refl (f.dst.0 == flow.dst.0) ref
     go true s false d both = absurd (cc)
     go false s d is both = absurd (cc)
 
+-- the state of a flow has that flow's ends, also where there is none yet
 pub found_ends : (flows : List FlowState) (flow : Flow) → ends (flow_in flows flow) ≡ flow
 found_ends [] flow = refl
 found_ends (f ∷ flows) flow = go (is_flow flow f) refl (found_ends flows flow)
@@ -97,7 +101,8 @@ same_flow r flow src dst e = go (src.0 == flow.src.0) refl (dst.0 == flow.dst.0)
 pub both_nodes : (r : RelState) (flow : Flow) (src dst : NodeId) → are_ends r flow src dst ≡ true → (is_node r src ≡ true) × (is_node r dst ≡ true)
 both_nodes r flow src dst e = go (src.0 == flow.src.0) (dst.0 == flow.dst.0) (not (src.0 == dst.0)) (is_node r src) refl (is_node r dst) refl e
   where
-    go : (a b c d : Bool) → is_node r src ≡ d → (f : Bool) → is_node r dst ≡ f → (a && b && c && d && f) ≡ true → (is_node r src ≡ true) × (is_node r dst ≡ true)
+    go : (a b c d : Bool) → is_node r src ≡ d → (f : Bool) → is_node r dst ≡ f → (a && b && c && d && f) ≡ true
+        → (is_node r src ≡ true) × (is_node r dst ≡ true)
     go true true true true one true two all = (one, two)
     go true true true true one false two all = absurd (cc)
     go true true true false one f two all = absurd (cc)
@@ -148,6 +153,7 @@ room_is r dst number is =
     let same : f.at.have + 1 ≡ number = cc in
     (not_true (are_ends r (own_flow r dst) r.me dst) there.0, sym same)
 
+-- a message of this node with the next number can be pushed
 pub can_push_own : (r : RelState) (m : Kept) → IsNextOwn r m.body → FitsAFormat m.body → CanPush r.me r.bound (flow_in r.flows (flow_said m.body)) m
 can_push_own r m next good = go m.body refl next (small_number m.body good)
   where
@@ -185,6 +191,7 @@ pub record IsNewRel (r : RelState) (flow : Flow) (src dst : NodeId) (seq : ℕ) 
 next_number : (seq have : ℕ) → nat_le seq have ≡ false → nat_lt (have + 1) seq ≡ false → seq ≡ have + 1
 next_number seq have above near = grind (arith, nat_tests)
 
+-- a reliable message that is judged new meets what is asked of one
 pub new_rel : (r : RelState) (flow : Flow) (src dst : NodeId) (seq : ℕ) → judge_rel r flow src dst seq ≡ rels.New → IsNewRel r flow src dst seq
 unfolding is_new_rel
 new_rel r flow src dst seq new =
@@ -240,6 +247,7 @@ new_is_reliable r flow (bodies.Weight b) new = absurd (cc)
 new_is_reliable r flow (bodies.Kack b) new = absurd (cc)
 new_is_reliable r flow (bodies.Epoch b) new = absurd (cc)
 
+-- a message that is new at its destination can be received
 pub can_receive : (r : RelState) (body : Body) → judge_rel_of r (flow_said body) body ≡ rels.New → FitsAFormat body
     → is_to r (flow_said body) ≡ true → CanReceive r.me r.bound (flow_in r.flows (flow_said body))
 can_receive r body new good here = go body new here (small_number body good)
@@ -258,6 +266,7 @@ can_receive r body new good here = go body new here (small_number body good)
     go (bodies.Kack b) new here small = absurd (cc)
     go (bodies.Epoch b) new here small = absurd (cc)
 
+-- a message that is new on its way can be pushed
 pub can_push : (r : RelState) (m : Kept) → judge_rel_of r (flow_said m.body) m.body ≡ rels.New → FitsAFormat m.body
     → is_to r (flow_said m.body) ≡ false → CanPush r.me r.bound (flow_in r.flows (flow_said m.body)) m
 can_push r m new good elsewhere = go m.body refl new elsewhere (small_number m.body good)
@@ -288,6 +297,7 @@ pub record IsNewAck (r : RelState) (flow : Flow) (a : Ack) : Type 0 where
   pub sent : (is_from r flow && nat_lt (flow_in r.flows flow).at.have a.seq) ≡ false
   pub relay : is_to r flow ≡ false
 
+-- an acknowledgement that is judged new meets what is asked of one
 pub new_ack : (r : RelState) (flow : Flow) (a : Ack) → judge_ack r flow a ≡ acks.New → IsNewAck r flow a
 unfolding is_new_ack
 new_ack r flow a new =
@@ -298,6 +308,7 @@ new_ack r flow a new =
     let four = ack_passes (is_to r flow) acks.Ahead acks.New refl three.1 in
     record { ends = not_true (are_ends r flow a.src a.dst) one.0; sent = three.0; relay = four.0 }
 
+-- an acknowledgement that is judged new can be taken by its flow
 pub can_acknowledge : (r : RelState) (ack : Kept) → judge_ack_of r (flow_said ack.body) ack.body ≡ acks.New → FitsAFormat ack.body
     → CanAcknowledge r.me (flow_in r.flows (flow_said ack.body)) ack
 can_acknowledge r ack new good = record { relay = go ack.body new; small = small_number ack.body good }

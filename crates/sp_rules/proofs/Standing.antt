@@ -24,6 +24,7 @@ messages_left flow after zero ms are = subst (λ (n : ℕ). AreMessages flow n m
 messages_left flow after (suc k) [] are = tt
 messages_left flow after (suc k) (x ∷ ms) are = subst (λ (n : ℕ). AreMessages flow n (drop k ms)) (omega arith) (messages_left flow (after + 1) k ms are.1)
 
+-- a flow of which nothing was heard stands
 pub standing_at_start : (me : NodeId) (bound : ℕ) (flow : Flow) → IsStanding me bound (no_flow flow)
 standing_at_start me bound flow = record {
   sound = omega arith;
@@ -36,6 +37,7 @@ standing_at_start me bound flow = record {
   idle = λ _. refl;
 }
 
+-- a flow that stands does so after a push
 pub standing_pushed : (me : NodeId) (bound : ℕ) (f : FlowState) (m : Kept) → IsStanding me bound f → (f.dst.0 == me.0) ≡ false
     → is_full bound f ≡ false → f.at.have < MAX_SEQ
     → IsMessage (ends f) (f.at.have + 1) m.body → IsStanding me bound (pushed f m)
@@ -52,6 +54,7 @@ standing_pushed me bound f m s relay room small next =
       idle = λ off. absurd (cc);
     }
 
+-- a flow that stands does so after a message was received
 pub standing_received : (me : NodeId) (bound : ℕ) (f : FlowState) (payload : List ℕ) → IsStanding me bound f → (f.dst.0 == me.0) ≡ true
     → is_full bound f ≡ false
     → (length f.inbox == bound) ≡ false → f.at.have < MAX_SEQ → IsStanding me bound (received f payload)
@@ -66,6 +69,7 @@ standing_received me bound f payload s end room waiting small = record {
   idle = λ off. absurd (cc);
 }
 
+-- a flow that stands does so after an acknowledgement was taken
 pub standing_acknowledged : (me : NodeId) (bound : ℕ) (f : FlowState) (ack : Kept) → IsStanding me bound f → (f.dst.0 == me.0) ≡ false
     → number_said ack.body ≤ MAX_SEQ
     → IsStanding me bound (acknowledged_by f ack)
@@ -91,6 +95,7 @@ nothing_left k ms none = rw none (empty k)
     empty zero = refl
     empty (suc k) = refl
 
+-- a flow that stands does so after its acknowledgement was signed
 pub standing_concluded : (me : NodeId) (bound : ℕ) (f : FlowState) (ack : Kept) → IsStanding me bound f → (f.dst.0 == me.0) ≡ true
     → f.active ≡ true → IsStanding me bound (concluded f ack)
 standing_concluded me bound f ack s end active =
@@ -106,6 +111,7 @@ standing_concluded me bound f ack s end active =
       idle = λ off. absurd (let e = rw active at off in cc);
     }
 
+-- a flow that stands does so after a client took a message
 pub standing_taken : (me : NodeId) (bound : ℕ) (f : FlowState) → IsStanding me bound f → IsStanding me bound (after_take f)
 standing_taken me bound f s = record {
   sound = s.sound;

@@ -7,10 +7,12 @@ use Rattle.sp_rules.specs.Told.{told}
 caused : List Effect → ℕ → Caused
 caused list room = record { list = list; room = room }
 
+-- telling nothing changes nothing
 pub told_none : (c : Caused) → told c [] ≡ c
 unfolding caused
 told_none c = ap (λ (es : List Effect). caused es (c.room - 0)) (append-nil c.list) ∙ ap (caused c.list) (let e : c.room - 0 ≡ c.room = omega arith in e)
 
+-- telling twice tells all in order
 pub told_both : (c : Caused) (xs ys : List Effect) → told (told c xs) ys ≡ told c (xs ++ ys)
 unfolding caused
 told_both c xs ys =

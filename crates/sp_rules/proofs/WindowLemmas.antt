@@ -28,7 +28,8 @@ in_filter p (y ∷ ys) x = in_more (p y) y x (filter p ys) ∙ go (y == x) refl 
     there true b = refl
     there false b = refl
 
-    go : (t : Bool) → (y == x) ≡ t → is_in x (filter p ys) ≡ (p x && is_in x ys) → ((p y && (y == x)) || is_in x (filter p ys)) ≡ (p x && ((y == x) || is_in x ys))
+    go : (t : Bool) → (y == x) ≡ t → is_in x (filter p ys) ≡ (p x && is_in x ys)
+        → ((p y && (y == x)) || is_in x (filter p ys)) ≡ (p x && ((y == x) || is_in x ys))
     go true is rest =
         let same : y ≡ x = grind (arith, nat_tests) in
         rw (is, rest, same) (here (p x) (is_in x ys))
@@ -110,6 +111,7 @@ greatest_put q (m ∷ ms) = go (nat_lt q m) (m == q) refl refl (greatest_put q m
     go false true less same rest = let is : m ≡ q = grind (arith, nat_tests) in omega (arith, is)
     go false false less same rest = omega (arith, rest)
 
+-- the greatest mark after one more is the greater of both
 pub greatest_mark : (ms : List ℕ) (q : ℕ) → greatest (with_mark ms q) ≡ max q (greatest ms)
 greatest_mark ms q =
     let top = max q (greatest ms) in
@@ -124,6 +126,7 @@ abbrev pub Ascends : List ℕ → Type 0
 Ascends [] = Unit {0}
 Ascends (x ∷ xs) = ((y : ℕ) → is_in y xs ≡ true → x < y) × Ascends xs
 
+-- what is left of an ascending list ascends
 pub filter_ascends : (p : ℕ → Bool) (xs : List ℕ) → Ascends xs → Ascends (filter p xs)
 filter_ascends p [] up = tt
 filter_ascends p (x ∷ xs) up = go (p x) (filter_ascends p xs up.1)
@@ -139,6 +142,7 @@ filter_ascends p (x ∷ xs) up = go (p x) (filter_ascends p xs up.1)
     go true rest = (λ y is. up.0 y (passed y is), rest)
     go false rest = rest
 
+-- an ascending list does so with one more number put in its place
 pub put_ascends : (q : ℕ) (ms : List ℕ) → Ascends ms → Ascends (put_in q ms)
 put_ascends q [] up = (λ y is. absurd (cc), tt)
 put_ascends q (m ∷ ms) up = go (nat_lt q m) (m == q) refl refl (put_ascends q ms up.1)

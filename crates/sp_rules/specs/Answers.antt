@@ -30,18 +30,21 @@ weight_answer right (offers.Low least) = weight.Low least
 weight_answer right (offers.Old held) = weight.Old held
 weight_answer right offers.New = if right then weight.New else weight.BadSig
 
+-- a priority message is answered by its end first, then by its date, and by its signature where it could be new
 abbrev pub prio_answer : (right dated : Bool) → PrioJudged → PrioAnswer
 prio_answer right dated prios.BadEnd = prio.BadEnd
 prio_answer right dated prios.Expired = if dated then prio.Expired else prio.Epoch
 prio_answer right dated prios.Seen = if dated then prio.Seen else prio.Epoch
 prio_answer right dated prios.New = if not dated then prio.Epoch else if right then prio.New else prio.BadSig
 
+-- an acknowledgement is answered by its end first, then by its date, and by its signature where it could be new
 abbrev pub ack_answer : (right dated : Bool) → AckJudged → AckAnswer
 ack_answer right dated acks.BadEnd = ack.BadEnd
 ack_answer right dated acks.Old = if dated then ack.Old else ack.Epoch
 ack_answer right dated acks.Ahead = if dated then ack.Ahead else ack.Epoch
 ack_answer right dated acks.New = if not dated then ack.Epoch else if right then ack.New else ack.BadSig
 
+-- a reliable message is answered by its end first, then by its date, and by its signature where it could be new
 abbrev pub rel_answer : (right dated : Bool) → RelJudged → RelAnswer
 rel_answer right dated rels.BadEnd = rel.BadEnd
 rel_answer right dated rels.Old = if dated then rel.Old else rel.Epoch
@@ -51,11 +54,13 @@ rel_answer right dated rels.Full = if dated then rel.Full else rel.Epoch
 rel_answer right dated rels.InboxFull = if dated then rel.InboxFull else rel.Epoch
 rel_answer right dated rels.New = if not dated then rel.Epoch else if right then rel.New else rel.BadSig
 
+-- an Epoch object is answered by its origin first, then by its boot, and by its signature where it could be new
 abbrev pub epoch_answer : Bool → EpochJudged → EpochAnswer
 epoch_answer right lives.BadEnd = epoch.BadEnd
 epoch_answer right lives.Old = epoch.Old
 epoch_answer right lives.New = if right then epoch.New else epoch.BadSig
 
+-- whether an object was taken
 abbrev pub is_new : Item → Bool
 is_new (items.Weight weight.New) = true
 is_new (items.Prio prio.New) = true

@@ -42,6 +42,7 @@ no_frame (Err frames.Magic) = Some replies.Magic
 no_frame (Err frames.Version) = Some replies.Version
 no_frame (Ok frame) = None
 
+-- what ends a frame that isn't fresh
 abbrev pub not_fresh : LinkAnswer → Option LinkReply
 not_fresh answers.NotForMe = Some replies.NotForMe
 not_fresh answers.BadTag = Some replies.BadTag
@@ -54,6 +55,7 @@ abbrev pub not_read : (mine theirs : ℕ) → (documents : Bool) → Result Cont
 not_read mine theirs documents sections =
     if not (theirs == mine) && not documents then Some (replies.OtherTopology theirs) else option_map replies.Section (result_err sections)
 
+-- the document of sections that could be read
 abbrev pub document_in : Result Contents SectionRefused → Option (List ℕ)
 document_in (Ok contents) = contents.document
 document_in (Err refused) = None
@@ -68,6 +70,7 @@ not_taken mine theirs documents sections shut = or_else (not_read mine theirs do
 
 -- ---- what becomes of a datagram
 
+-- what the link says of a frame
 abbrev pub link_says : Arts → Link → List ℕ → LinkAnswer
 link_says arts l bytes = link_answer l (arts.head bytes) (is_right arts l.key bytes)
 
@@ -79,6 +82,7 @@ sections_in arts f bytes = arts.sections f.signature_len bytes
 abbrev pub or_fresh : Option LinkReply → LinkReply
 or_fresh told = unwrap_or told replies.Fresh
 
+-- what a datagram is to the node: the first test that it fails, or fresh
 abbrev pub reply_at : Arts → NodeState → NodeId → List ℕ → LinkReply
 reply_at arts n v bytes =
     or_fresh
@@ -95,6 +99,7 @@ link_after arts n v bytes =
 abbrev pub has_risen : (old new : Link) → Bool
 has_risen old new = nat_lt old.peer_boot new.peer_boot
 
+-- whether a datagram tells a later start of the neighbour
 abbrev pub rises : Arts → NodeState → NodeId → List ℕ → Bool
 rises arts n v bytes = has_risen (link_in n v) (link_after arts n v bytes)
 
@@ -121,6 +126,7 @@ version_after arts n v bytes =
     let h = arts.head bytes in
     kept_version n.fixed.epochs (rises arts n v bytes) (h.boot == (link_in n v).peer_boot) (version_of n v) h.topology
 
+-- the versions that were heard, with what this datagram tells
 abbrev pub heard_after : Arts → NodeState → NodeId → List ℕ → List Heard
 heard_after arts n v bytes = if is_told arts n v bytes then with_version n.heard v (version_after arts n v bytes) else n.heard
 
@@ -135,6 +141,7 @@ abbrev pub pieces_beside : Option (List ℕ) → List Piece → List Piece
 pieces_beside None pieces = pieces
 pieces_beside (Some document) pieces = []
 
+-- the pieces of sections that could be read
 abbrev pub pieces_in : Fixed → Result Contents SectionRefused → List Piece
 pieces_in f (Ok contents) = pieces_beside contents.document (pieces_of (heeded f contents))
 pieces_in f (Err refused) = []
@@ -144,6 +151,7 @@ abbrev pub pieces_where : LinkReply → List Piece → List Piece
 pieces_where replies.Fresh pieces = pieces
 pieces_where _ pieces = []
 
+-- where and when a datagram comes
 abbrev pub arrival_at : NodeState → NodeId → Arrival
 arrival_at n v = record { fixed = n.fixed; now = n.now; from = v }
 
@@ -155,6 +163,7 @@ greeted epochs risen v p = if epochs && risen then record p { prio = prio.unhear
 abbrev pub parts_met : Arts → NodeState → NodeId → List ℕ → Parts
 parts_met arts n v bytes = greeted n.fixed.epochs (rises arts n v bytes) v n.parts
 
+-- what the node does with the pieces of a datagram
 abbrev pub handled : Arts → NodeState → NodeId → List ℕ → Handled
 handled arts n v bytes =
     handle_all arts (arrival_at n v) (parts_met arts n v bytes) (pieces_where (reply_at arts n v bytes) (pieces_in n.fixed (sections_in arts n.fixed bytes)))
@@ -166,6 +175,7 @@ abbrev pub document_where : LinkReply → Option (List ℕ) → Option (List ℕ
 document_where replies.Fresh document = document
 document_where _ document = None
 
+-- the document of a datagram that passes all tests
 abbrev pub document_at : Arts → NodeState → NodeId → List ℕ → Option (List ℕ)
 document_at arts n v bytes = document_where (reply_at arts n v bytes) (document_in (sections_in arts n.fixed bytes))
 
@@ -174,11 +184,13 @@ abbrev pub before_document : Arts → NodeState → NodeId → List ℕ → Node
 before_document arts n v bytes =
     record (called n (with_link n v (link_after arts n v bytes)) (handled arts n v bytes).parts) { heard = heard_after arts n v bytes }
 
+-- the node after it read a document, if there is one
 abbrev pub read_by : Arts → NodeState → Option (List ℕ) → NodeState
 read_by arts n None = n
 read_by arts n (Some document) = after_publish arts n document
 
 -- ---- all of it
 
+-- the node after a datagram; what is no call changes nothing
 abbrev pub after_datagram : Arts → NodeState → NodeId → List ℕ → NodeState
 after_datagram arts n v bytes = kept_or (call_refusal n v) n (read_by arts (before_document arts n v bytes) (document_at arts n v bytes))

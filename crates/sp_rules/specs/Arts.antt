@@ -18,6 +18,7 @@ pub record Document : Type 0 where
   pub message : List ℕ
   pub signature : List ℕ
 
+-- what a node's rules take from formats and signatures, without saying how they are made
 pub record Arts : Type 0 where
   -- a datagram as a frame, or the first test of its bytes that fails
   pub opened : List ℕ → Result (List ℕ) FrameRefused

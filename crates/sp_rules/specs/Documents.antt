@@ -19,6 +19,7 @@ answer_to arts n (Some d) =
     else if not (succeeds (topology_now n) d.topology) then answers.Strange
     else answers.Adopted d.topology.version
 
+-- the answer to a document
 abbrev pub document_answer : Arts → NodeState → List ℕ → DocumentAnswer
 document_answer arts n bytes = answer_to arts n (arts.read_document bytes)
 
@@ -29,6 +30,7 @@ under_topology n bytes t = record n {
   parts = closed n.parts (weights_in t.edges) (removed_of (nodes_of t) t.edges);
 }
 
+-- what is told where the node takes a version: its number, and what it closes
 abbrev pub version_effects : NodeState → Topology → List Effect
 version_effects n t = Version t.version ∷ closed_effects n.parts (weights_in t.edges) (removed_of (nodes_of t) t.edges)
 
@@ -37,13 +39,16 @@ abbrev pub adopting : DocumentAnswer → NodeState → List ℕ → Option Docum
 adopting (answers.Adopted version) n bytes (Some d) = under_topology n bytes d.topology
 adopting _ n bytes d = n
 
+-- what is told of a document: nothing where it isn't taken
 abbrev pub adopting_effects : DocumentAnswer → NodeState → Option Document → List Effect
 adopting_effects (answers.Adopted version) n (Some d) = version_effects n d.topology
 adopting_effects _ n d = []
 
+-- the node after a document came
 abbrev pub after_publish : Arts → NodeState → List ℕ → NodeState
 after_publish arts n bytes = adopting (document_answer arts n bytes) n bytes (arts.read_document bytes)
 
+-- what is told of a document that came
 abbrev pub publish_effects : Arts → NodeState → List ℕ → List Effect
 publish_effects arts n bytes = adopting_effects (document_answer arts n bytes) n (arts.read_document bytes)
 

@@ -65,10 +65,12 @@ abbrev pub offer_to : NodeId → WeightState → Body → Offer
 offer_to me s (bodies.Weight u) = if (u.origin.0 == me.0) && nat_lt MAX_OWN_HEARD u.seq then offers.Foreign else offer s u
 offer_to me s _ = offers.Foreign
 
+-- what is told of an update that is taken: the weight that is held from now on
 abbrev pub weight_effects : Body → List Effect
 weight_effects (bodies.Weight u) = WeightHeld u.origin u.edge u.seq u.weight ∷ []
 weight_effects _ = []
 
+-- an update of a weight: where it is new it is held
 abbrev pub weight_handled : WeightAnswer → Kept → Parts → Handled
 weight_handled answer o p = where_new (items.Weight answer) o p (record p { weights = held p.weights o }) (weight_effects o.body)
 
@@ -80,6 +82,7 @@ heard_where prios.New v number p = record p { prio = heard p.prio v.0 number }
 heard_where prios.Seen v number p = record p { prio = heard p.prio v.0 number }
 heard_where _ v number p = p
 
+-- a priority message: where it is new it is admitted, and where it was fit to be new its number counts as heard
 abbrev pub prio_handled : NodeId → PrioAnswer → ℕ → Kept → Parts → Handled
 prio_handled v answer number o p =
     let taken = where_new (items.Prio answer) o p (record p { prio = admit_prio p.prio o (Some v) }) (prio_effects p.prio o (Some v)) in
@@ -87,9 +90,11 @@ prio_handled v answer number o p =
 
 -- ---- acknowledgements and reliable messages
 
+-- an acknowledgement: where it is new its flow takes it
 abbrev pub ack_handled : AckAnswer → Kept → Parts → Handled
 ack_handled answer o p = where_new (items.Ack answer) o p (record p { rel = admit_ack p.rel o }) []
 
+-- a reliable message: where it is new its flow takes it
 abbrev pub rel_handled : RelAnswer → Kept → Parts → Handled
 rel_handled answer o p = where_new (items.Rel answer) o p (record p { rel = admit_rel p.rel o }) (rel_effects p.rel o)
 
@@ -107,11 +112,13 @@ met p o = record p {
   lives = lives.held p.lives o;
 }
 
+-- an Epoch object: where it is new the node meets another start, and flows with that end begin anew
 abbrev pub epoch_handled : EpochAnswer → Kept → Parts → Handled
 epoch_handled answer o p = where_new (items.Epoch answer) o p (met p o) (restart_effects p.rel (origin_said o.body))
 
 -- ---- all pieces
 
+-- what the node does with one piece
 abbrev pub handle : Arts → Arrival → Parts → Piece → Handled
 handle arts at p (WeightPiece o) = weight_handled (weight_answer (is_signed arts at.fixed o) (offer_to at.fixed.me p.weights o.body)) o p
 handle arts at p (PrioAckPiece number) = quietly (record p { prio = acked p.prio at.from.0 number }) (acked_effects p.prio at.from.0 number)

@@ -26,6 +26,7 @@ new_link me peer boot key = record { me = me; peer = peer; boot = boot; peer_boo
 abbrev pub is_above : ℕ × ℕ → ℕ × ℕ → Bool
 is_above p q = nat_lt q.0 p.0 || ((p.0 == q.0) && nat_lt q.1 p.1)
 
+-- the boot and the counter of a frame: frames of one sender are in their order
 abbrev pub pair_of : Head → ℕ × ℕ
 pair_of h = (h.boot, h.counter)
 
@@ -38,6 +39,7 @@ link_answer l h right =
     else if not (is_above (pair_of h) l.seen) then answers.Stale l.seen.0 l.seen.1
     else answers.Fresh
 
+-- a link with another boot of the neighbour, and another frame that was seen last
 abbrev pub kept : Link → ℕ → ℕ × ℕ → Link
 kept l boot seen = record { me = l.me; peer = l.peer; boot = l.boot; peer_boot = boot; sent = l.sent; seen = seen; key = l.key }
 
@@ -49,6 +51,7 @@ after_answer l h (answers.Learned boot) = kept l boot (if nat_lt l.peer_boot boo
 after_answer l h (answers.Stale boot counter) = l
 after_answer l h answers.Fresh = kept l h.boot (pair_of h)
 
+-- the link after a frame
 abbrev pub after_frame : Link → Head → Bool → Link
 after_frame l h right = after_answer l h (link_answer l h right)
 

@@ -29,9 +29,11 @@ start nodes = map no_life nodes
 
 -- ---- held boots
 
+-- whether this is a life of that node
 abbrev pub is_life : NodeId → Life → Bool
 is_life v l = l.node.0 == v.0
 
+-- what is known of a node's life
 abbrev pub life_in : List Life → NodeId → Life
 life_in lives v = first_where (is_life v) (no_life v) lives
 
@@ -40,10 +42,12 @@ abbrev pub boot_said : Body → ℕ
 boot_said (bodies.Epoch e) = e.boot
 boot_said _ = 0
 
+-- the node that an Epoch object is of
 abbrev pub origin_said : Body → NodeId
 origin_said (bodies.Epoch e) = e.origin
 origin_said _ = record { 0 = 0 }
 
+-- the boot that an Epoch object tells; without one it is 0
 abbrev pub boot_of : Option Kept → ℕ
 boot_of None = 0
 boot_of (Some o) = boot_said o.body
@@ -95,6 +99,7 @@ last_to origins v = option_and_then (λ last. last) (slice_get origins v)
 abbrev pub next_row : List Life → List (Option ℕ) → ℕ → Option ℕ
 next_row lives origins v = next_after (last_to origins v) (map (λ l. is_some l.object) lives)
 
+-- the Epoch object in a row
 abbrev pub object_in : List Life → ℕ → Option Kept
 object_in lives row = option_and_then (λ l. l.object) (slice_get lives row)
 

@@ -64,6 +64,7 @@ extended n upto = record n { signer = record n.signer { bound = upto } }
 
 -- ---- the topology as it is now
 
+-- the topology of the version that the node runs under
 abbrev pub topology_now : NodeState → Topology
 topology_now n = record n.fixed.topology { version = n.live.version; edges = under n.fixed.topology.edges n.live.weights }
 
@@ -72,6 +73,7 @@ abbrev pub is_shut_at : NodeState → Option ℕ → Bool
 is_shut_at n None = true
 is_shut_at n (Some edge) = is_shut n.live.weights edge
 
+-- whether the edge to a neighbour is withdrawn
 abbrev pub is_shut_to : NodeState → NodeId → Bool
 is_shut_to n v = is_shut_at n (edge_to n.fixed v)
 
@@ -85,15 +87,19 @@ is_behind n v = changes n.fixed && nat_lt 0 (version_of n v) && nat_lt (version_
 
 -- ---- links
 
+-- whether this is the link to that neighbour
 abbrev pub is_link : NodeId → Link → Bool
 is_link v l = l.peer.0 == v.0
 
+-- whether the node has a link to that one
 abbrev pub is_neighbour : NodeState → NodeId → Bool
 is_neighbour n v = list_any (is_link v) n.links
 
+-- the link to a neighbour
 abbrev pub link_in : NodeState → NodeId → Link
 link_in n v = first_where (is_link v) (new_link n.fixed.me v 0 []) n.links
 
+-- the links with that to a neighbour changed
 abbrev pub with_link : NodeState → NodeId → Link → List Link
 with_link n v l = replace_where (is_link v) l n.links
 
@@ -123,6 +129,7 @@ signed_once n parts = record n { signer = record n.signer { index = n.signer.ind
 
 -- ---- the start with epochs: the node signs the boot of this life, and holds it
 
+-- the Epoch object of the node's own life
 abbrev pub own_epoch : Fixed → Body
 own_epoch f = bodies.Epoch (record { origin = f.me; boot = f.boot })
 
@@ -130,10 +137,12 @@ own_epoch f = bodies.Epoch (record { origin = f.me; boot = f.boot })
 abbrev pub announced : Arts → NodeState → NodeState
 announced arts n = signed_once n (record n.parts { lives = held n.parts.lives (signed_now arts n (own_epoch n.fixed)) })
 
+-- a node at the start of a life: with epochs it has signed that life's Epoch object
 abbrev pub started : Arts → Fixed → Signer → List (List ℕ) → (buffer store : ℕ) → NodeState
 started arts f signer keys buffer store =
     if f.epochs then announced arts (booted f signer keys buffer store) else booted f signer keys buffer store
 
+-- what is told at a start: with epochs, the object that was signed
 abbrev pub start_effects : Arts → Fixed → List Effect
 start_effects arts f = if f.epochs then Signed (arts.spell (own_epoch f)) ∷ [] else []
 

@@ -35,6 +35,7 @@ pub record Fixed : Type 0 where
   -- whether nodes run with epochs
   pub epochs : Bool
 
+-- what a node keeps of weights, priority messages, reliable flows and other nodes' starts
 pub record Parts : Type 0 where
   pub weights : WeightState
   pub prio : PrioState
@@ -44,6 +45,7 @@ pub record Parts : Type 0 where
 
 -- ---- the topology as a node sees it
 
+-- the nodes of a topology, in its order
 abbrev pub nodes_of : Topology → List NodeId
 nodes_of t = map (λ n. n.id) t.nodes
 
@@ -60,6 +62,7 @@ abbrev pub place_in : List NodeKey → NodeId → ℕ
 place_in [] v = 0
 place_in (n ∷ nodes) v = if n.id.0 == v.0 then 0 else place_in nodes v + 1
 
+-- the place of a node in its topology
 abbrev pub place_of : Fixed → NodeId → ℕ
 place_of f v = place_in f.topology.nodes v
 
@@ -69,6 +72,7 @@ changes f = not (f.topology.format == FORMAT_1)
 
 -- ---- signatures
 
+-- whether a signature is valid under a key; without a key none is
 abbrev pub is_signed_by : Arts → Option (List ℕ) → List ℕ → List ℕ → Bool
 is_signed_by arts None message signature = false
 is_signed_by arts (Some key) message signature = arts.valid key message signature
@@ -88,11 +92,13 @@ closed p least removed = record p {
   rel = rel.closed p.rel removed;
 }
 
+-- what is told where a version closes edges and removes nodes: of stores first, then of flows
 abbrev pub closed_effects : Parts → List ℕ → List NodeId → List Effect
 closed_effects p least removed = prio.closed_effects p.prio least removed ++ rel.closed_effects p.rel removed
 
 -- ---- the start
 
+-- a neighbour and the edge to it
 abbrev pub as_neighbour : NodeId × EdgeId → Neighbour
 as_neighbour n = record { id = n.0; edge = n.1 }
 

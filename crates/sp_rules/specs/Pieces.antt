@@ -19,12 +19,15 @@ pub data Piece : Type 0 where
   RelPiece : (flow : Flow) (object : Kept) → Piece
   EpochPiece : (object : Kept) → Piece
 
+-- a priority message of a frame as a piece
 abbrev pub prio_piece : ℕ × Kept → Piece
 prio_piece message = PrioPiece message.0 message.1
 
+-- a slot as pieces: the report, the acknowledgement, the messages
 abbrev pub slot_pieces : Option Report → List Piece
 slot_pieces None = []
 slot_pieces (Some r) = ReportPiece r.flow r.sboot r.dboot r.base r.have ∷ (map (AckPiece r.flow) (as_list r.ack) ++ map (RelPiece r.flow) r.rels)
 
+-- the sections of a frame as pieces, in their order
 abbrev pub pieces_of : Contents → List Piece
 pieces_of s = map WeightPiece s.weights ++ (PrioAckPiece s.prio_ack ∷ (map prio_piece s.prios ++ (slot_pieces s.slot ++ map EpochPiece (as_list s.epoch))))

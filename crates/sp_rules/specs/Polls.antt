@@ -30,6 +30,7 @@ dated format lives r = record r { sboot = held_boot lives r.flow.src; dboot = he
 
 -- ---- what is in turn
 
+-- what a frame to a neighbour has where its edge is open
 abbrev pub contents_to : Fixed → Parts → NodeId → Contents
 contents_to f p v = record {
   document = None;
@@ -62,12 +63,14 @@ no_contents = record { document = None; weights = []; prio_ack = 0; prios = []; 
 abbrev pub is_served : NodeState → NodeId → Bool
 is_served n v = not (is_behind n v) && not (is_shut_to n v)
 
+-- what the next frame to a neighbour has: a document first, nothing over a withdrawn edge, and else whose turn it is
 abbrev pub contents_at : NodeState → NodeId → Contents
 contents_at n v =
     if is_behind n v then with_document n.live.document
     else if is_shut_to n v then no_contents
     else contents_to n.fixed n.parts v
 
+-- what a node keeps after a poll: turns go on where the frame had sections
 abbrev pub parts_after : NodeState → NodeId → Parts
 parts_after n v = if is_served n v then polled n.fixed n.parts v else n.parts
 
@@ -81,8 +84,10 @@ head_to n v = next_head (link_in n v) n.live.version n.fixed.topology.format
 abbrev pub untagged : Arts → NodeState → NodeId → List ℕ
 untagged arts n v = arts.frame (head_to n v) (contents_at n v)
 
+-- the next frame to a neighbour, with its tag
 abbrev pub frame_to : Arts → NodeState → NodeId → List ℕ
 frame_to arts n v = untagged arts n v ++ arts.tag (link_in n v).key (untagged arts n v)
 
+-- the node after a poll; what is no call changes nothing
 abbrev pub after_poll : NodeState → NodeId → NodeState
 after_poll n v = kept_or (call_refusal n v) n (called n (with_link n v (advanced (link_in n v))) (parts_after n v))

@@ -46,6 +46,7 @@ start me nodes neighbours capacity = record {
 
 -- ---- rows
 
+-- whether a row is that of a neighbour
 abbrev pub is_peer : ℕ → PrioPeer → Bool
 is_peer v q = q.peer == v
 
@@ -53,6 +54,7 @@ is_peer v q = q.peer == v
 abbrev pub no_peer : PrioPeer
 no_peer = record { peer = 0; edge = 0; shut = false; store = empty_store 0; number = 0; heard = 0; last = None; flight = [] }
 
+-- the row of a neighbour
 abbrev pub peer_in : PrioState → ℕ → PrioPeer
 peer_in s v = first_where (is_peer v) no_peer s.peers
 
@@ -62,6 +64,7 @@ with_peer s v q = record s { peers = replace_where (is_peer v) q s.peers }
 
 -- ---- windows
 
+-- whether an id is one of these nodes'
 abbrev pub is_node : List NodeId → ℕ → Bool
 is_node nodes id = list_any (λ n. n.0 == id) nodes
 
@@ -69,9 +72,11 @@ is_node nodes id = list_any (λ n. n.0 == id) nodes
 abbrev pub is_there : PrioState → ℕ → Bool
 is_there s id = is_node s.nodes id && not (is_node s.removed id)
 
+-- the place of an id among these nodes
 abbrev pub place_of : List NodeId → ℕ → Option ℕ
 place_of nodes id = position (λ n. n.0 == id) nodes
 
+-- the window at a place; without one nothing was seen
 abbrev pub window_at : List (List ℕ) → Option ℕ → List ℕ
 window_at windows None = []
 window_at windows (Some place) = slice_index_or windows place []
@@ -80,6 +85,7 @@ window_at windows (Some place) = slice_index_or windows place []
 abbrev pub window_in : PrioState → ℕ → List ℕ
 window_in s id = window_at s.windows (place_of s.nodes id)
 
+-- the windows with one number more at a place
 abbrev pub windows_with : List (List ℕ) → Option ℕ → ℕ → List (List ℕ)
 windows_with windows None number = windows
 windows_with windows (Some place) number = slice_set windows place (with_mark (slice_index_or windows place []) number)
@@ -94,6 +100,7 @@ judge_fields s src dst seq expiry now =
     else if (src == s.me) || is_seen (window_in s src) seq then judged.Seen
     else judged.New
 
+-- what a priority message is to the node
 abbrev pub judge : PrioState → Prio → ℕ → PrioJudged
 judge s p now = judge_fields s p.src.0 p.dst.0 p.seq p.expiry now
 
@@ -126,9 +133,11 @@ marked s body came = record s {
 abbrev pub spread : PrioState → Kept → Option NodeId → PrioState
 spread s kept came = if is_here s kept.body then record s { inbox = put s.inbox kept } else record s { peers = map (rows.given kept came) s.peers }
 
+-- the priority part after a new message: its number is marked, and copies go into stores and inbox
 abbrev pub admit_prio : PrioState → Kept → Option NodeId → PrioState
 admit_prio s kept came = spread (marked s kept.body came) kept came
 
+-- what is told of a message that is delivered
 abbrev pub delivered : Body → List Effect
 delivered (bodies.Prio p) = effects.DeliveredPrio p.src p.seq p.payload ∷ []
 delivered _ = []
@@ -140,23 +149,29 @@ prio_effects s kept came =
 
 -- ---- polls, and what neighbours acknowledge and send
 
+-- the entries whose turn it is towards a neighbour, with their link numbers
 abbrev pub next_prios : PrioState → ℕ → List (ℕ × Entry)
 next_prios s v = rows.next_prios (peer_in s v)
 
+-- the priority part after a frame to a neighbour took its entries
 abbrev pub carried : PrioState → ℕ → PrioState
 carried s v = with_peer s v (rows.carried (peer_in s v))
 
+-- the priority part after a neighbour heard up to a link number
 abbrev pub acked : PrioState → ℕ → ℕ → PrioState
 acked s v number = with_peer s v (rows.acked (peer_in s v) number)
 
+-- what is told where a neighbour heard up to a link number
 abbrev pub acked_effects : PrioState → ℕ → ℕ → List Effect
 acked_effects s v number = rows.acked_effects (peer_in s v) number
 
+-- the priority part after a link number came from a neighbour
 abbrev pub heard : PrioState → ℕ → ℕ → PrioState
 heard s v number = with_peer s v (rows.heard (peer_in s v) number)
 
 -- ---- lives of other nodes
 
+-- the windows with the one at a place empty
 abbrev pub windows_less : List (List ℕ) → Option ℕ → List (List ℕ)
 windows_less windows None = windows
 windows_less windows (Some place) = slice_set windows place []
@@ -175,9 +190,11 @@ unheard s v = with_peer s v (rows.unheard (peer_in s v))
 abbrev pub expiring : PrioState → ℕ → ℕ
 expiring s now = length (expired_entries s.inbox now) + sum_by (λ q. length (expired_entries q.store now)) s.peers
 
+-- the priority part without what is over its time
 abbrev pub expired : PrioState → ℕ → PrioState
 expired s now = record s { inbox = less_expired s.inbox now; peers = map (λ q. rows.expired q now) s.peers }
 
+-- what is told of entries that are over their time: those of the inbox first
 abbrev pub expired_effects : PrioState → ℕ → List Effect
 expired_effects s now = rows.expired_effects 0 s.inbox now ++ flat_map (λ q. rows.expired_effects q.peer q.store now) s.peers
 
@@ -191,6 +208,7 @@ taken s = record s { inbox = less_oldest s.inbox }
 abbrev pub closed : PrioState → List ℕ → List NodeId → PrioState
 closed s weights removed = record s { removed = removed; peers = map (rows.closed weights removed) s.peers }
 
+-- what is told of entries that a version takes away
 abbrev pub closed_effects : PrioState → List ℕ → List NodeId → List Effect
 closed_effects s weights removed = flat_map (rows.closed_effects weights removed) s.peers
 

@@ -78,9 +78,11 @@ is_from (Some u) v = u.0 == v
 abbrev pub goes_to : Body → Option NodeId → PrioPeer → Bool
 goes_to body came q = not (is_from came q.peer) && names_edge (said (λ p. bits p.mask) body) q.edge && not q.shut
 
+-- the row after a message was given to it, if it goes there
 abbrev pub given : Kept → Option NodeId → PrioPeer → PrioPeer
 given kept came q = if goes_to kept.body came q then record q { store = put q.store kept } else q
 
+-- what is told of a message that was given to a row
 abbrev pub given_effects : Kept → Option NodeId → PrioPeer → List Effect
 given_effects kept came q = if goes_to kept.body came q then put_effects q.peer q.store kept else []
 
@@ -112,6 +114,7 @@ filled (suc room) q = filled room (launch q)
 abbrev pub carried : PrioPeer → PrioPeer
 carried q = filled (MAX_MESSAGES - length (settled q).flight) (settled q)
 
+-- an entry with its link number
 abbrev pub numbered : ℕ → Entry → ℕ × Entry
 numbered number e = (number, e)
 
@@ -147,9 +150,11 @@ abbrev pub left_effects : ℕ → Store → List (ℕ × ℕ) → List Effect
 left_effects place s [] = []
 left_effects place s (pair ∷ pairs) = gone place whys.Acked (entry_in s pair.1) ++ left_effects place (removed s pair.1) pairs
 
+-- the row after its neighbour heard up to a link number: what landed leaves store and flight
 abbrev pub acked : PrioPeer → ℕ → PrioPeer
 acked q number = record q { store = less_all q.store (landed q number); flight = filter (λ pair. not (lands number pair)) q.flight }
 
+-- what is told of entries that landed
 abbrev pub acked_effects : PrioPeer → ℕ → List Effect
 acked_effects q number = left_effects q.peer q.store (landed q number)
 
@@ -163,6 +168,7 @@ unheard q = record q { heard = 0; flight = [] }
 
 -- ---- time
 
+-- the row without what is over its time
 abbrev pub expired : PrioPeer → ℕ → PrioPeer
 expired q now = record q { store = less_expired q.store now }
 
@@ -176,10 +182,12 @@ has_end_in nodes e = list_any (λ n. n.0 == source e) nodes || list_any (λ n. n
 abbrev pub leaves : Bool → List NodeId → Entry → Bool
 leaves shut removed e = shut || has_end_in removed e
 
+-- the row under a version with these weights and removed nodes
 abbrev pub closed : List ℕ → List NodeId → PrioPeer → PrioPeer
 closed weights removed q =
     let shut = is_shut weights q.edge in
     record q { shut = shut; store = less_leavers (leaves shut removed) q.store }
 
+-- what is told of a row's entries that a version takes away
 abbrev pub closed_effects : List ℕ → List NodeId → PrioPeer → List Effect
 closed_effects weights removed q = gone_effects q.peer whys.Withdrawn (leavers (leaves (is_shut weights q.edge) removed) q.store)

@@ -40,11 +40,13 @@ pub record View : Type 0 where
   pub base : ℕ
   pub have : ℕ
 
+-- what a neighbour told: the flow whose turn was last there, and a view of each flow
 pub record RelPeer : Type 0 where
   pub peer : NodeId
   pub last : Option ℕ
   pub views : List View
 
+-- all flows at a node, what its neighbours told of them, and the place where the last acknowledgement was signed
 pub record RelState : Type 0 where
   pub me : NodeId
   pub nodes : List NodeId
@@ -72,6 +74,7 @@ no_view flow = record { src = flow.src; dst = flow.dst; base = 0; have = 0 }
 abbrev pub new_peer : List Flow → NodeId → RelPeer
 new_peer flows peer = record { peer = peer; last = None; views = map no_view flows }
 
+-- reliable messaging at a start: no flow is active, and nothing was heard
 abbrev pub start : NodeId → List NodeId → List NodeId → ℕ → RelState
 start me nodes neighbours bound = record {
   me = me;
@@ -85,33 +88,43 @@ start me nodes neighbours bound = record {
 
 -- ---- the rows
 
+-- the state of a flow
 abbrev pub flow_in : List FlowState → Flow → FlowState
 flow_in flows flow = first_where (is_flow flow) (no_flow flow) flows
 
+-- the flows with that one changed
 abbrev pub put_flow : List FlowState → Flow → FlowState → List FlowState
 put_flow flows flow f = replace_where (is_flow flow) f flows
 
+-- whether a view is of that flow
 abbrev pub is_view : Flow → View → Bool
 is_view flow w = (w.src.0 == flow.src.0) && (w.dst.0 == flow.dst.0)
 
+-- the view of a flow
 abbrev pub view_in : List View → Flow → View
 view_in views flow = first_where (is_view flow) (no_view flow) views
 
+-- the views with that of a flow changed
 abbrev pub put_view : List View → Flow → View → List View
 put_view views flow w = replace_where (is_view flow) w views
 
+-- whether a row is that of a neighbour
 abbrev pub is_peer : NodeId → RelPeer → Bool
 is_peer v p = p.peer.0 == v.0
 
+-- the row of a neighbour
 abbrev pub peer_in : List RelPeer → NodeId → RelPeer
 peer_in peers v = first_where (is_peer v) (new_peer [] v) peers
 
+-- the rows with that of a neighbour changed
 abbrev pub put_peer : List RelPeer → NodeId → RelPeer → List RelPeer
 put_peer peers v p = replace_where (is_peer v) p peers
 
+-- reliable messaging with one flow changed
 abbrev pub with_flow : RelState → Flow → FlowState → RelState
 with_flow r flow f = record r { flows = put_flow r.flows flow f }
 
+-- reliable messaging with one neighbour's row changed
 abbrev pub with_peer : RelState → NodeId → RelPeer → RelState
 with_peer r v p = record r { peers = put_peer r.peers v p }
 
@@ -125,6 +138,7 @@ position_in flows flow = let f = flow_in flows flow in if f.active then Some (f.
 
 -- ---- who is who
 
+-- whether a node is one of these
 abbrev pub is_one_of : List NodeId → NodeId → Bool
 is_one_of nodes u = list_any (λ x. x.0 == u.0) nodes
 
@@ -140,6 +154,7 @@ is_over removed flow = is_one_of removed flow.src || is_one_of removed flow.dst
 abbrev pub is_from : RelState → Flow → Bool
 is_from r flow = r.me.0 == flow.src.0
 
+-- whether a flow ends at this node
 abbrev pub is_to : RelState → Flow → Bool
 is_to r flow = r.me.0 == flow.dst.0
 
@@ -195,9 +210,11 @@ judge_ack r flow ack =
 abbrev pub undated : Ack → Ack
 undated a = record { src = a.src; dst = a.dst; sboot = 0; dboot = 0; seq = a.seq }
 
+-- an acknowledgement over paths as one of a reliable flow, without boots
 abbrev pub plain_ack : Kack → Ack
 plain_ack a = record { src = a.src; dst = a.dst; sboot = 0; dboot = 0; seq = a.seq }
 
+-- an object as one of a reliable flow, acknowledgements without boots
 abbrev pub plain : Body → Body
 plain (bodies.Ack a) = bodies.Ack (undated a)
 plain (bodies.Kack a) = bodies.Ack (plain_ack a)
@@ -242,6 +259,7 @@ admit_rel r message =
 abbrev pub delivery : Body → Effect
 delivery body = Delivered (flow_said body).src (number_said body) (payload_of body)
 
+-- what is told of a new message: at its destination, that it is delivered
 abbrev pub rel_effects : RelState → Kept → List Effect
 rel_effects r message = if is_to r (flow_said message.body) then delivery message.body ∷ [] else []
 
@@ -302,6 +320,7 @@ due_place r = next_after r.signed (map (is_due r.me) r.flows)
 abbrev pub ack_of : RelState → Flow → Ack
 ack_of r flow = record { src = flow.src; dst = flow.dst; sboot = 0; dboot = 0; seq = (flow_in r.flows flow).at.have }
 
+-- the acknowledgement whose turn it is, if one is due
 abbrev pub due : RelState → Option Ack
 due r = option_map (ack_of r) (option_and_then (flow_at r.flows) (due_place r))
 
@@ -339,12 +358,15 @@ is_end v flow = (flow.src.0 == v.0) || (flow.dst.0 == v.0)
 abbrev pub flow_less : NodeId → FlowState → FlowState
 flow_less v f = if is_end v (ends f) then no_flow (ends f) else f
 
+-- the flow of a view
 abbrev pub viewed : View → Flow
 viewed w = record { src = w.src; dst = w.dst }
 
+-- a view that is empty where the flow has that end
 abbrev pub view_less : NodeId → View → View
 view_less v w = if is_end v (viewed w) then no_view (viewed w) else w
 
+-- a row whose views of flows with that end are empty
 abbrev pub views_less : NodeId → RelPeer → RelPeer
 views_less v p = record p { views = map (view_less v) p.views }
 
@@ -356,6 +378,7 @@ restarted r v = record r { flows = map (flow_less v) r.flows; peers = map (views
 abbrev pub ended_by : NodeId → FlowState → List Effect
 ended_by v f = if is_end v (ends f) && f.active then Ended (ends f) ∷ [] else []
 
+-- what is told where another life of a node begins: each active flow of it ends
 abbrev pub restart_effects : RelState → NodeId → List Effect
 restart_effects r v = flat_map (ended_by v) r.flows
 
@@ -363,6 +386,7 @@ restart_effects r v = flat_map (ended_by v) r.flows
 abbrev pub no_views : RelPeer → RelPeer
 no_views p = record p { views = map (λ w. no_view (viewed w)) p.views }
 
+-- reliable messaging as if that neighbour had reported nothing
 abbrev pub unheard : RelState → NodeId → RelState
 unheard r v = with_peer r v (no_views (peer_in r.peers v))
 
@@ -372,9 +396,11 @@ unheard r v = with_peer r v (no_views (peer_in r.peers v))
 abbrev pub ended_where : List NodeId → FlowState → FlowState
 ended_where removed f = if f.active && is_over removed (ends f) then ended f else f
 
+-- reliable messaging where these nodes are removed
 abbrev pub closed : RelState → List NodeId → RelState
 closed r removed = record r { removed = removed; flows = map (ended_where removed) r.flows }
 
+-- what is told of a flow where these nodes are removed
 abbrev pub ended_effect : List NodeId → FlowState → List Effect
 ended_effect removed f = if f.active && is_over removed (ends f) then Ended (ends f) ∷ [] else []
 

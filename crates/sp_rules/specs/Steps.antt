@@ -36,6 +36,7 @@ pub data Input : Type 0 where
   -- the administrator hands a document to the node
   Publish : (document : List ℕ) → Input
 
+-- what a call is answered with
 pub data Reply : Type 0 where
   Frame : (bytes : List ℕ) → Reply
   -- a datagram, with the answers to its objects in the order of handling
@@ -60,19 +61,23 @@ pub record Output : Type 0 where
 abbrev pub replied : Reply → Output
 replied reply = record { reply = reply; effects = []; answered = []; adopted = None }
 
+-- an output that accepts under a number
 abbrev pub accepted : ℕ → List Effect → Output
 accepted number effects = record { reply = Accepted number; effects = effects; answered = []; adopted = None }
 
 -- ---- the outputs
 
+-- an output, or the refusal of the call
 abbrev pub refused_call : Option NodeRefused → Output → Output
 refused_call (Some refused) output = replied (NotCalled refused)
 refused_call None output = output
 
+-- an output, or the refusal of what a client asked
 abbrev pub refused_send : Option SendRefused → Output → Output
 refused_send (Some refused) output = replied (Refused refused)
 refused_send None output = output
 
+-- what a poll gives
 abbrev pub poll_output : Arts → NodeState → NodeId → Output
 poll_output arts n v = refused_call (call_refusal n v) (replied (Frame (frame_to arts n v)))
 
@@ -81,10 +86,12 @@ abbrev pub document_items : Arts → NodeState → Option (List ℕ) → List It
 document_items arts n None = []
 document_items arts n (Some document) = items.Document (document_answer arts n document) ∷ []
 
+-- what is told of a frame's document
 abbrev pub document_effects : Arts → NodeState → Option (List ℕ) → List Effect
 document_effects arts n None = []
 document_effects arts n (Some document) = publish_effects arts n document
 
+-- the document of a frame that the node took
 abbrev pub document_adopted : Arts → NodeState → Option (List ℕ) → Option (List ℕ)
 document_adopted arts n None = None
 document_adopted arts n (Some document) = adopted_where (document_answer arts n document) document
@@ -102,24 +109,31 @@ arrived arts n v bytes =
       adopted = document_adopted arts then document;
     }
 
+-- what a datagram gives
 abbrev pub datagram_output : Arts → NodeState → NodeId → List ℕ → Output
 datagram_output arts n v bytes = refused_call (call_refusal n v) (arrived arts n v bytes)
 
+-- what a tick gives
 abbrev pub tick_output : Arts → NodeState → ℕ → Output
 tick_output arts n now = record { reply = Ticked (tick_reply n); effects = tick_effects arts n now; answered = []; adopted = None }
 
+-- what sending a reliable message gives
 abbrev pub send_rel_output : Arts → NodeState → NodeId → List ℕ → Output
 send_rel_output arts n dst payload = refused_send (rel_refusal n dst) (accepted (rel_number n dst) (rel_sent arts n dst payload))
 
+-- what sending a priority message gives
 abbrev pub send_prio_output : Arts → NodeState → PrioSend → Choice → Output
 send_prio_output arts n m choice = refused_send (send_prio_refusal n m choice) (accepted n.parts.prio.next (prio_sent arts n m choice))
 
+-- what setting a weight gives
 abbrev pub set_weight_output : Arts → NodeState → NodeId → ℕ → Output
 set_weight_output arts n v weight = refused_send (weight_refusal n v weight) (accepted (weight_number n v) (weight_sent arts n v weight))
 
+-- what taking a priority message gives
 abbrev pub take_prio_output : NodeState → Output
 take_prio_output n = record { reply = Message (oldest n.parts.prio.inbox); effects = take_prio_effects n; answered = []; adopted = None }
 
+-- what a document that is handed out gives
 abbrev pub publish_output : Arts → NodeState → List ℕ → Output
 publish_output arts n document = record {
   reply = Replaced (document_answer arts n document);

@@ -27,6 +27,7 @@ pub record Store : Type 0 where
   pub last : ℕ
   pub entries : List Entry
 
+-- a store with nothing in it
 abbrev pub empty_store : ℕ → Store
 empty_store capacity = record { capacity = capacity; last = 0; entries = [] }
 
@@ -37,24 +38,31 @@ abbrev pub said : (Prio → ℕ) → Body → ℕ
 said field (bodies.Prio p) = field p
 said field _ = 0
 
+-- the source of an entry
 abbrev pub source : Entry → ℕ
 source e = said (λ p. p.src.0) e.kept.body
 
+-- the destination of an entry
 abbrev pub target : Entry → ℕ
 target e = said (λ p. p.dst.0) e.kept.body
 
+-- the priority of an entry
 abbrev pub priority : Entry → ℕ
 priority e = said (λ p. p.prio) e.kept.body
 
+-- the time at which an entry is over
 abbrev pub expiry : Entry → ℕ
 expiry e = said (λ p. p.expiry) e.kept.body
 
+-- whether an entry has this id
 abbrev pub has_id : ℕ → Entry → Bool
 has_id id e = e.id == id
 
+-- whether an entry is of this source
 abbrev pub is_of : ℕ → Entry → Bool
 is_of id e = source e == id
 
+-- whether an entry is over its time
 abbrev pub is_expired : ℕ → Entry → Bool
 is_expired now e = nat_lt (expiry e) now
 
@@ -64,9 +72,11 @@ is_expired now e = nat_lt (expiry e) now
 unfoldable pub ids : List ℕ
 ids = range_with_len 0 IDS
 
+-- how many entries a source has
 abbrev pub count_of : List Entry → ℕ → ℕ
 count_of es id = count_by (is_of id) es
 
+-- whether a source has entries
 abbrev pub has_entries : List Entry → ℕ → Bool
 has_entries es id = list_any (is_of id) es
 
@@ -84,6 +94,7 @@ fullest es = first_by (λ a b. nat_lt (count_of es b) (count_of es a)) ids
 abbrev pub lowest : List Entry → ℕ → Option Entry
 lowest es id = first_by (λ a b. nat_lt (priority a) (priority b)) (filter (is_of id) es)
 
+-- the entry that leaves a full store: the lowest one of the source with most entries
 abbrev pub victim : List Entry → Option Entry
 victim es = option_and_then (lowest es) (fullest es)
 
@@ -97,17 +108,21 @@ arriving s kept = s.entries ++ (record { id = s.last + 1; kept = kept }) ∷ []
 abbrev pub evicted : Store → Kept → Option Entry
 evicted s kept = if nat_lt s.capacity (length (arriving s kept)) then victim (arriving s kept) else None
 
+-- the entries without that one
 abbrev pub without : Option Entry → List Entry → List Entry
 without None es = es
 without (Some e) es = less_first (has_id e.id) es
 
+-- the store after a message was put into it
 abbrev pub put : Store → Kept → Store
 put s kept = record { capacity = s.capacity; last = s.last + 1; entries = without (evicted s kept) (arriving s kept) }
 
+-- what putting a message is answered with
 abbrev pub answered : ℕ → Option Entry → Put
 answered id None = puts.Stored id
 answered id (Some e) = puts.StoredAfter id e
 
+-- what putting this message is answered with
 abbrev pub put_answer : Store → Kept → Put
 put_answer s kept = answered (s.last + 1) (evicted s kept)
 
@@ -127,6 +142,7 @@ next_entry s last = option_and_then (highest s.entries) (next_source s.entries l
 
 -- ---- service in turn, besides what is in flight: pairs of a link number and the id of an entry
 
+-- whether an entry is on its way to the neighbour
 abbrev pub is_flying : List (ℕ × ℕ) → Entry → Bool
 is_flying flight e = list_any (λ p. has_id p.1 e) flight
 
@@ -134,6 +150,7 @@ is_flying flight e = list_any (λ p. has_id p.1 e) flight
 abbrev pub free : List (ℕ × ℕ) → List Entry → List Entry
 free flight es = filter (λ e. not (is_flying flight e)) es
 
+-- the store without what is on its way
 abbrev pub besides : Store → List (ℕ × ℕ) → Store
 besides s flight = record { capacity = s.capacity; last = s.last; entries = free flight s.entries }
 
@@ -143,15 +160,19 @@ next_besides s flight last = next_entry (besides s flight) last
 
 -- ---- one less
 
+-- the entry with an id
 abbrev pub entry_in : Store → ℕ → Option Entry
 entry_in s id = find (has_id id) s.entries
 
+-- the store without the entry of an id
 abbrev pub removed : Store → ℕ → Store
 removed s id = record { capacity = s.capacity; last = s.last; entries = less_first (has_id id) s.entries }
 
+-- the entry that came first
 abbrev pub oldest : Store → Option Entry
 oldest s = slice_get s.entries 0
 
+-- the store without the entry that came first
 abbrev pub less_oldest : Store → Store
 less_oldest s = record { capacity = s.capacity; last = s.last; entries = drop 1 s.entries }
 
@@ -161,6 +182,7 @@ less_oldest s = record { capacity = s.capacity; last = s.last; entries = drop 1 
 abbrev pub leaver : (Entry → Bool) → Store → Option Entry
 leaver p s = find p s.entries
 
+-- the store without the first entry that leaves
 abbrev pub less_leaver : (Entry → Bool) → Store → Store
 less_leaver p s = record { capacity = s.capacity; last = s.last; entries = less_first p s.entries }
 
@@ -168,6 +190,7 @@ less_leaver p s = record { capacity = s.capacity; last = s.last; entries = less_
 abbrev pub leavers : (Entry → Bool) → Store → List Entry
 leavers p s = filter p s.entries
 
+-- the store without all entries that leave
 abbrev pub less_leavers : (Entry → Bool) → Store → Store
 less_leavers p s = record { capacity = s.capacity; last = s.last; entries = filter (λ e. not (p e)) s.entries }
 
@@ -175,5 +198,6 @@ less_leavers p s = record { capacity = s.capacity; last = s.last; entries = filt
 abbrev pub expired_entries : Store → ℕ → List Entry
 expired_entries s now = leavers (is_expired now) s
 
+-- the store without entries that are over their time
 abbrev pub less_expired : Store → ℕ → Store
 less_expired s now = less_leavers (is_expired now) s

@@ -24,6 +24,7 @@ time_after n now = max n.now now
 abbrev pub at_time : NodeState → ℕ → NodeState
 at_time n now = record n { now = time_after n now; parts = record n.parts { prio = expired n.parts.prio (time_after n now) } }
 
+-- the node after its tick signed the acknowledgement that is due, if it could
 abbrev pub settled_by : Arts → NodeState → Option Ack → Option SendRefused → NodeState
 settled_by arts n None refusal = n
 settled_by arts n (Some ack) (Some refusal) = n
@@ -33,6 +34,7 @@ settled_by arts n (Some ack) None = signed_once n (record n.parts { rel = settle
 abbrev pub dated : List Life → Ack → Ack
 dated lives a = record a { sboot = held_boot lives a.src; dboot = held_boot lives a.dst }
 
+-- the acknowledgement that is due, with the boots that the node holds
 abbrev pub due_now : NodeState → Option Ack
 due_now n = option_map (dated n.parts.lives) (due n.parts.rel)
 
@@ -46,17 +48,21 @@ reply_of (Some (refusals.Spent index)) = replies.TickSpent index
 reply_of (Some (refusals.NotReserved bound)) = replies.TickNotReserved bound
 reply_of _ = replies.Ticked
 
+-- what a tick is answered with
 abbrev pub tick_reply_of : Option Ack → Option SendRefused → TickReply
 tick_reply_of None refusal = replies.Ticked
 tick_reply_of (Some ack) refusal = reply_of refusal
 
+-- what this tick is answered with
 abbrev pub tick_reply : NodeState → TickReply
 tick_reply n = tick_reply_of (due_now n) (signer_refusal n.signer)
 
+-- what is told of the acknowledgement that a tick signed
 abbrev pub ack_effects : Arts → Option Ack → Option SendRefused → List Effect
 ack_effects arts None refusal = []
 ack_effects arts (Some ack) (Some refusal) = []
 ack_effects arts (Some ack) None = signed_effect arts (bodies.Ack ack) ∷ []
 
+-- what a tick tells: what is over its time first
 abbrev pub tick_effects : Arts → NodeState → ℕ → List Effect
 tick_effects arts n now = expired_effects n.parts.prio (time_after n now) ++ ack_effects arts (due_now n) (signer_refusal n.signer)

@@ -28,6 +28,7 @@ weights_in edges = map (λ e. e.weight) edges
 abbrev pub is_shut : List ℕ → ℕ → Bool
 is_shut weights edge = slice_index_or weights edge 0 == 0
 
+-- an edge with another weight
 abbrev pub weighted : Edge × ℕ → Edge
 weighted p = record { low = p.0.low; high = p.0.high; weight = p.1 }
 
@@ -37,6 +38,7 @@ under edges weights = map weighted (zip edges weights)
 
 -- ---- removed nodes
 
+-- whether a node is an end of an edge
 abbrev pub is_end : ℕ → Edge → Bool
 is_end u e = (e.low.0 == u) || (e.high.0 == u)
 
@@ -54,14 +56,17 @@ removed_of nodes edges = filter (λ u. is_removed edges u.0) nodes
 
 -- ---- which may follow which
 
+-- whether two heights are the same
 abbrev pub is_same_height : LmsHeight → LmsHeight → Bool
 is_same_height heights.Five heights.Five = true
 is_same_height heights.Ten heights.Ten = true
 is_same_height _ _ = false
 
+-- whether two nodes have the same id and key
 abbrev pub is_same_node : NodeKey → NodeKey → Bool
 is_same_node a b = (a.id.0 == b.id.0) && pointwise nat_eq a.key b.key
 
+-- whether two edges have the same ends
 abbrev pub has_same_ends : Edge → Edge → Bool
 has_same_ends a b = (a.low.0 == b.low.0) && (a.high.0 == b.high.0)
 

@@ -27,12 +27,15 @@ pub record Heard : Type 0 where
 abbrev pub none_heard : NodeId → Heard
 none_heard v = record { peer = v; version = 0 }
 
+-- whether this was heard of that neighbour
 abbrev pub is_heard_of : NodeId → Heard → Bool
 is_heard_of v h = h.peer.0 == v.0
 
+-- the version that a neighbour was heard to run under
 abbrev pub version_in : List Heard → NodeId → ℕ
 version_in heard v = (first_where (is_heard_of v) (none_heard v) heard).version
 
+-- what was heard, with another version of a neighbour
 abbrev pub with_version : List Heard → NodeId → ℕ → List Heard
 with_version heard v version = replace_where (is_heard_of v) (record { peer = v; version = version }) heard
 

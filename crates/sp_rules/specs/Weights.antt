@@ -47,6 +47,7 @@ abbrev pub seq_said : Body → ℕ
 seq_said (bodies.Weight w) = w.seq
 seq_said _ = 0
 
+-- the weight that an update says
 abbrev pub weight_said : Body → ℕ
 weight_said (bodies.Weight w) = w.weight
 weight_said _ = 0
@@ -73,6 +74,7 @@ next_seq s edge end = last_seq s edge end + 1
 abbrev pub minimum : WeightState → ℕ → ℕ
 minimum s edge = slice_index_or s.least edge 0
 
+-- whether an edge is withdrawn
 abbrev pub is_withdrawn : WeightState → ℕ → Bool
 is_withdrawn s edge = is_shut s.least edge
 
@@ -124,6 +126,7 @@ next_row s v = next_after (cycle_at s v) (map is_some s.rows)
 abbrev pub next : WeightState → ℕ → Option Kept
 next s v = option_and_then (held_in s.rows) (next_row s v)
 
+-- the cycles with that of a neighbour moved to a row
 abbrev pub cycles_with : List (Option ℕ) → ℕ → Option ℕ → List (Option ℕ)
 cycles_with cycles v None = cycles
 cycles_with cycles v (Some row) = slice_set cycles v (Some row)

@@ -13,6 +13,7 @@ abbrev pub greatest : List ℕ → ℕ
 greatest [] = 0
 greatest (x ∷ xs) = max x (greatest xs)
 
+-- whether a number is marked
 abbrev pub is_in : ℕ → List ℕ → Bool
 is_in x ms = list_any (λ m. m == x) ms
 

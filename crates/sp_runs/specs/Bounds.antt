@@ -27,6 +27,7 @@ pub record PeerIsBounded (store : ℕ) (q : PrioPeer) : Type 0 where
   pub entries : length q.store.entries ≤ store
   pub flight : length q.flight ≤ MAX_MESSAGES
 
+-- a node's lists and stores are within the bounds of the header
 pub record IsBounded (x : Setting) (u : NodeId) (n : NodeState) : Type 0 where
   -- each flow has one row
   pub flows : map ends n.parts.rel.flows ≡ pairs_of (nodes_of x.topology)

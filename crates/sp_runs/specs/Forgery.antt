@@ -70,6 +70,7 @@ forged_object arts x es js (answered ∷ others) = if is_forged arts x es js ans
 
 -- ---- by a document
 
+-- the lists of weights that were published, with one more if there is one
 abbrev pub with_published : Option (List ℕ) → List (List ℕ) → List (List ℕ)
 with_published None lists = lists
 with_published (Some weights) lists = weights ∷ lists
@@ -83,6 +84,7 @@ lists_in (e ∷ es) = with_published (list_in e) (lists_in es)
 abbrev pub is_published : List Event → (version : ℕ) → (weights : List ℕ) → Bool
 is_published es version weights = nat_le 2 version && is_frame weights (slice_get (lists_in es) (version - 2))
 
+-- whether a document says what was published
 abbrev pub says_published : List Event → Option Document → Bool
 says_published es None = false
 says_published es (Some d) = is_published es d.topology.version (weights_in d.topology.edges)
@@ -94,6 +96,7 @@ forged_document arts es (Some bytes) = if says_published es (arts.read_document 
 
 -- ---- what of a step is forged, after these events: the tag, or else the first object, or a document
 
+-- what of an event is forged: its tag first, then what it says
 abbrev pub forged : Arts → Setting → List Event → List Entry → World → NodeState → Input → Output → Option What
 forged arts x es js w n input output =
     if has_forged_tag arts x w n input then Some whats.Tag

@@ -128,6 +128,7 @@ crafted_document arts x crafted key version weights =
 
 -- ---- what reaches it. None where there is no such frame, or the crafting signer is spent; and a start and a stop bring nothing
 
+-- what an event brings to the node that acts
 abbrev pub input_of : Arts → Setting → World → NodeState → Event → Option Input
 input_of arts x w n (events.Rel s d payload) = Some (SendRel d payload)
 input_of arts x w n (events.Prio s d prio expiry paths payload) =

@@ -1,5 +1,6 @@
 -- What runs with epochs have beside the steps of nodes: a node reserves indexes before it acts, starts and stops; and what comes to nobody.
-use Rattle.std.specs.Prelude.{ℕ, ◌≡◌, ◌⊎◌, ◌<◌, ◌≤◌, ◌-◌, ◌&&◌, ◌||◌, nat_lt, is_some, Bool, true, false, not, List, [], ◌∷◌, ◌++◌, Option, None, Some, if◌then◌else◌}
+use Rattle.std.specs.Prelude.{ℕ, ◌≡◌, ◌⊎◌, ◌<◌, ◌≤◌, ◌-◌, ◌&&◌, ◌||◌, nat_lt, is_some, Bool, true, false, not, List, [], ◌∷◌, ◌++◌, Option, None, Some}
+use Rattle.std.specs.Prelude.{if◌then◌else◌}
 use Rattle.sp_base.specs.declared.id.NodeId.{NodeId}
 use Rattle.sp_epoch.specs.Numbers.{after_more, after_start, next_bound, numbers_at, started_at, with_numbers}
 use Rattle.sp_epoch.specs.declared.started.Started.{Started}
@@ -91,6 +92,7 @@ abbrev pub directions_missed : List Direction → Event → List Direction
 directions_missed directions (events.Poll u v) = with_frame directions u v None
 directions_missed directions _ = directions
 
+-- an event that comes to no node: it is told as down, and changes no node
 pub record IsDown (old : World) (event : Event) (entry : Entry) (new : World) : Type 0 where
   pub nobody : comes_to_nobody old event ≡ true
   pub reply : entry.reply ≡ replies.Down
@@ -99,6 +101,7 @@ pub record IsDown (old : World) (event : Event) (entry : Entry) (new : World) : 
 
 -- ---- one event in which no node moves
 
+-- an event of lives: a start, a stop, or one that comes to nobody
 abbrev pub Life : Arts → Setting → World → Event → Entry → World → Type 0
 Life arts x old (events.Start u) entry new = IsStart arts x old u entry new ⊎ IsExhausted x old u entry new
 Life arts x old (events.Stop u) entry new = IsStop x old u entry new

@@ -82,12 +82,15 @@ node_at_start arts x u s = started arts (fixed_at x u s.boot) (signer_from x u s
 
 -- ---- the same before the first event, without epochs: it boots with 1, and all its indexes are reserved
 
+-- what is fixed of a node in its first life
 abbrev pub fixed_of : Setting → NodeId → Fixed
 fixed_of x u = fixed_at x u 1
 
+-- the signer of a node's first life, with all indexes
 abbrev pub first_signer : Setting → NodeId → Signer
 first_signer x u = signer_from x u 0 x.total
 
+-- a node at the start of a run without epochs
 abbrev pub node_at_boot : Setting → NodeId → NodeState
 node_at_boot x u = booted (fixed_of x u) (first_signer x u) (link_keys x u) x.buffer x.store
 
@@ -115,6 +118,7 @@ pub record ReadsVersion (arts : Arts) (x : Setting) (version : ℕ) (weights : L
 
 -- ---- what is asked of a setting and of arts. Each is proved of the arts of a format and of what a schedule's header makes
 
+-- a setting in its ranges, whose arts fit each node
 pub record SettingFits (arts : Arts) (x : Setting) : Type 0 where
   pub topology : IsRunnable x.topology
   -- an Epoch object is of format 2

@@ -23,6 +23,7 @@ pub record Crafted : Type 0 where
   pub key : NodeId
   pub count : ℕ
 
+-- where a run stands
 pub record World : Type 0 where
   -- the numbers of each node's key file, those of node 1 first
   pub keys : List Numbers
@@ -90,6 +91,7 @@ with_frame directions u v frame =
 
 -- ---- what was crafted
 
+-- whether this counts what was crafted with that key
 abbrev pub is_key : NodeId → Crafted → Bool
 is_key key c = c.key.0 == key.0
 

@@ -33,7 +33,8 @@ good_stage text is_cut reading is =
     is_good_stage reading.stage (all_lines led.lines stages.Start reading.stage tt led.follows).1
 
 -- or memory was wanting
-pub good_answer : (text : List ℕ) (is_cut : Bool) (answer : Result Reading Memory) → IfOk answer (IsReading text is_cut) → IfOk answer (λ reading. IsGoodStage reading.stage)
+pub good_answer : (text : List ℕ) (is_cut : Bool) (answer : Result Reading Memory) → IfOk answer (IsReading text is_cut)
+    → IfOk answer (λ reading. IsGoodStage reading.stage)
 good_answer text is_cut (Ok reading) is = good_stage text is_cut reading is
 good_answer text is_cut (Err e) is = tt
 
@@ -67,7 +68,8 @@ good_texts_are_read s es good =
     record {
       line = 1 + length (schedule_lines s es);
       stop = Nothing_left;
-      leads = subst (λ (t : List ℕ). Leads says stages.Start 1 t (stages.End s es) (1 + length (schedule_lines s es)) Nothing_left) (append-nil (schedule_text s es)) all;
+      leads = subst (λ (t : List ℕ). Leads says stages.Start 1 t (stages.End s es) (1 + length (schedule_lines s es)) Nothing_left)
+          (append-nil (schedule_text s es)) all;
       ends = refl;
     }
 
@@ -101,7 +103,8 @@ is_joined pieces fed (Pushed {pieces = before} {old = old} piece count fed_so ta
     let joined = is_joined before old fed_so in
     record {
       text = piece_taken old fed piece count takes ∙ ap (λ (xs : List ℕ). xs ++ take count piece) joined.text
-          ∙ sym (flat_map-append (λ (p : List ℕ). p) before (take count piece ∷ []) ∙ ap (λ (xs : List ℕ). flat_map (λ (p : List ℕ). p) before ++ xs) (append-nil (take count piece)));
+          ∙ sym (flat_map-append (λ (p : List ℕ). p) before (take count piece ∷ [])
+          ∙ ap (λ (xs : List ℕ). flat_map (λ (p : List ℕ). p) before ++ xs) (append-nil (take count piece)));
       good = subst AreGood (sym takes.stage) joined.good;
     }
 is_joined pieces fed (Read {old = old} given fed_so takes) =

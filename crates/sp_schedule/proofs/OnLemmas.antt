@@ -1,5 +1,6 @@
 -- Whatever follows what came, the whole is read on from there.
-use Rattle.std.proofs.Common.{◌≡◌, ◌≢◌, ◌≤◌, ◌+◌, ℕ, zero, suc, inl, inr, Bool, List, [], ◌∷◌, ◌++◌, length, Result, Ok, Err, refl, sym, ap, ◌∙◌, subst, arith, append_assoc, append-nil, length-append, if◌then◌else◌}
+use Rattle.std.proofs.Common.{◌≡◌, ◌≢◌, ◌≤◌, ◌+◌, ℕ, zero, suc, inl, inr, Bool, List, [], ◌∷◌, ◌++◌, length, Result, Ok, Err, refl, sym, ap, ◌∙◌, subst, arith}
+use Rattle.std.proofs.Common.{append_assoc, append-nil, length-append, if◌then◌else◌}
 use Rattle.std.specs.Prelude.{nat_le}
 use Rattle.std.specs.List.{join_with_byte}
 use Rattle.sp_base.specs.declared.limits.TheConstants.{MAX_EVENTS}
@@ -50,7 +51,8 @@ says_keeps (stages.Edges scenario) next words is = λ s es none. absurd none
 says_keeps (stages.Bads scenario) next words is = λ s es none. absurd none
 says_keeps (stages.Epochs scenario) next words is = λ s es none. absurd none
 says_keeps (stages.Events s es) next words is =
-    elim (if_cases (fits end_cells words) (Ok (stages.End s es)) (if nat_le MAX_EVENTS (length es) then Err kinds.TooMany else event_more s es (read_event s es words)) (Ok next) is) [
+    elim (if_cases (fits end_cells words) (Ok (stages.End s es))
+    (if nat_le MAX_EVENTS (length es) then Err kinds.TooMany else event_more s es (read_event s es words)) (Ok next) is) [
       | inl end ↦ (
           let to : stages.End s es ≡ next = (let said = end.1 in cc) in
           λ t fs same. ([], subst (λ (z : Stage). IsOf z t (fs ++ [])) to (same.0, same.1 ∙ sym (append-nil fs))))
@@ -73,14 +75,21 @@ record Somewhere (stage : Stage) (number : ℕ) (text : List ℕ) : Type 0 where
 
 less_left : (number : ℕ) (text rest : List ℕ) (words : List Word) → first_words number text ≡ Ok (words, rest) → length rest + 1 ≤ length text
 less_left number text rest words first =
-    omega (arith, ap length (spelled_first number text rest words first), length-append (line_text words) rest, length-append (join_with_byte 32 words) (10 ∷ []))
+    omega (
+      arith,
+      ap length (spelled_first number text rest words first),
+      length-append (line_text words) rest,
+      length-append (join_with_byte 32 words) (10 ∷ []),
+    )
 
 -- the lines after a line of this number, where all shorter texts lead somewhere
-after_first : (stage : Stage) (number : ℕ) (text : List ℕ) → text ≢ [] → ((next : Stage) (rest : List ℕ) → length rest + 1 ≤ length text → Somewhere next (number + 1) rest)
+after_first : (stage : Stage) (number : ℕ) (text : List ℕ) → text ≢ []
+    → ((next : Stage) (rest : List ℕ) → length rest + 1 ≤ length text → Somewhere next (number + 1) rest)
     → Somewhere stage number text
 after_first stage number text some shorter = at_first (first_words number text) refl
   where
-    at_said : (words : List Word) (rest : List ℕ) → first_words number text ≡ Ok (words, rest) → (said : Result Stage Kind) → says stage words ≡ said → Somewhere stage number text
+    at_said : (words : List Word) (rest : List ℕ) → first_words number text ≡ Ok (words, rest) → (said : Result Stage Kind) → says stage words ≡ said
+        → Somewhere stage number text
     at_said words rest first (Err kind) is =
         record { last = stage; end = number; stop = Bad_words kind; leads = At_words words rest kind first is; keeps = keeps_all stage }
     at_said words rest first (Ok next) is =
@@ -103,6 +112,7 @@ somewhere zero stage number (b ∷ text) short = absurd (omega (arith, short))
 somewhere (suc n) stage number (b ∷ text) short =
     after_first stage number (b ∷ text) (λ none. absurd (cc)) (λ next rest less. somewhere n next (number + 1) rest (omega (arith, short, less)))
 
+-- what a feed reads on is what the whole text says
 pub reads_on : (f : Fed) → IsFeed f → (more : List ℕ) (is_cut : Bool) → ReadsOn f more is_cut
 reads_on f is more is_cut =
     let on = somewhere (length (f.waiting ++ more)) f.stage (f.count + 1) (f.waiting ++ more) (omega arith) in

@@ -20,11 +20,13 @@ one_line words = append-nil (line_text words)
 -- the text of lines in six parts
 parts : (front edges bads life events : List (List Word)) (begin end : List Word)
     → flat_map line_text (((front ++ (edges ++ bads)) ++ (life ++ begin ∷ [])) ++ (events ++ end ∷ []))
-    ≡ (((((flat_map line_text front ++ flat_map line_text edges) ++ flat_map line_text bads) ++ flat_map line_text life) ++ line_text begin) ++ flat_map line_text events) ++ line_text end
+    ≡ (((((flat_map line_text front ++ flat_map line_text edges) ++ flat_map line_text bads) ++ flat_map line_text life) ++ line_text begin)
+    ++ flat_map line_text events) ++ line_text end
 parts front edges bads life events begin end =
     flat_map-append line_text ((front ++ (edges ++ bads)) ++ (life ++ begin ∷ [])) (events ++ end ∷ [])
     ∙ ap (λ (xs : List ℕ). xs ++ flat_map line_text (events ++ end ∷ [])) header ∙ ap (λ (xs : List ℕ). all ++ xs) back
-    ∙ join (flat_map line_text front) (flat_map line_text edges) (flat_map line_text bads) (flat_map line_text life) (line_text begin) (flat_map line_text events) (line_text end)
+    ∙ join (flat_map line_text front) (flat_map line_text edges) (flat_map line_text bads) (flat_map line_text life) (line_text begin)
+    (flat_map line_text events) (line_text end)
   where
     all : List ℕ
     all = (flat_map line_text front ++ (flat_map line_text edges ++ flat_map line_text bads)) ++ (flat_map line_text life ++ line_text begin)
@@ -32,8 +34,10 @@ parts front edges bads life events begin end =
     header : flat_map line_text ((front ++ (edges ++ bads)) ++ (life ++ begin ∷ [])) ≡ all
     header =
         flat_map-append line_text (front ++ (edges ++ bads)) (life ++ begin ∷ [])
-        ∙ ap (λ (xs : List ℕ). xs ++ flat_map line_text (life ++ begin ∷ [])) (flat_map-append line_text front (edges ++ bads) ∙ ap (λ (xs : List ℕ). flat_map line_text front ++ xs) (flat_map-append line_text edges bads))
-        ∙ ap (λ (xs : List ℕ). (flat_map line_text front ++ (flat_map line_text edges ++ flat_map line_text bads)) ++ xs) (flat_map-append line_text life (begin ∷ []) ∙ ap (λ (xs : List ℕ). flat_map line_text life ++ xs) (one_line begin))
+        ∙ ap (λ (xs : List ℕ). xs ++ flat_map line_text (life ++ begin ∷ []))
+        (flat_map-append line_text front (edges ++ bads) ∙ ap (λ (xs : List ℕ). flat_map line_text front ++ xs) (flat_map-append line_text edges bads))
+        ∙ ap (λ (xs : List ℕ). (flat_map line_text front ++ (flat_map line_text edges ++ flat_map line_text bads)) ++ xs)
+        (flat_map-append line_text life (begin ∷ []) ∙ ap (λ (xs : List ℕ). flat_map line_text life ++ xs) (one_line begin))
 
     back : flat_map line_text (events ++ end ∷ []) ≡ flat_map line_text events ++ line_text end
     back = flat_map-append line_text events (end ∷ []) ∙ ap (λ (xs : List ℕ). flat_map line_text events ++ xs) (one_line end)
@@ -42,11 +46,13 @@ parts front edges bads life events begin end =
     join a b c l d e f = simp append_assoc
 
 pub printed : (s : Scenario) (es : List Event) (a b c l d e f : List ℕ) → a ≡ flat_map line_text (front_lines s.format s.seed s.height s.limits s.graph.nodes)
-    → b ≡ a ++ flat_map (λ x. line_text (edge_words x)) s.graph.edges → c ≡ b ++ flat_map (λ x. line_text (bad_words x)) s.bad → l ≡ c ++ flat_map line_text (epochs_lines s) → d ≡ l ++ codes "begin\n"
+    → b ≡ a ++ flat_map (λ x. line_text (edge_words x)) s.graph.edges → c ≡ b ++ flat_map (λ x. line_text (bad_words x)) s.bad
+    → l ≡ c ++ flat_map line_text (epochs_lines s) → d ≡ l ++ codes "begin\n"
     → e ≡ d ++ flat_map (λ x. line_text (event_words s x)) es → f ≡ e ++ codes "end\n" → f ≡ schedule_text s es
 unfolding schedule_text
 printed s es a b c l d e f is_a is_b is_c is_l is_d is_e is_f =
-    let text = parts (front_lines s.format s.seed s.height s.limits s.graph.nodes) (map edge_words s.graph.edges) (map bad_words s.bad) (epochs_lines s) (map (event_words s) es) begin_words end_words in
+    let text = parts (front_lines s.format s.seed s.height s.limits s.graph.nodes) (map edge_words s.graph.edges) (map bad_words s.bad) (epochs_lines s)
+    (map (event_words s) es) begin_words end_words in
     let in_b : b ≡ a ++ flat_map line_text (map edge_words s.graph.edges) = is_b ∙ ap (λ (xs : List ℕ). a ++ xs) (sym (lines_of edge_words s.graph.edges)) in
     let in_c : c ≡ b ++ flat_map line_text (map bad_words s.bad) = is_c ∙ ap (λ (xs : List ℕ). b ++ xs) (sym (lines_of bad_words s.bad)) in
     let in_e : e ≡ d ++ flat_map line_text (map (event_words s) es) = is_e ∙ ap (λ (xs : List ℕ). d ++ xs) (sym (lines_of (event_words s) es)) in

@@ -21,7 +21,8 @@ abbrev pub SoFar : List ℕ → Stage → ℕ → List ℕ → Type 0
 SoFar text stage count rest = GoesOn says stages.Start text stage count rest
 
 -- nothing is left
-pub ends_at_end : (text : List ℕ) (is_cut : Bool) (stage : Stage) (count : ℕ) (rest : List ℕ) (ending : Ending) → SoFar text stage count rest → rest ≡ [] → ending ≡ nothing_left is_cut stage (count + 1)
+pub ends_at_end : (text : List ℕ) (is_cut : Bool) (stage : Stage) (count : ℕ) (rest : List ℕ) (ending : Ending) → SoFar text stage count rest → rest ≡ []
+    → ending ≡ nothing_left is_cut stage (count + 1)
     → IsReading text is_cut (record { stage = stage; ending = ending })
 ends_at_end text is_cut stage count rest ending so_far none is = record {
   line = count + 1;
@@ -31,7 +32,8 @@ ends_at_end text is_cut stage count rest ending so_far none is = record {
 }
 
 -- what a refused call says of the next line
-no_line : (old : Unread) (refused : TextRefused) → NoLine old refused → refused ≢ texts.Memory → (old.rest ≢ []) × (first_words (old.given + 1) old.rest ≡ Err refused)
+no_line : (old : Unread) (refused : TextRefused) → NoLine old refused → refused ≢ texts.Memory
+    → (old.rest ≢ []) × (first_words (old.given + 1) old.rest ≡ Err refused)
 no_line old texts.Memory line other = absurd (other refl)
 no_line old (texts.LineLong place) line other = line
 no_line old (texts.Cut place) line other = line
@@ -53,7 +55,8 @@ ends_at_line text is_cut stage count old refused ending so_far given takes is =
     }
 
 -- the next line may not stand there
-pub ends_at_words : (text : List ℕ) (is_cut : Bool) (stage back : Stage) (kind : Kind) (count : ℕ) (old rest : List ℕ) (words : List Word) (lead : Lead) → SoFar text stage count old
+pub ends_at_words : (text : List ℕ) (is_cut : Bool) (stage back : Stage) (kind : Kind) (count : ℕ) (old rest : List ℕ) (words : List Word) (lead : Lead)
+    → SoFar text stage count old
     → first_words (count + 1) old ≡ Ok (words, rest) → IsLead stage words lead → lead ≡ leads.Bad back kind
     → IsReading text is_cut (record { stage = back; ending = endings.Refused (count + 1) kind })
 ends_at_words text is_cut stage back kind count old rest words lead so_far first judged is =
@@ -67,7 +70,8 @@ ends_at_words text is_cut stage back kind count old rest words lead so_far first
     })
 
 -- the next line is good
-pub leads_on_from : (text : List ℕ) (stage next : Stage) (count : ℕ) (old rest : List ℕ) (words : List Word) (lead : Lead) (parsed : Parsed) → SoFar text stage count old
+pub leads_on_from : (text : List ℕ) (stage next : Stage) (count : ℕ) (old rest : List ℕ) (words : List Word) (lead : Lead) (parsed : Parsed)
+    → SoFar text stage count old
     → first_words (count + 1) old ≡ Ok (words, rest) → IsLead stage words lead → lead ≡ leads.To next parsed → SoFar text next (count + 1) rest
 leads_on_from text stage next count old rest words lead parsed so_far first judged is =
     let good : IsLead stage words (leads.To next parsed) = subst (IsLead stage words) is judged in

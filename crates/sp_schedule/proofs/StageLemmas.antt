@@ -1,5 +1,6 @@
 -- What holds at each stage of a schedule, and which lines led to it.
-use Rattle.std.proofs.Common.{◌≡◌, ◌≤◌, ◌<◌, ◌+◌, ◌==◌, ◌&&◌, ◌⊎◌, ℕ, inl, inr, Bool, true, false, List, [], ◌∷◌, ◌++◌, length, map, Option, Some, None, Result, Ok, Err, refl, sym, ap, ◌∙◌, subst, arith, append_assoc, append-nil, length-append, if◌then◌else◌}
+use Rattle.std.proofs.Common.{◌≡◌, ◌≤◌, ◌<◌, ◌+◌, ◌==◌, ◌&&◌, ◌⊎◌, ℕ, inl, inr, Bool, true, false, List, [], ◌∷◌, ◌++◌, length, map, Option, Some, None, Result}
+use Rattle.std.proofs.Common.{Ok, Err, refl, sym, ap, ◌∙◌, subst, arith, append_assoc, append-nil, length-append, if◌then◌else◌}
 use Rattle.std.specs.Prelude.{IfSome, nat_le, nat_lt}
 use Rattle.std.proofs.lemmas.Bool.{and_parts, cases_Bool, eqb-true}
 use Rattle.std.proofs.lemmas.Bool.Decides.{nat_tests}
@@ -27,11 +28,14 @@ use Rattle.sp_schedule_events.specs.declared.scenario.Scenario.{Scenario}
 use Rattle.sp_schedule_events.specs.declared.event.Event.{Event}
 use Rattle.sp_schedule_events.proofs.EventLemmas.{events_have_one_line}
 use Rattle.sp_schedule.specs.Feeds.{lines_to}
-use Rattle.sp_schedule.specs.Header.{bad_cells, begin_cells, bounds_cells, edge_cells, edge_of, end_cells, epochs_cells, height_at, height_cells, height_number, is_height, limits_of, next_after, nodes_cells, seed_cells, version_cells}
-use Rattle.sp_schedule.specs.Lines.{bad_node, bare, event_more, header, if_next, is_above, is_lower, is_next_edge, next_edge, says, says_bad, says_edge, says_epochs, with_bad, with_edge, with_epochs}
+use Rattle.sp_schedule.specs.Header.{bad_cells, begin_cells, bounds_cells, edge_cells, edge_of, end_cells, epochs_cells, height_at, height_cells, height_number}
+use Rattle.sp_schedule.specs.Header.{is_height, limits_of, next_after, nodes_cells, seed_cells, version_cells}
+use Rattle.sp_schedule.specs.Lines.{bad_node, bare, event_more, header, if_next, is_above, is_lower, is_next_edge, next_edge, says, says_bad, says_edge}
+use Rattle.sp_schedule.specs.Lines.{says_epochs, with_bad, with_edge, with_epochs}
 use Rattle.sp_schedule.specs.Readings.{IsGoodStage}
 use Rattle.sp_schedule.specs.Scenarios.{AreBounds, Ascend, IsScenario, IsSchedule, IsSeed, None_yet, One_more}
-use Rattle.sp_schedule.specs.Spelling.{bad_words, begin_words, bounds_words, edge_words, end_words, epochs_lines, epochs_words, front_lines, header_lines, height_words, scenario_lines, seed_words, version_words}
+use Rattle.sp_schedule.specs.Spelling.{bad_words, begin_words, bounds_words, edge_words, end_words, epochs_lines, epochs_words, front_lines, header_lines}
+use Rattle.sp_schedule.specs.Spelling.{height_words, scenario_lines, seed_words, version_words}
 use Rattle.sp_schedule.specs.declared.refused.Kind.TheVariants as kinds
 use Rattle.sp_schedule.specs.declared.stage.Stage.{Stage}
 use Rattle.sp_schedule.specs.declared.stage.Stage.TheVariants as stages
@@ -137,7 +141,8 @@ bad_lines s id =
 
 -- ---- one line more
 
-begins : (s : Scenario) (words : List Word) (next : Stage) (before : List (List Word)) → IsScenario s → scenario_lines s ++ epochs_lines s ≡ before → fits begin_cells words ≡ true
+begins : (s : Scenario) (words : List Word) (next : Stage) (before : List (List Word)) → IsScenario s → scenario_lines s ++ epochs_lines s ≡ before
+    → fits begin_cells words ≡ true
     → stages.Events s [] ≡ next → (lines_to next ≡ before ++ words ∷ []) × AreGood next
 begins s words next before good so_far fit is =
     let line = name_line _ words fit in
@@ -164,21 +169,45 @@ epochs_more s words next good fit says_it =
           let to : stages.Epochs (with_epochs s) ≡ next = (let said = is.1 in cc) in
           subst (λ (z : Stage). (lines_to z ≡ scenario_lines s ++ words ∷ []) × AreGood z) to (
             ap (λ (ws : List Word). scenario_lines s ++ ws ∷ []) (sym line),
-            (record { format = good.format; seed = good.seed; limits = good.limits; graph = good.graph; bad = good.bad; epochs = λ has. eqb-true s.format FORMAT_2 is.0 }, refl),
+            (
+              record {
+                format = good.format;
+                seed = good.seed;
+                limits = good.limits;
+                graph = good.graph;
+                bad = good.bad;
+                epochs =
+                    λ has. eqb-true s.format FORMAT_2 is.0;
+              },
+              refl,
+            ),
           ))
       | inr other ↦ absurd (let out = other.1 in cc)
     ]
 
-bad_more : (s : Scenario) (words : List Word) (next : Stage) → IsScenario s → s.epochs ≡ false → says_bad s words ≡ Ok next → (lines_to next ≡ scenario_lines s ++ words ∷ []) × AreGood next
+bad_more : (s : Scenario) (words : List Word) (next : Stage) → IsScenario s → s.epochs ≡ false → says_bad s words ≡ Ok next
+    → (lines_to next ≡ scenario_lines s ++ words ∷ []) × AreGood next
 bad_more s words next good none says_it =
     let step = header_ok (line_of (bad_cells (next_after 1 s.bad) s.graph.nodes) words) (λ x. stages.Bads (with_bad s (bad_node x.0))) next says_it in
     let read = line_read (bad_cells (next_after 1 s.bad) s.graph.nodes) words step.0 step.1 in
     subst (λ (z : Stage). (lines_to z ≡ scenario_lines s ++ words ∷ []) × AreGood z) step.2 (
       bad_lines s (bad_node step.0.0) ∙ ap (λ (ws : List Word). scenario_lines s ++ ws ∷ []) (sym read.1),
-      (record { format = good.format; seed = good.seed; limits = good.limits; graph = good.graph; bad = ascend_push 1 s.graph.nodes s.bad (bad_node step.0.0) good.bad read.0.0 read.0.1; epochs = good.epochs }, none),
+      (
+        record {
+          format = good.format;
+          seed = good.seed;
+          limits = good.limits;
+          graph = good.graph;
+          bad =
+              ascend_push 1 s.graph.nodes s.bad (bad_node step.0.0) good.bad read.0.0 read.0.1;
+          epochs = good.epochs;
+        },
+        none,
+      ),
     )
 
-edge_more : (s : Scenario) (words : List Word) (next : Stage) → IsScenario s → s.bad ≡ [] → s.epochs ≡ false → says_edge s words ≡ Ok next → (lines_to next ≡ scenario_lines s ++ words ∷ []) × AreGood next
+edge_more : (s : Scenario) (words : List Word) (next : Stage) → IsScenario s → s.bad ≡ [] → s.epochs ≡ false → says_edge s words ≡ Ok next
+    → (lines_to next ≡ scenario_lines s ++ words ∷ []) × AreGood next
 edge_more s words next good none off says_it =
     let step = header_ok (next_edge s words) (λ e. stages.Edges (with_edge s e)) next says_it in
     let e = step.0 in
@@ -189,15 +218,29 @@ edge_more s words next good none off says_it =
     elim (if_cases (is_next_edge s.format s.graph (edge_of s.graph.nodes x)) (Ok (edge_of s.graph.nodes x)) (Err faults.Range) (Ok e) found.2) [
       | inl is ↦ (
           let is_e : edge_of s.graph.nodes x ≡ e = cc in
-          subst (λ (z : Edge). IsNextEdge s.format s.graph z × (words ≡ edge_words z)) is_e (next_means s.format s.graph (edge_of s.graph.nodes x) read.0 is.0, read.1))
+          subst (λ (z : Edge). IsNextEdge s.format s.graph z × (words ≡ edge_words z)) is_e
+          (next_means s.format s.graph (edge_of s.graph.nodes x) read.0 is.0, read.1))
       | inr other ↦ absurd (let out = other.1 in cc)
     ] in
     subst (λ (z : Stage). (lines_to z ≡ scenario_lines s ++ words ∷ []) × AreGood z) step.2 (
       edge_lines s e none ∙ ap (λ (ws : List Word). scenario_lines s ++ ws ∷ []) (sym all.1),
-      (record { format = good.format; seed = good.seed; limits = good.limits; graph = graph_grows s.format s.graph e good.graph all.0; bad = good.bad; epochs = good.epochs }, none, off),
+      (
+        record {
+          format = good.format;
+          seed = good.seed;
+          limits = good.limits;
+          graph = graph_grows s.format s.graph e good.graph all.0;
+          bad = good.bad;
+          epochs =
+              good.epochs;
+        },
+        none,
+        off,
+      ),
     )
 
-event_said : (s : Scenario) (es : List Event) (words : List Word) (r : Result Event Fault) (next : Stage) → read_event s es words ≡ r → IsSchedule s es → length es < MAX_EVENTS
+event_said : (s : Scenario) (es : List Event) (words : List Word) (r : Result Event Fault) (next : Stage) → read_event s es words ≡ r → IsSchedule s es
+    → length es < MAX_EVENTS
     → event_more s es r ≡ Ok next
     → (lines_to next ≡ lines_to (stages.Events s es) ++ words ∷ []) × AreGood next
 event_said s es words (Err fault) next read good room is = absurd cc
@@ -215,8 +258,11 @@ ends : (s : Scenario) (es : List Event) (words : List Word) (next : Stage) → I
     → (lines_to next ≡ lines_to (stages.Events s es) ++ words ∷ []) × AreGood next
 ends s es words next good fit is =
     let line = name_line _ words fit in
-    subst (λ (z : Stage). (lines_to z ≡ lines_to (stages.Events s es) ++ words ∷ []) × AreGood z) is
-    (sym (append_assoc (header_lines s) (map (event_words s) es) (end_words ∷ [])) ∙ ap (λ (ws : List Word). (header_lines s ++ map (event_words s) es) ++ ws ∷ []) (sym line), good)
+    subst (λ (z : Stage). (lines_to z ≡ lines_to (stages.Events s es) ++ words ∷ []) × AreGood z) is (
+      sym (append_assoc (header_lines s) (map (event_words s) es) (end_words ∷ []))
+          ∙ ap (λ (ws : List Word). (header_lines s ++ map (event_words s) es) ++ ws ∷ []) (sym line),
+      good,
+    )
 
 -- a number that may stand in the first line is that of a format
 one_of_two : (n : ℕ) → FORMAT_1 ≤ n → n ≤ FORMAT_2 → IsFormat n
@@ -226,7 +272,8 @@ one_of_two n low high =
       | inr other ↦ inr (grind (arith, nat_tests, low, high, other))
     ]
 
-pub says_more : (stage : Stage) (words : List Word) (next : Stage) → AreGood stage → says stage words ≡ Ok next → (lines_to next ≡ lines_to stage ++ words ∷ []) × AreGood next
+pub says_more : (stage : Stage) (words : List Word) (next : Stage) → AreGood stage → says stage words ≡ Ok next
+    → (lines_to next ≡ lines_to stage ++ words ∷ []) × AreGood next
 says_more stages.Start words next good is =
     let step = header_ok (line_of version_cells words) (λ x. stages.Version x.0) next is in
     let read = line_read version_cells words step.0 step.1 in
@@ -260,7 +307,13 @@ says_more (stages.Bounds format seed height limits) words next good is =
           format = good.0;
           seed = good.1;
           limits = good.2;
-          graph = record { nodes = (read.0.0, read.0.1); few = omega arith; edges = λ k d inside. absurd (omega (arith, inside)); ascend = λ i j d less inside. absurd (omega (arith, inside)) };
+          graph = record {
+            nodes = (read.0.0, read.0.1);
+            few = omega arith;
+            edges = λ k d inside. absurd (omega (arith, inside));
+            ascend =
+                λ i j d less inside. absurd (omega (arith, inside));
+          };
           bad = tt;
           epochs = λ has. absurd cc;
         },
@@ -269,10 +322,12 @@ says_more (stages.Bounds format seed height limits) words next good is =
       ),
     )
 says_more (stages.Edges s) words next good is =
-    elim (if_cases (fits begin_cells words) (Ok (stages.Events s [])) (if fits epochs_cells words then says_epochs s else (if fits (bad_cells 0 0) words then says_bad s words else says_edge s words)) (Ok next) is) [
+    elim (if_cases (fits begin_cells words) (Ok (stages.Events s []))
+    (if fits epochs_cells words then says_epochs s else (if fits (bad_cells 0 0) words then says_bad s words else says_edge s words)) (Ok next) is) [
       | inl begin ↦ begins s words next (scenario_lines s) good.0 (no_epochs s good.2) begin.0 (let to = begin.1 in cc)
       | inr other ↦
-          elim (if_cases (fits epochs_cells words) (says_epochs s) (if fits (bad_cells 0 0) words then says_bad s words else says_edge s words) (Ok next) other.1) [
+          elim (if_cases (fits epochs_cells words) (says_epochs s) (if fits (bad_cells 0 0) words then says_bad s words else says_edge s words) (Ok next)
+          other.1) [
             | inl epochs ↦ epochs_more s words next good.0 epochs.0 epochs.1
             | inr another ↦
                 elim (if_cases (fits (bad_cells 0 0) words) (says_bad s words) (says_edge s words) (Ok next) another.1) [
@@ -296,7 +351,8 @@ says_more (stages.Epochs s) words next good is =
       | inr other ↦ absurd (let out = other.1 in cc)
     ]
 says_more (stages.Events s es) words next good is =
-    elim (if_cases (fits end_cells words) (Ok (stages.End s es)) (if nat_le MAX_EVENTS (length es) then Err kinds.TooMany else event_more s es (read_event s es words)) (Ok next) is) [
+    elim (if_cases (fits end_cells words) (Ok (stages.End s es))
+    (if nat_le MAX_EVENTS (length es) then Err kinds.TooMany else event_more s es (read_event s es words)) (Ok next) is) [
       | inl end ↦ ends s es words next good end.0 (let to = end.1 in cc)
       | inr other ↦
           elim (if_cases (nat_le MAX_EVENTS (length es)) (Err kinds.TooMany) (event_more s es (read_event s es words)) (Ok next) other.1) [
@@ -307,7 +363,8 @@ says_more (stages.Events s es) words next good is =
 says_more (stages.End s es) words next good is = absurd cc
 
 -- all lines that were read
-pub all_lines : (lines : List (List Word)) (stage last : Stage) → AreGood stage → follow_all says stage lines ≡ Ok last → (lines_to last ≡ lines_to stage ++ lines) × AreGood last
+pub all_lines : (lines : List (List Word)) (stage last : Stage) → AreGood stage → follow_all says stage lines ≡ Ok last
+    → (lines_to last ≡ lines_to stage ++ lines) × AreGood last
 all_lines [] stage last good is =
     let same_stage : stage ≡ last = cc in
     subst (λ (z : Stage). (lines_to z ≡ lines_to stage ++ []) × AreGood z) same_stage (sym (append-nil (lines_to stage)), good)

@@ -1,5 +1,6 @@
 -- What the line that waits in a feed is: when it is ready, and where its words lead, whatever follows it.
-use Rattle.std.proofs.Common.{◌≡◌, ◌≢◌, ◌≤◌, ◌<◌, ◌+◌, ◌-◌, ◌==◌, ℕ, inl, inr, Bool, true, false, List, [], ◌∷◌, ◌++◌, length, take, Result, Ok, Err, refl, sym, ap, ◌∙◌, subst, arith, append_assoc, append-nil, length-append}
+use Rattle.std.proofs.Common.{◌≡◌, ◌≢◌, ◌≤◌, ◌<◌, ◌+◌, ◌-◌, ◌==◌, ℕ, inl, inr, Bool, true, false, List, [], ◌∷◌, ◌++◌, length, take, Result, Ok, Err, refl, sym}
+use Rattle.std.proofs.Common.{ap, ◌∙◌, subst, arith, append_assoc, append-nil, length-append}
 use Rattle.std.specs.Prelude.{nat_le, nat_lt, not}
 use Rattle.std.specs.List.{list_any, position_or_len}
 use Rattle.std.proofs.lemmas.Bool.{cases_Bool, ne_eqb}
@@ -86,7 +87,10 @@ front_grows bytes piece count front (inl ended) room =
       short = omega (arith, room, ap length ended.1, length-append ended.0 (10 ∷ []), length-append bytes ended.0);
     })
 front_grows bytes piece count front (inr all) room =
-    inl (All-append (λ (b : ℕ). b ≢ 10) bytes (take count piece) front.one_line (taken piece count all.0 all.1), omega (arith, room, length-append bytes (take count piece)))
+    inl (
+      All-append (λ (b : ℕ). b ≢ 10) bytes (take count piece) front.one_line (taken piece count all.0 all.1),
+      omega (arith, room, length-append bytes (take count piece)),
+    )
   where
     taken : (piece : List ℕ) (count : ℕ) → count ≡ length piece → IsInOneLine piece → IsInOneLine (take count piece)
     taken piece count is one = subst IsInOneLine (sym (take_whole piece count is)) one
@@ -94,7 +98,8 @@ front_grows bytes piece count front (inr all) room =
 -- ---- the line that waits
 
 -- the words of a line are those of each text that begins with it
-first_of : (number : ℕ) (line more : List ℕ) (answer : Result (List Word) TextRefused) → IsInOneLine line → length line ≤ MAX_LINE_BYTES → words_at number line ≡ answer
+first_of : (number : ℕ) (line more : List ℕ) (answer : Result (List Word) TextRefused) → IsInOneLine line → length line ≤ MAX_LINE_BYTES
+    → words_at number line ≡ answer
     → first_words number ((line ++ 10 ∷ []) ++ more) ≡ before_rest more answer
 unfolding first_words
 first_of number line more answer one short are = rw (append_assoc line (10 ∷ []) more, spelled_lines_are_read number line more one short, are) refl
@@ -107,7 +112,8 @@ past_front (b ∷ bytes) more one =
     rw differs (omega (arith, past_front bytes more (All-tail (λ (x : ℕ). x ≢ 10) b bytes one)))
 
 -- a line that is too long is so whatever follows
-first_long : (number : ℕ) (bytes more : List ℕ) → IsInOneLine bytes → MAX_LINE_BYTES < length bytes → first_words number (bytes ++ more) ≡ Err (long_line number)
+first_long : (number : ℕ) (bytes more : List ℕ) → IsInOneLine bytes → MAX_LINE_BYTES < length bytes
+    → first_words number (bytes ++ more) ≡ Err (long_line number)
 unfolding first_words line_at
 first_long number bytes more one long =
     let far = past_front bytes more one in
@@ -130,7 +136,8 @@ some_more [] more some = absurd (some refl)
 some_more (b ∷ bytes) more some = λ none. absurd (cc)
 
 -- a line that isn't words, whatever follows
-stops_line : (number : ℕ) (bytes : List ℕ) (stage : Stage) (refused : TextRefused) → bytes ≢ [] → ((more : List ℕ) → first_words number (bytes ++ more) ≡ Err refused)
+stops_line : (number : ℕ) (bytes : List ℕ) (stage : Stage) (refused : TextRefused) → bytes ≢ []
+    → ((more : List ℕ) → first_words number (bytes ++ more) ≡ Err refused)
     → ((is_cut : Bool) → no_words is_cut number refused ≡ endings.Refused number (text_kind refused)) → StopsAt number bytes stage (text_kind refused)
 stops_line number bytes stage refused some first ends = record {
   stop = No_words refused;
@@ -138,7 +145,8 @@ stops_line number bytes stage refused some first ends = record {
   ends = ends;
 }
 
-told : (number : ℕ) (refused : TextRefused) → ((place : At) → refused ≢ texts.Cut place) → (is_cut : Bool) → no_words is_cut number refused ≡ endings.Refused number (text_kind refused)
+told : (number : ℕ) (refused : TextRefused) → ((place : At) → refused ≢ texts.Cut place) → (is_cut : Bool)
+    → no_words is_cut number refused ≡ endings.Refused number (text_kind refused)
 told number (texts.LineLong place) other true = refl
 told number (texts.LineLong place) other false = refl
 told number (texts.Cut place) other is_cut = absurd (other place refl)
@@ -159,11 +167,13 @@ line_not_empty : (bytes line : List ℕ) → bytes ≡ line ++ 10 ∷ [] → byt
 line_not_empty bytes line is none = let h = ap length is in let e = ap length none in omega (arith, h, e, length-append line (10 ∷ []))
 
 -- a ready line without its newline is too long
-pub is_long : (number : ℕ) (bytes : List ℕ) (stage : Stage) → IsFront bytes → is_ready bytes ≡ true → ((line : List ℕ) → bytes ≢ line ++ 10 ∷ []) → StopsAt number bytes stage kinds.LineLong
+pub is_long : (number : ℕ) (bytes : List ℕ) (stage : Stage) → IsFront bytes → is_ready bytes ≡ true → ((line : List ℕ) → bytes ≢ line ++ 10 ∷ [])
+    → StopsAt number bytes stage kinds.LineLong
 is_long number bytes stage (inl front) ready none =
     let long : nat_lt 131200 (length bytes) ≡ true = sym (ready_open bytes (inl front) none) ∙ ready in
     let more = more_than (length bytes) long in
-    stops_line number bytes stage (long_line number) (not_empty bytes more) (λ rest. first_long number bytes rest front.0 more) (told number (long_line number) (λ place is. absurd (cc)))
+    stops_line number bytes stage (long_line number) (not_empty bytes more) (λ rest. first_long number bytes rest front.0 more)
+    (told number (long_line number) (λ place is. absurd (cc)))
 is_long number bytes stage (inr ends) ready none = absurd (none ends.line ends.is)
 
 -- a line with its newline is a whole one
@@ -174,14 +184,16 @@ whole_of bytes line (inr ends) is =
     (subst IsInOneLine same ends.one_line, rw (sym same) ends.short)
 
 -- its words, whatever follows
-first_after : (number : ℕ) (bytes line : List ℕ) (answer : Result (List Word) TextRefused) → IsFront bytes → bytes ≡ line ++ 10 ∷ [] → words_at number line ≡ answer
+first_after : (number : ℕ) (bytes line : List ℕ) (answer : Result (List Word) TextRefused) → IsFront bytes → bytes ≡ line ++ 10 ∷ []
+    → words_at number line ≡ answer
     → (more : List ℕ) → first_words number (bytes ++ more) ≡ before_rest more answer
 first_after number bytes line answer front is are more =
     let whole = whole_of bytes line front is in
     rw is (first_of number line more answer whole.0 whole.1 are)
 
 -- they lead where they say
-pub words_lead : (number : ℕ) (bytes line : List ℕ) (stage : Stage) (words : List Word) (lead : Lead) → IsFront bytes → bytes ≡ line ++ 10 ∷ [] → words_at number line ≡ Ok words
+pub words_lead : (number : ℕ) (bytes line : List ℕ) (stage : Stage) (words : List Word) (lead : Lead) → IsFront bytes → bytes ≡ line ++ 10 ∷ []
+    → words_at number line ≡ Ok words
     → IsLead stage words lead → IsLeadOf number bytes stage lead
 words_lead number bytes line stage words (leads.To next given) front is are judged =
     record { words = words; first = first_after number bytes line (Ok words) front is are; good = judged.0; parsed = judged.1 }
@@ -195,7 +207,8 @@ words_lead number bytes line stage words (leads.Bad back kind) front is are judg
 )
 words_lead number bytes line stage words (leads.Unread back) front is are judged = judged
 
-is_error : {X : Type 0} (view : X → List Word) (refused : TextRefused) (answer : Result (List Word) TextRefused) → GivesInMemory view (Err refused) answer → refused ≢ texts.Memory
+is_error : {X : Type 0} (view : X → List Word) (refused : TextRefused) (answer : Result (List Word) TextRefused) → GivesInMemory view (Err refused) answer
+    → refused ≢ texts.Memory
     → answer ≡ Err refused
 is_error view (texts.LineLong place) answer gives other = gives
 is_error view (texts.Cut place) answer gives other = gives
@@ -212,23 +225,28 @@ never_cut number line place are = elim (cases_Bool (nat_le (bad_place line) (len
 ]
 
 -- a line that isn't words
-no_words_stop : {X : Type 0} (view : X → List Word) (number : ℕ) (bytes line : List ℕ) (stage : Stage) (refused : TextRefused) → IsFront bytes → bytes ≡ line ++ 10 ∷ []
+no_words_stop : {X : Type 0} (view : X → List Word) (number : ℕ) (bytes line : List ℕ) (stage : Stage) (refused : TextRefused) → IsFront bytes
+    → bytes ≡ line ++ 10 ∷ []
     → GivesInMemory view (Err refused) (words_at number line) → refused ≢ texts.Memory → StopsAt number bytes stage (text_kind refused)
 no_words_stop view number bytes line stage refused front is gives other =
     let are = is_error view refused (words_at number line) gives other in
     stops_line number bytes stage refused (line_not_empty bytes line is) (first_after number bytes line (Err refused) front is are)
     (told number refused (λ place cut. never_cut number line place (rw cut at are)))
 
-pub no_words_lead : {X : Type 0} (view : X → List Word) (number : ℕ) (bytes line : List ℕ) (stage : Stage) (refused : TextRefused) (lead : Lead) → IsFront bytes → bytes ≡ line ++ 10 ∷ []
+pub no_words_lead : {X : Type 0} (view : X → List Word) (number : ℕ) (bytes line : List ℕ) (stage : Stage) (refused : TextRefused) (lead : Lead) → IsFront bytes
+    → bytes ≡ line ++ 10 ∷ []
     → GivesInMemory view (Err refused) (words_at number line) → IsRefusedLead stage refused lead → IsLeadOf number bytes stage lead
 no_words_lead view number bytes line stage texts.Memory lead front is gives comes = subst (IsLeadOf number bytes stage) (sym comes) refl
 no_words_lead view number bytes line stage (texts.LineLong place) lead front is gives comes =
-    subst (IsLeadOf number bytes stage) (sym comes) (refl, no_words_stop view number bytes line stage (texts.LineLong place) front is gives (λ same. absurd (cc)))
+    subst (IsLeadOf number bytes stage) (sym comes)
+    (refl, no_words_stop view number bytes line stage (texts.LineLong place) front is gives (λ same. absurd (cc)))
 no_words_lead view number bytes line stage (texts.Cut place) lead front is gives comes =
     subst (IsLeadOf number bytes stage) (sym comes) (refl, no_words_stop view number bytes line stage (texts.Cut place) front is gives (λ same. absurd (cc)))
 no_words_lead view number bytes line stage (texts.BadWord place) lead front is gives comes =
-    subst (IsLeadOf number bytes stage) (sym comes) (refl, no_words_stop view number bytes line stage (texts.BadWord place) front is gives (λ same. absurd (cc)))
+    subst (IsLeadOf number bytes stage) (sym comes)
+    (refl, no_words_stop view number bytes line stage (texts.BadWord place) front is gives (λ same. absurd (cc)))
 no_words_lead view number bytes line stage (texts.BadNumber place) lead front is gives comes =
-    subst (IsLeadOf number bytes stage) (sym comes) (refl, no_words_stop view number bytes line stage (texts.BadNumber place) front is gives (λ same. absurd (cc)))
+    subst (IsLeadOf number bytes stage) (sym comes)
+    (refl, no_words_stop view number bytes line stage (texts.BadNumber place) front is gives (λ same. absurd (cc)))
 no_words_lead view number bytes line stage (texts.BadHex place) lead front is gives comes =
     subst (IsLeadOf number bytes stage) (sym comes) (refl, no_words_stop view number bytes line stage (texts.BadHex place) front is gives (λ same. absurd (cc)))

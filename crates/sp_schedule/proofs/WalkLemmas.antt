@@ -1,5 +1,6 @@
 -- The lines of a schedule lead to its end, each good in its place.
-use Rattle.std.proofs.Common.{◌≡◌, ◌≤◌, ◌<◌, ◌+◌, ℕ, Bool, true, false, List, [], ◌∷◌, ◌++◌, length, map, Option, Some, None, Result, Ok, Err, inl, inr, refl, sym, ap, ◌∙◌, subst, arith, append_assoc, append-nil, length-append, if◌then◌else◌}
+use Rattle.std.proofs.Common.{◌≡◌, ◌≤◌, ◌<◌, ◌+◌, ℕ, Bool, true, false, List, [], ◌∷◌, ◌++◌, length, map, Option, Some, None, Result, Ok, Err, inl, inr, refl}
+use Rattle.std.proofs.Common.{sym, ap, ◌∙◌, subst, arith, append_assoc, append-nil, length-append, if◌then◌else◌}
 use Rattle.std.specs.Prelude.{All, IfSome, nat_le, nat_lt, ◌==◌, ◌&&◌, ◌^◌}
 use Rattle.std.proofs.lemmas.Bool.{and_from, cases_Bool, eq-eqb}
 use Rattle.std.proofs.lemmas.Bool.Decides.{nat_tests}
@@ -31,10 +32,12 @@ use Rattle.sp_schedule_crafts.specs.declared.object.CraftedObject.TheVariants as
 use Rattle.sp_lines.specs.declared.fault.Fault.{Fault}
 use Rattle.sp_schedule.specs.declared.refused.Kind.TheVariants as kinds
 use Rattle.sp_schedule_events.proofs.EventLemmas.{events_have_one_line, good_event_line, nodes_small}
-use Rattle.sp_schedule.specs.Header.{bad_cells, begin_cells, bounds_cells, bounds_values, edge_cells, edge_values, end_cells, epochs_cells, height_cells, height_number, next_after, nodes_cells, seed_cells, version_cells}
+use Rattle.sp_schedule.specs.Header.{bad_cells, begin_cells, bounds_cells, bounds_values, edge_cells, edge_values, end_cells, epochs_cells, height_cells}
+use Rattle.sp_schedule.specs.Header.{height_number, next_after, nodes_cells, seed_cells, version_cells}
 use Rattle.sp_schedule.specs.Lines.{bare, event_more, is_above, is_lower, is_next_edge, says, with_epochs}
 use Rattle.sp_schedule.specs.Scenarios.{AreInRange, Ascend, IsScenario, IsSchedule, None_yet, One_more}
-use Rattle.sp_schedule.specs.Spelling.{bad_words, begin_words, bounds_words, edge_words, end_words, epochs_lines, epochs_words, front_lines, header_lines, height_words, nodes_words, schedule_lines, seed_words, version_words}
+use Rattle.sp_schedule.specs.Spelling.{bad_words, begin_words, bounds_words, edge_words, end_words, epochs_lines, epochs_words, front_lines, header_lines}
+use Rattle.sp_schedule.specs.Spelling.{height_words, nodes_words, schedule_lines, seed_words, version_words}
 use Rattle.sp_schedule.specs.declared.stage.Stage.{Stage}
 use Rattle.sp_schedule.specs.declared.stage.Stage.TheVariants as stages
 
@@ -49,7 +52,8 @@ none stage = record { good = All-nil IsGoodLine; follows = refl }
 one : (stage next : Stage) (words : List Word) → IsGoodLine words → says stage words ≡ Ok next → Follows stage (words ∷ []) next
 one stage next words good is = record { good = All-cons IsGoodLine words [] good (All-nil IsGoodLine); follows = rw is refl }
 
-follow_then : (front back : List (List Word)) (stage mid last : Stage) → follow_all says stage front ≡ Ok mid → follow_all says mid back ≡ Ok last → follow_all says stage (front ++ back) ≡ Ok last
+follow_then : (front back : List (List Word)) (stage mid last : Stage) → follow_all says stage front ≡ Ok mid → follow_all says mid back ≡ Ok last
+    → follow_all says stage (front ++ back) ≡ Ok last
 follow_then [] back stage mid last first second = let at : stage ≡ mid = cc in subst (λ (z : Stage). follow_all says z back ≡ Ok last) (sym at) second
 follow_then (words ∷ front) back stage mid last first second =
     let step = then_ok (says stage words) (λ next. follow_all says next front) mid first in
@@ -80,7 +84,8 @@ in_first_line : (n : ℕ) → IsFormat n → (FORMAT_1 ≤ n) × (n ≤ FORMAT_2
 in_first_line n (inl one) = rw one (omega arith, omega arith)
 in_first_line n (inr two) = rw two (omega arith, omega arith)
 
-front_follows : (s : Scenario) → IsScenario s → Follows stages.Start (front_lines s.format s.seed s.height s.limits s.graph.nodes) (stages.Edges (bare s.format s.seed s.height s.limits s.graph.nodes))
+front_follows : (s : Scenario) → IsScenario s
+    → Follows stages.Start (front_lines s.format s.seed s.height s.limits s.graph.nodes) (stages.Edges (bare s.format s.seed s.height s.limits s.graph.nodes))
 front_follows s good =
     let format_is = in_first_line s.format good.format in
     let seed : AreIn seed_cells (s.seed, tt) = ((omega (arith, good.seed.0), omega (arith, good.seed.0), good.seed.1), tt) in
@@ -90,13 +95,19 @@ front_follows s good =
     let room : nat_lt (max_nodes s.format) (2 ^ 64) ≡ true = grind (arith, nat_tests, nodes_small s.format) in
     let a = one stages.Start (stages.Version s.format) (version_words s.format) (good_row_line version_cells (s.format, tt) refl version)
     (rw (line_back version_cells (s.format, tt) (omega arith, tt) version) refl) in
-    let b = one (stages.Version s.format) (stages.Seed s.format s.seed) (seed_words s.seed) (good_row_line seed_cells (s.seed, tt) refl seed) (rw (line_back seed_cells (s.seed, tt) tt seed) refl) in
-    let c = one (stages.Seed s.format s.seed) (stages.Height s.format s.seed s.height) (height_words s.height) (height_good s.height) (height_line s.format s.seed s.height) in
-    let d = one (stages.Height s.format s.seed s.height) (stages.Bounds s.format s.seed s.height s.limits) (bounds_words s.limits) (good_row_line bounds_cells (bounds_values s.limits) refl bounds)
+    let b = one (stages.Version s.format) (stages.Seed s.format s.seed) (seed_words s.seed) (good_row_line seed_cells (s.seed, tt) refl seed)
+    (rw (line_back seed_cells (s.seed, tt) tt seed) refl) in
+    let c = one (stages.Seed s.format s.seed) (stages.Height s.format s.seed s.height) (height_words s.height) (height_good s.height)
+    (height_line s.format s.seed s.height) in
+    let d = one (stages.Height s.format s.seed s.height) (stages.Bounds s.format s.seed s.height s.limits) (bounds_words s.limits)
+    (good_row_line bounds_cells (bounds_values s.limits) refl bounds)
     (rw (line_back bounds_cells (bounds_values s.limits) (omega arith, (omega arith, tt)) bounds) refl) in
-    let e = one (stages.Bounds s.format s.seed s.height s.limits) (stages.Edges (bare s.format s.seed s.height s.limits s.graph.nodes)) (nodes_words s.graph.nodes)
-    (good_row_line (nodes_cells s.format) (s.graph.nodes, tt) (rw room refl) nodes) (rw (line_back (nodes_cells s.format) (s.graph.nodes, tt) (nodes_small s.format, tt) nodes) refl) in
-    both (version_words s.format ∷ []) _ _ _ _ a (both (seed_words s.seed ∷ []) _ _ _ _ b (both (height_words s.height ∷ []) _ _ _ _ c (both (bounds_words s.limits ∷ []) _ _ _ _ d e)))
+    let e = one (stages.Bounds s.format s.seed s.height s.limits) (stages.Edges (bare s.format s.seed s.height s.limits s.graph.nodes))
+    (nodes_words s.graph.nodes)
+    (good_row_line (nodes_cells s.format) (s.graph.nodes, tt) (rw room refl) nodes)
+    (rw (line_back (nodes_cells s.format) (s.graph.nodes, tt) (nodes_small s.format, tt) nodes) refl) in
+    both (version_words s.format ∷ []) _ _ _ _ a
+    (both (seed_words s.seed ∷ []) _ _ _ _ b (both (height_words s.height ∷ []) _ _ _ _ c (both (bounds_words s.limits ∷ []) _ _ _ _ d e)))
 
 -- ---- edges
 
@@ -123,7 +134,8 @@ next_is format g e is =
 
 -- the scenario with these edges alone, no compromised node, and no epochs
 abbrev edges_so_far : Scenario → List Edge → Scenario
-edges_so_far s edges = record { format = s.format; seed = s.seed; height = s.height; limits = s.limits; graph = with_edges s.graph edges; bad = []; epochs = false }
+edges_so_far s edges =
+    record { format = s.format; seed = s.seed; height = s.height; limits = s.limits; graph = with_edges s.graph edges; bad = []; epochs = false }
 
 few_nodes : (format n : ℕ) → n ≤ max_nodes format → nat_lt n (2 ^ 64) ≡ true
 few_nodes format n few = grind (arith, nat_tests, few, nodes_small format)
@@ -147,11 +159,13 @@ edges_follow : (s : Scenario) (front back : List Edge) → IsGraphIn s.format s.
     → Follows (stages.Edges (edges_so_far s front)) (map edge_words back) (stages.Edges (edges_so_far s s.graph.edges))
 edges_follow s front [] good is =
     let all : front ≡ s.graph.edges = sym (is ∙ append-nil front) in
-    subst (λ (es : List Edge). Follows (stages.Edges (edges_so_far s front)) [] (stages.Edges (edges_so_far s es))) all (none (stages.Edges (edges_so_far s front)))
+    subst (λ (es : List Edge). Follows (stages.Edges (edges_so_far s front)) [] (stages.Edges (edges_so_far s es))) all
+    (none (stages.Edges (edges_so_far s front)))
 edges_follow s front (e ∷ back) good is =
     let next = next_of s.format s.graph front back e good is in
     let few = good.nodes.1 in
-    let first = one (stages.Edges (edges_so_far s front)) (stages.Edges (edges_so_far s (front ++ e ∷ []))) (edge_words e) (edge_good s e few next.0) (edge_line s front e few next.0 next.1) in
+    let first = one (stages.Edges (edges_so_far s front)) (stages.Edges (edges_so_far s (front ++ e ∷ []))) (edge_words e) (edge_good s e few next.0)
+    (edge_line s front e few next.0 next.1) in
     both (edge_words e ∷ []) (map edge_words back) _ _ _ first (edges_follow s (front ++ e ∷ []) back good (is ∙ sym (append_assoc front (e ∷ []) back)))
 
 -- ---- compromised nodes
@@ -166,7 +180,8 @@ next_after_append low (c ∷ front) b = next_after_append (c.0 + 1) front b
 
 bad_read : (s : Scenario) (front : List NodeId) (b : NodeId) → s.graph.nodes ≤ max_nodes s.format → next_after 1 front ≤ b.0 → b.0 ≤ s.graph.nodes
     → line_of (bad_cells (next_after 1 front) s.graph.nodes) (bad_words b) ≡ Ok (b.0, tt)
-bad_read s front b few above below = line_back (bad_cells (next_after 1 front) s.graph.nodes) (b.0, tt) (omega (arith, few, nodes_small s.format), tt) (above, below, tt)
+bad_read s front b few above below =
+    line_back (bad_cells (next_after 1 front) s.graph.nodes) (b.0, tt) (omega (arith, few, nodes_small s.format), tt) (above, below, tt)
 
 bad_good : (s : Scenario) (b : NodeId) → s.graph.nodes ≤ max_nodes s.format → b.0 ≤ s.graph.nodes → IsGoodLine (bad_words b)
 bad_good s b few below = good_row_line (bad_cells 0 s.graph.nodes) (b.0, tt) (rw (few_nodes s.format s.graph.nodes few) refl) (omega arith, below, tt)
@@ -174,13 +189,16 @@ bad_good s b few below = good_row_line (bad_cells 0 s.graph.nodes) (b.0, tt) (rw
 bads_follow : (s : Scenario) (front back : List NodeId) → s.graph.nodes ≤ max_nodes s.format → Ascend (next_after 1 front) s.graph.nodes back
     → Follows (stages.Bads (bads_so_far s front)) (map bad_words back) (stages.Bads (bads_so_far s (front ++ back)))
 bads_follow s front [] few good =
-    subst (λ (bs : List NodeId). Follows (stages.Bads (bads_so_far s front)) [] (stages.Bads (bads_so_far s bs))) (sym (append-nil front)) (none (stages.Bads (bads_so_far s front)))
+    subst (λ (bs : List NodeId). Follows (stages.Bads (bads_so_far s front)) [] (stages.Bads (bads_so_far s bs))) (sym (append-nil front))
+    (none (stages.Bads (bads_so_far s front)))
 bads_follow s front (b ∷ back) few good =
     let read = bad_read s front b few good.0 good.1 in
-    let first = one (stages.Bads (bads_so_far s front)) (stages.Bads (bads_so_far s (front ++ b ∷ []))) (bad_words b) (bad_good s b few good.1) (rw read refl) in
+    let first = one (stages.Bads (bads_so_far s front)) (stages.Bads (bads_so_far s (front ++ b ∷ []))) (bad_words b) (bad_good s b few good.1)
+    (rw read refl) in
     let rest = bads_follow s (front ++ b ∷ []) back few (rw (next_after_append 1 front b) good.2) in
     let all : Follows (stages.Bads (bads_so_far s (front ++ b ∷ []))) (map bad_words back) (stages.Bads (bads_so_far s (front ++ b ∷ back))) =
-    subst (λ (bs : List NodeId). Follows (stages.Bads (bads_so_far s (front ++ b ∷ []))) (map bad_words back) (stages.Bads (bads_so_far s bs))) (append_assoc front (b ∷ []) back) rest in
+    subst (λ (bs : List NodeId). Follows (stages.Bads (bads_so_far s (front ++ b ∷ []))) (map bad_words back) (stages.Bads (bads_so_far s bs)))
+    (append_assoc front (b ∷ []) back) rest in
     both (bad_words b ∷ []) (map bad_words back) _ _ _ first all
 
 begin_good : IsGoodLine begin_words
@@ -197,7 +215,8 @@ with_life s epochs = record { format = s.format; seed = s.seed; height = s.heigh
 
 -- what leads to the events of a scenario without epochs, and to the line `epochs`, leads to those of the scenario
 begin_follows : (s : Scenario) (stage : Stage) → IsScenario s → says stage begin_words ≡ Ok (stages.Events (with_life s false) [])
-    → (s.format ≡ FORMAT_2 → says stage epochs_words ≡ Ok (stages.Epochs (with_life s true))) → Follows stage (epochs_lines s ++ begin_words ∷ []) (stages.Events s [])
+    → (s.format ≡ FORMAT_2 → says stage epochs_words ≡ Ok (stages.Epochs (with_life s true)))
+    → Follows stage (epochs_lines s ++ begin_words ∷ []) (stages.Events s [])
 begin_follows s stage good begin epochs = go s.epochs refl
   where
     go : (b : Bool) → s.epochs ≡ b → Follows stage ((if b then epochs_words ∷ [] else []) ++ begin_words ∷ []) (stages.Events (with_life s b) [])
@@ -221,7 +240,8 @@ bads_and_begin s (b ∷ back) good is ascend =
     let rest = bads_follow s (b ∷ []) back few ascend.2 in
     let begin = begin_follows s (stages.Bads (bads_so_far s (b ∷ back))) good (ap (λ (bs : List NodeId). Ok (stages.Events (bads_so_far s bs) [])) (sym is))
     (λ two. rw (in_format_2 s.format two) (ap (λ (bs : List NodeId). Ok (stages.Epochs (with_epochs (bads_so_far s bs)))) (sym is))) in
-    both (bad_words b ∷ []) (map bad_words back ++ (epochs_lines s ++ begin_words ∷ [])) _ _ _ first (both (map bad_words back) (epochs_lines s ++ begin_words ∷ []) _ _ _ rest begin)
+    both (bad_words b ∷ []) (map bad_words back ++ (epochs_lines s ++ begin_words ∷ [])) _ _ _ first
+    (both (map bad_words back) (epochs_lines s ++ begin_words ∷ []) _ _ _ rest begin)
 
 header_follows : (s : Scenario) → IsScenario s → Follows stages.Start (header_lines s) (stages.Events s [])
 header_follows s good =
@@ -230,7 +250,8 @@ header_follows s good =
     let front = front_follows s good in
     let edges = edges_follow s [] s.graph.edges good.graph refl in
     let bads = bads_and_begin s s.bad good refl good.bad in
-    let all = both start (map edge_words s.graph.edges ++ (map bad_words s.bad ++ last)) _ _ _ front (both (map edge_words s.graph.edges) (map bad_words s.bad ++ last) _ _ _ edges bads) in
+    let all = both start (map edge_words s.graph.edges ++ (map bad_words s.bad ++ last)) _ _ _ front
+    (both (map edge_words s.graph.edges) (map bad_words s.bad ++ last) _ _ _ edges bads) in
     let lines : start ++ (map edge_words s.graph.edges ++ (map bad_words s.bad ++ last)) ≡ header_lines s =
     ap (λ (xs : List (List Word)). start ++ xs) (sym (append_assoc (map edge_words s.graph.edges) (map bad_words s.bad) last))
     ∙ sym (append_assoc start (map edge_words s.graph.edges ++ map bad_words s.bad) last) in
@@ -271,18 +292,21 @@ event_line s es e few room is =
         → (if a then Ok (stages.End s es) else (if b then Err kinds.TooMany else event_more s es r)) ≡ Ok (stages.Events s (es ++ e ∷ []))
     go a b r no_end some read = rw (no_end, some, read) refl
 
-events_follow : (s : Scenario) (es : List Event) → s.graph.nodes ≤ max_nodes s.format → length s.graph.edges ≤ max_edges s.format → AreInRange s es → length es ≤ MAX_EVENTS
+events_follow : (s : Scenario) (es : List Event) → s.graph.nodes ≤ max_nodes s.format → length s.graph.edges ≤ max_edges s.format → AreInRange s es
+    → length es ≤ MAX_EVENTS
     → Follows (stages.Events s []) (map (event_words s) es) (stages.Events s es)
 events_follow s es few many None_yet count = none (stages.Events s [])
 events_follow s es few many (One_more {before = before} e are is) count =
     let room : length before < MAX_EVENTS = omega (arith, count, length-append before (e ∷ [])) in
     let front = events_follow s before few many are (omega (arith, room)) in
-    let last = one (stages.Events s before) (stages.Events s (before ++ e ∷ [])) (event_words s e) (good_event_line s before e few many is) (event_line s before e few room is) in
+    let last = one (stages.Events s before) (stages.Events s (before ++ e ∷ [])) (event_words s e) (good_event_line s before e few many is)
+    (event_line s before e few room is) in
     subst (λ (ls : List (List Word)). Follows (stages.Events s []) ls (stages.Events s (before ++ e ∷ []))) (sym (map-append (event_words s) before (e ∷ [])))
     (both (map (event_words s) before) (event_words s e ∷ []) _ _ _ front last)
 
 -- a schedule's lines lead to its end
-pub schedule_follows : (s : Scenario) (es : List Event) → IsSchedule s es → (All IsGoodLine (schedule_lines s es)) × (follow_all says stages.Start (schedule_lines s es) ≡ Ok (stages.End s es))
+pub schedule_follows : (s : Scenario) (es : List Event) → IsSchedule s es
+    → (All IsGoodLine (schedule_lines s es)) × (follow_all says stages.Start (schedule_lines s es) ≡ Ok (stages.End s es))
 schedule_follows s es good =
     let few = good.scenario.graph.nodes.1 in
     let end = one (stages.Events s es) (stages.End s es) end_words (good_row_line end_cells tt refl tt) refl in

@@ -118,6 +118,7 @@ pub record EndsLine (bytes : List ℕ) : Type 0 where
 abbrev pub IsFront : List ℕ → Type 0
 IsFront bytes = (IsInOneLine bytes × (length bytes ≤ MAX_LINE_BYTES + 1)) ⊎ EndsLine bytes
 
+-- a schedule that was read so far, as a whole text is read
 pub record IsFeed (f : Fed) : Type 0 where
   -- whatever follows, its lines lead on from the stage
   pub goes_on : (rest : List ℕ) (last : Stage) (end : ℕ) (stop : Stop Kind) → Leads says f.stage (f.count + 1) rest last end stop

@@ -38,7 +38,8 @@ use Rattle.sp_topology.specs.declared.topology.LmsHeight.{LmsHeight}
 use Rattle.sp_schedule_events.specs.EventLines.{read_event}
 use Rattle.sp_schedule_events.specs.declared.scenario.Scenario.{Scenario}
 use Rattle.sp_schedule_events.specs.declared.event.Event.{Event}
-use Rattle.sp_schedule.specs.Header.{bad_cells, begin_cells, bounds_cells, edge_cells, end_cells, epochs_cells, height_cells, nodes_cells, seed_cells, version_cells}
+use Rattle.sp_schedule.specs.Header.{bad_cells, begin_cells, bounds_cells, edge_cells, end_cells, epochs_cells, height_cells, nodes_cells, seed_cells}
+use Rattle.sp_schedule.specs.Header.{version_cells}
 use Rattle.sp_schedule.specs.Header.{edge_of, height_at, limits_of, next_after}
 use Rattle.sp_schedule.specs.Refusals.{kind_of}
 use Rattle.sp_schedule.specs.declared.lead.Lead.{Lead}
@@ -59,7 +60,8 @@ bare format seed height limits nodes =
 
 -- one edge more
 abbrev pub with_edge : Scenario → Edge → Scenario
-with_edge s e = record { format = s.format; seed = s.seed; height = s.height; limits = s.limits; graph = with_edge_more s.graph e; bad = s.bad; epochs = s.epochs }
+with_edge s e =
+    record { format = s.format; seed = s.seed; height = s.height; limits = s.limits; graph = with_edge_more s.graph e; bad = s.bad; epochs = s.epochs }
 
 -- one compromised node more
 abbrev pub with_bad : Scenario → NodeId → Scenario
@@ -73,6 +75,7 @@ with_epochs s = record { format = s.format; seed = s.seed; height = s.height; li
 abbrev pub is_lower : Edge → Edge → Bool
 is_lower f e = nat_lt f.low.0 e.low.0 || ((f.low.0 == e.low.0) && nat_lt f.high.0 e.high.0)
 
+-- whether an edge comes after the last one
 abbrev pub is_above : Option Edge → Edge → Bool
 is_above None e = true
 is_above (Some f) e = is_lower f e
@@ -88,6 +91,7 @@ abbrev pub header : {X : Type 0} → Result X Fault → (X → Stage) → Result
 header (Ok x) next = Ok (next x)
 header (Err fault) next = Err kinds.Header
 
+-- an edge, if it may be the next one
 abbrev pub if_next : (format : ℕ) → Graph → Edge → Result Edge Fault
 if_next format g e = if is_next_edge format g e then Ok e else Err faults.Range
 
@@ -95,6 +99,7 @@ if_next format g e = if is_next_edge format g e then Ok e else Err faults.Range
 abbrev pub next_edge : Scenario → List Word → Result Edge Fault
 next_edge s words = line_of (edge_cells s.graph.nodes) words >>= λ x. if_next s.format s.graph (edge_of s.graph.nodes x)
 
+-- a compromised node by its number
 abbrev pub bad_node : ℕ → NodeId
 bad_node n = record { 0 = n }
 

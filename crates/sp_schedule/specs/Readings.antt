@@ -25,6 +25,7 @@ abbrev pub no_words : Bool → ℕ → TextRefused → Ending
 no_words true line (texts.Cut place) = endings.Refused 0 kinds.TooBig
 no_words is_cut line refused = endings.Refused line (text_kind refused)
 
+-- how a text ends when nothing is left of it
 abbrev pub nothing_left : Bool → Stage → ℕ → Ending
 nothing_left true stage line = endings.Refused 0 kinds.TooBig
 nothing_left false stage line = at_end stage line

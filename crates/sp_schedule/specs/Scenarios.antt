@@ -24,6 +24,7 @@ abbrev pub Ascend : ℕ → ℕ → List NodeId → Type 0
 Ascend low nodes [] = Unit {0}
 Ascend low nodes (b ∷ bs) = (low ≤ b.0) × (b.0 ≤ nodes) × Ascend (b.0 + 1) nodes bs
 
+-- a scenario whose fields are in their ranges
 pub record IsScenario (s : Scenario) : Type 0 where
   pub format : IsFormat s.format
   pub seed : IsSeed s.seed

@@ -6,7 +6,8 @@ ghost use Rattle.sp_graph.specs.Edges.{last_edge};
 ghost use Rattle.sp_lines.specs.Answers.{Says};
 ghost use Rattle.sp_lines.specs.Cells.{bytes_at, tested_at};
 ghost use Rattle.sp_lines.specs.Rows.{fits, line_of};
-ghost use Rattle.sp_schedule.specs.Header.{bad_cells, begin_cells, bounds_cells, edge_cells, end_cells, epochs_cells, height_cells, nodes_cells, seed_cells, version_cells};
+ghost use Rattle.sp_schedule.specs.Header.{bad_cells, begin_cells, bounds_cells, edge_cells, end_cells, epochs_cells, height_cells, nodes_cells, seed_cells};
+ghost use Rattle.sp_schedule.specs.Header.{version_cells};
 ghost use Rattle.sp_schedule.specs.Header.{bounds_values, edge_values, height_number, is_height, next_after};
 ghost use Rattle.sp_schedule.specs.Lines.{is_above, is_lower, is_next_edge};
 

@@ -24,12 +24,15 @@ use Rattle.sp_schedule_crafts.specs.declared.object.CraftedObject.TheVariants as
 abbrev pub any_number : Cell
 any_number = Number 0 (2 ^ 64 - 1)
 
+-- a payload
 abbrev pub payload : Cell
 payload = Bytes 0 MAX_PAYLOAD_BYTES
 
+-- a node of the format, whether it is in the scenario or not
 abbrev pub any_id : ℕ → Cell
 any_id format = Number 1 (max_nodes format)
 
+-- a sequence number
 abbrev pub seq : Cell
 seq = Number 1 MAX_SEQ
 

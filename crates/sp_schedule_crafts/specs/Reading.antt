@@ -19,6 +19,7 @@ name Ack = codes "ack"
 name Prio = codes "prio"
 name Weight = codes "weight"
 
+-- how many words an object of a form has behind its name
 abbrev pub count : ObjectForm → ℕ
 count form = length (cells FORMAT_1 form) - 1
 

@@ -14,14 +14,17 @@ use Rattle.sp_schedule_crafts.specs.declared.object.CraftedRel.{CraftedRel}
 abbrev pub rel_words : CraftedRel → List Word
 rel_words r = codes "rel" ∷ decimal r.src.0 ∷ decimal r.dst.0 ∷ decimal r.seq ∷ hex_word r.payload ∷ []
 
+-- the words of a crafted acknowledgement
 abbrev pub ack_words : CraftedAck → List Word
 ack_words a = codes "ack" ∷ decimal a.src.0 ∷ decimal a.dst.0 ∷ decimal a.seq ∷ []
 
+-- the words of a crafted priority message
 abbrev pub prio_words : (format : ℕ) → CraftedPrio → List Word
 prio_words format p =
     codes "prio" ∷ decimal p.src.0 ∷ decimal p.dst.0 ∷ decimal p.seq ∷ decimal p.prio ∷ decimal p.expiry
     ∷ mask_word format (p.mask.high, p.mask.low) ∷ hex_word p.payload ∷ []
 
+-- the words of a crafted update
 abbrev pub weight_words : WeightBody → List Word
 weight_words w = codes "weight" ∷ decimal w.origin.0 ∷ decimal w.edge.0 ∷ decimal w.seq ∷ decimal w.weight ∷ []
 

@@ -33,18 +33,24 @@ one_direction a b u v row apart is =
     rw (eqb-true row.from a ends.0, eqb-true row.to b ends.1) apart
 
 -- a count that was put is read back in its direction
-put_same : (rows : List Count) (a b u v n : ℕ) → ((a == u) && (b == v)) ≡ true → polls_in (put_where (is_from_to a b) (record { from = a; to = b; polls = n }) rows) u v ≡ n
+put_same : (rows : List Count) (a b u v n : ℕ) → ((a == u) && (b == v)) ≡ true
+    → polls_in (put_where (is_from_to a b) (record { from = a; to = b; polls = n }) rows) u v ≡ n
 put_same rows a b u v n same =
     let ends = and_parts (a == u) (b == v) same in
     let one : a ≡ u = eqb-true a u ends.0 in
     let other : b ≡ v = eqb-true b v ends.1 in
-    rw (one, other) (ap (λ (c : Count). c.polls) (first_where-put (is_from_to u v) (no_polls u v) (record { from = u; to = v; polls = n }) rows (and_from (u == u) (v == v) (eq-eqb u u refl) (eq-eqb v v refl))))
+    rw (one, other)
+    (ap (λ (c : Count). c.polls)
+    (first_where-put (is_from_to u v) (no_polls u v) (record { from = u; to = v; polls = n }) rows
+    (and_from (u == u) (v == v) (eq-eqb u u refl) (eq-eqb v v refl))))
 
 -- and in no other
-put_other : (rows : List Count) (a b u v n : ℕ) → ((a == u) && (b == v)) ≡ false → polls_in (put_where (is_from_to a b) (record { from = a; to = b; polls = n }) rows) u v ≡ polls_in rows u v
+put_other : (rows : List Count) (a b u v n : ℕ) → ((a == u) && (b == v)) ≡ false
+    → polls_in (put_where (is_from_to a b) (record { from = a; to = b; polls = n }) rows) u v ≡ polls_in rows u v
 put_other rows a b u v n apart =
     ap (λ (c : Count). c.polls)
-    (first_where-put_other (is_from_to a b) (is_from_to u v) (no_polls u v) (record { from = a; to = b; polls = n }) rows (λ row is. one_direction a b u v row apart is) apart)
+    (first_where-put_other (is_from_to a b) (is_from_to u v) (no_polls u v) (record { from = a; to = b; polls = n }) rows
+    (λ row is. one_direction a b u v row apart is) apart)
 
 -- the table of a timeline whose last event is a poll
 counted-poll : (es : List Event) (rows : List Count) (a b : NodeId) → AreCounted es rows → AreCounted (es ++ events.Poll a b ∷ []) (with_poll rows a.0 b.0)
@@ -63,7 +69,8 @@ counted-poll es rows a b counted u v = go ((a.0 == u) && (b.0 == v)) refl
 pub counted_more : (es : List Event) (rows : List Count) (e : Event) → AreCounted es rows → AreCounted (es ++ e ∷ []) (with_event rows e)
 counted_more es rows (events.Poll a b) counted u v = counted-poll es rows a b counted u v
 counted_more es rows (events.Rel s d payload) counted u v = counted u v ∙ sym (polls-other es (events.Rel s d payload) u v refl)
-counted_more es rows (events.Prio s d prio expiry paths payload) counted u v = counted u v ∙ sym (polls-other es (events.Prio s d prio expiry paths payload) u v refl)
+counted_more es rows (events.Prio s d prio expiry paths payload) counted u v =
+    counted u v ∙ sym (polls-other es (events.Prio s d prio expiry paths payload) u v refl)
 counted_more es rows (events.Take d s) counted u v = counted u v ∙ sym (polls-other es (events.Take d s) u v refl)
 counted_more es rows (events.TakePrio d) counted u v = counted u v ∙ sym (polls-other es (events.TakePrio d) u v refl)
 counted_more es rows (events.Tick a now) counted u v = counted u v ∙ sym (polls-other es (events.Tick a now) u v refl)
@@ -76,4 +83,5 @@ counted_more es rows (events.CraftStatus c b s d base have) counted u v = counte
 counted_more es rows (events.Start a) counted u v = counted u v ∙ sym (polls-other es (events.Start a) u v refl)
 counted_more es rows (events.Stop a) counted u v = counted u v ∙ sym (polls-other es (events.Stop a) u v refl)
 counted_more es rows (events.Publish a weights) counted u v = counted u v ∙ sym (polls-other es (events.Publish a weights) u v refl)
-counted_more es rows (events.CraftDocument c b key version weights) counted u v = counted u v ∙ sym (polls-other es (events.CraftDocument c b key version weights) u v refl)
+counted_more es rows (events.CraftDocument c b key version weights) counted u v =
+    counted u v ∙ sym (polls-other es (events.CraftDocument c b key version weights) u v refl)

@@ -1,5 +1,6 @@
 -- The line of a crafted frame: a report, or an object or a document behind the key that signs it.
-use Rattle.std.proofs.Common.{◌≡◌, ◌<◌, ◌≤◌, ℕ, suc, get_or, ◌==◌, ◌&&◌, Bool, true, false, cond, List, [], ◌∷◌, Option, Some, None, Result, Ok, Err, Bor, refl, sym, subst, ◌∙◌, ap, arith, inl, inr, drop, take, length, map, if◌then◌else◌}
+use Rattle.std.proofs.Common.{◌≡◌, ◌<◌, ◌≤◌, ℕ, suc, get_or, ◌==◌, ◌&&◌, Bool, true, false, cond, List, [], ◌∷◌, Option, Some, None, Result, Ok, Err, Bor, refl}
+use Rattle.std.proofs.Common.{sym, subst, ◌∙◌, ap, arith, inl, inr, drop, take, length, map, if◌then◌else◌}
 use Rattle.std.specs.Prelude.{◌-◌, ◌^◌, codes, find, option_map}
 use Rattle.std.specs.Option.{option_or}
 use Rattle.std.proofs.lemmas.Bool.{cases_Bool, and_parts}
@@ -27,7 +28,8 @@ use Rattle.sp_schedule_events.specs.Table.{Form, cells, document_forms, has_stat
 use Rattle.sp_schedule_events.specs.declared.event.Event.{Event}
 use Rattle.sp_schedule_events.specs.declared.event.Event.TheVariants as events
 use Rattle.sp_schedule_events.specs.declared.scenario.Scenario.{Scenario}
-use Rattle.sp_schedule_events.proofs.NameLemmas.{by_name, in_parts, no_lives, none_of_two, one_form, one_less, one_of_two, plain_forms, same_search, starts, starts_so, where_had}
+use Rattle.sp_schedule_events.proofs.NameLemmas.{by_name, in_parts, no_lives, none_of_two, one_form, one_less, one_of_two, plain_forms, same_search, starts}
+use Rattle.sp_schedule_events.proofs.NameLemmas.{starts_so, where_had}
 
 -- ---- which row
 
@@ -62,7 +64,8 @@ turned_count a b = grind (arith, nat_tests)
 
 -- four words more on both sides
 four_less : (a b : ℕ) → (suc (suc (suc (suc a))) == suc (suc (suc (suc b)))) ≡ (b == a)
-four_less a b = one_less (suc (suc (suc a))) (suc (suc (suc b))) ∙ one_less (suc (suc a)) (suc (suc b)) ∙ one_less (suc a) (suc b) ∙ one_less a b ∙ turned_count a b
+four_less a b =
+    one_less (suc (suc (suc a))) (suc (suc (suc b))) ∙ one_less (suc (suc a)) (suc (suc b)) ∙ one_less (suc a) (suc b) ∙ one_less a b ∙ turned_count a b
 
 row_of : (a b : Cell) (c : Cell) (w : Word) (cs : List Cell) → HasNoName cs → (x y z name : Word) (fields : List Word)
     → agrees (a ∷ b ∷ c ∷ Name w ∷ cs) (x ∷ y ∷ z ∷ name ∷ fields) ≡ (same name w && agrees cs fields)
@@ -84,15 +87,20 @@ rest format o = drop 1 (objects.cells format o)
 
 object_row : (s : Scenario) (o : ObjectForm) (c v key name : Word) (fields : List Word)
     → starts (cells s (forms.Craft o)) (codes "craft" ∷ c ∷ v ∷ key ∷ name ∷ fields) ≡ (same name (reading.name o) && (length fields == reading.count o))
-object_row s objs.Rel c v key name fields = row_of (forms.node s) (forms.correct s) (forms.node s) (codes "rel") (rest s.format objs.Rel) tt c v key name fields refl
-object_row s objs.Ack c v key name fields = row_of (forms.node s) (forms.correct s) (forms.node s) (codes "ack") (rest s.format objs.Ack) tt c v key name fields refl
-object_row s objs.Prio c v key name fields = row_of (forms.node s) (forms.correct s) (forms.node s) (codes "prio") (rest s.format objs.Prio) tt c v key name fields refl
-object_row s objs.Weight c v key name fields = row_of (forms.node s) (forms.correct s) (forms.node s) (codes "weight") (rest s.format objs.Weight) tt c v key name fields refl
+object_row s objs.Rel c v key name fields =
+    row_of (forms.node s) (forms.correct s) (forms.node s) (codes "rel") (rest s.format objs.Rel) tt c v key name fields refl
+object_row s objs.Ack c v key name fields =
+    row_of (forms.node s) (forms.correct s) (forms.node s) (codes "ack") (rest s.format objs.Ack) tt c v key name fields refl
+object_row s objs.Prio c v key name fields =
+    row_of (forms.node s) (forms.correct s) (forms.node s) (codes "prio") (rest s.format objs.Prio) tt c v key name fields refl
+object_row s objs.Weight c v key name fields =
+    row_of (forms.node s) (forms.correct s) (forms.node s) (codes "weight") (rest s.format objs.Weight) tt c v key name fields refl
 
 document_row : (s : Scenario) (c v key name : Word) (fields : List Word)
     → starts (cells s forms.CraftDocument) (codes "craft" ∷ c ∷ v ∷ key ∷ name ∷ fields) ≡ (same name (codes "document") && (length fields == 2))
 document_row s c v key name fields =
-    row_of (forms.node s) (forms.correct s) (Number 0 s.graph.nodes) (codes "document") (Number 1 (2 ^ 32 - 1) ∷ forms.weights s ∷ []) tt c v key name fields refl
+    row_of (forms.node s) (forms.correct s) (Number 0 s.graph.nodes) (codes "document") (Number 1 (2 ^ 32 - 1) ∷ forms.weights s ∷ []) tt c v key name fields
+    refl
 
 find_mapped : {F G : Type 0} (test : G → Bool) (g : F → G) (all : List F) → find test (map g all) ≡ option_map g (find (λ f. test (g f)) all)
 find_mapped test g [] = refl
@@ -111,7 +119,8 @@ craft_form s c v key name fields other =
     ∙ ap (λ (o : Option Form). option_or o (option_or (find test (life_forms s.epochs)) (find test (document_forms (has_documents s)))))
     (find_mapped test forms.Craft objects.forms
     ∙ ap (option_map forms.Craft)
-    (same_search (λ o. test (forms.Craft o)) (λ o. same name (reading.name o) && (length fields == reading.count o)) (λ o. object_row s o c v key name fields) objects.forms))
+    (same_search (λ o. test (forms.Craft o)) (λ o. same name (reading.name o) && (length fields == reading.count o)) (λ o. object_row s o c v key name fields)
+    objects.forms))
     ∙ ap (option_or (option_map forms.Craft (reading.form_named name (length fields))))
     (no_lives s test refl refl ∙ one_of_two (has_documents s) test forms.Publish forms.CraftDocument
     ∙ ap (λ (t : Bool). if has_documents s then cond t (Some forms.CraftDocument) None else None) (document_row s c v key name fields))
@@ -124,7 +133,8 @@ craft_form s c v key name fields other =
 abbrev with_first : {A B : Type 0} → A → Result B Fault → Result (A × B) Fault
 with_first {A} {B} a rb = ◌>>=◌ {A = B} {B = A × B} rb (λ b. Ok (a, b))
 
-steps : {A B K N X Y : Type 0} (ra : Result A Fault) (rb : Result B Fault) (rk : Result K Fault) (rn : Result N Fault) (f : A × (B × (K × N)) → Result X Fault) (y : N → Y)
+steps : {A B K N X Y : Type 0} (ra : Result A Fault) (rb : Result B Fault) (rk : Result K Fault) (rn : Result N Fault) (f : A × (B × (K × N)) → Result X Fault)
+    (y : N → Y)
     (g : A → B → K → Y → Result X Fault) → ((a : A) (b : B) (k : K) (n : N) → f (a, (b, (k, n))) ≡ g a b k (y n))
     → ((ra >>= λ a. with_first a (rb >>= λ b. with_first b (rk >>= λ k. with_first k rn))) >>= f)
     ≡ (ra >>= λ a. (rb >>= λ b. (rk >>= λ k. ((rn >>= λ n. Ok (y n)) >>= λ o. g a b k o))))
@@ -135,7 +145,8 @@ steps (Ok a) (Ok b) (Ok k) (Err e) f y g same = refl
 steps (Ok a) (Ok b) (Ok k) (Ok n) f y g same = same a b k n
 
 fits_named : (fields : List Word) (w : Word) (cs : List Cell) → HasNoName cs → (length fields == length cs) ≡ true → fits (Name w ∷ cs) (w ∷ fields) ≡ true
-fits_named fields w cs free is = rw (one_less (length cs) (length fields), turned_count (length cs) (length fields), is, same_self w) (agrees_all cs free fields)
+fits_named fields w cs free is =
+    rw (one_less (length cs) (length fields), turned_count (length cs) (length fields), is, same_self w) (agrees_all cs free fields)
 
 -- an object's row reads what stands behind its name
 object_read : (format : ℕ) (o : ObjectForm) (name : Word) (fields : List Word) → (length fields == reading.count o) ≡ true
@@ -150,7 +161,8 @@ craft_read : (s : Scenario) (es : List Event) (o : ObjectForm) (c v key name : W
     → read_form s es (forms.Craft o) (codes "craft" ∷ c ∷ v ∷ key ∷ name ∷ fields) ≡ crafted_event s c v key o fields
 unfolding read_form reading.read_form
 craft_read s es o c v key name fields count =
-    steps (number_at 1 s.graph.nodes c) (tested_at 1 s.graph.nodes (is_correct s) v) (number_at 1 s.graph.nodes key) (row_at (objects.cells s.format o) (name ∷ fields)) (λ xs. if_joined s es (event_of s (forms.Craft o) xs)) (objects.object_of s.format o)
+    steps (number_at 1 s.graph.nodes c) (tested_at 1 s.graph.nodes (is_correct s) v) (number_at 1 s.graph.nodes key)
+    (row_at (objects.cells s.format o) (name ∷ fields)) (λ xs. if_joined s es (event_of s (forms.Craft o) xs)) (objects.object_of s.format o)
     (λ from to signer object. if are_joined s from to then Ok (events.Craft (id from) (id to) (id signer) object) else Err faults.Range) (λ a b k n. refl)
     ∙ ap
     (λ (r : Result CraftedObject Fault).
@@ -177,13 +189,15 @@ found_count name count o is = go objects.forms is
 pub reported : (s : Scenario) (es : List Event) (c v key name : Word) (fields : List Word) → same key (codes "status") ≡ true
     → read_event s es (codes "craft" ∷ c ∷ v ∷ key ∷ name ∷ fields) ≡ line_for s es forms.CraftStatus (codes "craft" ∷ c ∷ v ∷ codes "status" ∷ name ∷ fields)
 reported s es c v key name fields is =
-    subst (λ (k : Word). read_event s es (codes "craft" ∷ c ∷ v ∷ k ∷ name ∷ fields) ≡ line_for s es forms.CraftStatus (codes "craft" ∷ c ∷ v ∷ codes "status" ∷ name ∷ fields))
+    subst (λ (k : Word). read_event s es (codes "craft" ∷ c ∷ v ∷ k ∷ name ∷ fields)
+    ≡ line_for s es forms.CraftStatus (codes "craft" ∷ c ∷ v ∷ codes "status" ∷ name ∷ fields))
     (sym (same_words key (codes "status") is))
     (one_form s es forms.CraftStatus (codes "craft") (c ∷ v ∷ codes "status" ∷ name ∷ fields)
     (ap (λ (t : Bool). cond t (Some forms.CraftStatus) None) (starts_so (cells s forms.CraftStatus) (codes "craft") (c ∷ v ∷ codes "status" ∷ name ∷ fields))))
 
 -- a line with a document
-pub documented : (s : Scenario) (es : List Event) (c v key name : Word) (fields : List Word) → same key (codes "status") ≡ false → same name (codes "document") ≡ true
+pub documented : (s : Scenario) (es : List Event) (c v key name : Word) (fields : List Word) → same key (codes "status") ≡ false
+    → same name (codes "document") ≡ true
     → read_event s es (codes "craft" ∷ c ∷ v ∷ key ∷ name ∷ fields)
     ≡ line_where (has_documents s) s es forms.CraftDocument (codes "craft" ∷ c ∷ v ∷ key ∷ codes "document" ∷ fields)
 documented s es c v key name fields other is =
@@ -217,14 +231,16 @@ uncrafted s es c v key name fields other no_document is =
     rw found refl
 
 -- too few words
-pub crafted_few : (s : Scenario) (es : List Event) (words : List (Bor Word)) → length words < 4 → read_event s es (codes "craft" ∷ map (λ w. w.now) words) ≡ Err faults.Form
+pub crafted_few : (s : Scenario) (es : List Event) (words : List (Bor Word)) → length words < 4
+    → read_event s es (codes "craft" ∷ map (λ w. w.now) words) ≡ Err faults.Form
 crafted_few s es words few =
     ap (λ (found : Option Form). read_for s es found (codes "craft" ∷ map (λ w. w.now) words)) (none_fits words few)
   where
     test : List Word → Form → Bool
     test xs form = starts (cells s form) (codes "craft" ∷ xs)
 
-    no_form : (xs : List Word) → has_status xs ≡ false → find (test xs) plain_forms ≡ None → test xs forms.CraftDocument ≡ false → form_for s (codes "craft" ∷ xs) ≡ None
+    no_form : (xs : List Word) → has_status xs ≡ false → find (test xs) plain_forms ≡ None → test xs forms.CraftDocument ≡ false
+        → form_for s (codes "craft" ∷ xs) ≡ None
     no_form xs other plain document =
         by_name s (codes "craft") xs other ∙ in_parts s (test xs)
         ∙ ap (λ (o : Option Form). option_or o (option_or (find (test xs) (life_forms s.epochs)) (find (test xs) (document_forms (has_documents s))))) plain
@@ -243,10 +259,12 @@ crafted_few s es words few =
 
 -- what words say stands at the first four places and behind them
 pub from_four : (P : List Word → Type 0) (words : List (Bor Word)) (d : Bor Word) → 4 ≤ length words
-    → P ((get_or words 0 d).now ∷ (get_or words 1 d).now ∷ (get_or words 2 d).now ∷ (get_or words 3 d).now ∷ map (λ w. w.now) (take (length words - 4) (drop 4 words)))
+    → P ((get_or words 0 d).now ∷ (get_or words 1 d).now ∷ (get_or words 2 d).now ∷ (get_or words 3 d).now
+    ∷ map (λ w. w.now) (take (length words - 4) (drop 4 words)))
     → P (map (λ w. w.now) words)
 from_four P (a ∷ b ∷ c ∷ e ∷ more) d low p =
-    subst (λ (rest : List (Bor Word)). P (a.now ∷ b.now ∷ c.now ∷ e.now ∷ map (λ w. w.now) rest)) (take_all (length (a ∷ b ∷ c ∷ e ∷ more) - 4) more (omega arith)) p
+    subst (λ (rest : List (Bor Word)). P (a.now ∷ b.now ∷ c.now ∷ e.now ∷ map (λ w. w.now) rest))
+    (take_all (length (a ∷ b ∷ c ∷ e ∷ more) - 4) more (omega arith)) p
 from_four P [] d low p = absurd (omega (arith, low))
 from_four P (a ∷ []) d low p = absurd (omega (arith, low))
 from_four P (a ∷ b ∷ []) d low p = absurd (omega (arith, low))

@@ -1,5 +1,6 @@
 -- Events, their rows and their words.
-use Rattle.std.proofs.Common.{◌≡◌, ℕ, ◌<◌, ◌≤◌, ◌+◌, ◌^◌, ◌-◌, ◌==◌, Bool, true, false, List, [], ◌∷◌, ◌++◌, length, Option, Some, None, Ok, Err, refl, sym, subst, ◌∙◌, arith, inl, inr, if◌then◌else◌}
+use Rattle.std.proofs.Common.{◌≡◌, ℕ, ◌<◌, ◌≤◌, ◌+◌, ◌^◌, ◌-◌, ◌==◌, Bool, true, false, List, [], ◌∷◌, ◌++◌, length, Option, Some, None, Ok, Err, refl, sym}
+use Rattle.std.proofs.Common.{subst, ◌∙◌, arith, inl, inr, if◌then◌else◌}
 use Rattle.std.specs.Prelude.{◌&&◌, codes, find, nat_le, nat_lt, not}
 use Rattle.std.specs.List.{list_all}
 use Rattle.std.proofs.lemmas.List.Folds.{find-append}
@@ -121,7 +122,8 @@ key_small : (s : Scenario) → s.graph.nodes ≤ max_nodes s.format → (n : ℕ
 key_small s few n below = omega (arith, few, below, nodes_small s.format)
 
 -- the form that one of two is, where a scenario has these
-had : (has : Bool) (test : Form → Bool) (a b found : Form) → has ≡ true → find test (a ∷ b ∷ []) ≡ Some found → find test (if has then a ∷ b ∷ [] else []) ≡ Some found
+had : (has : Bool) (test : Form → Bool) (a b found : Form) → has ≡ true → find test (a ∷ b ∷ []) ≡ Some found
+    → find test (if has then a ∷ b ∷ [] else []) ≡ Some found
 had true test a b found is at = at
 had false test a b found is at = absurd cc
 
@@ -146,7 +148,8 @@ object_again z c v key (crafted.Ack a) few below = rw (not_status key.0 (key_sma
 object_again z c v key (crafted.Prio p) few below = rw (not_status key.0 (key_small z few key.0 below)) refl
 object_again z c v key (crafted.Weight w) few below = rw (not_status key.0 (key_small z few key.0 below)) refl
 
-form_again : (s : Scenario) (es : List Event) (e : Event) → s.graph.nodes ≤ max_nodes s.format → InRange s es e → form_for s (event_words s e) ≡ Some (form_of e)
+form_again : (s : Scenario) (es : List Event) (e : Event) → s.graph.nodes ≤ max_nodes s.format → InRange s es e
+    → form_for s (event_words s e) ≡ Some (form_of e)
 form_again z es (events.Rel s d payload) few is = refl
 form_again z es (events.Prio s d prio expiry paths payload) few is = refl
 form_again z es (events.Take d s) few is = refl
@@ -255,7 +258,8 @@ short_row s form few = go form
     go forms.CraftDocument = record { some = refl; short = grind (arith, nat_tests, narrow (length s.graph.edges) few) }
 
 -- the line of an event in its ranges can be read
-pub good_event_line : (s : Scenario) (es : List Event) (e : Event) → s.graph.nodes ≤ max_nodes s.format → length s.graph.edges ≤ max_edges s.format → InRange s es e
+pub good_event_line : (s : Scenario) (es : List Event) (e : Event) → s.graph.nodes ≤ max_nodes s.format → length s.graph.edges ≤ max_edges s.format
+    → InRange s es e
     → IsGoodLine (event_words s e)
 good_event_line s es e few many is =
     let cs = cells s (form_of e) in
@@ -286,7 +290,8 @@ form_read s es form words e fit read =
     (record { values = of.ranges row.0; joined = rules.1; may = rules.0 }, row.1 ∙ sym of.words) in
     subst (λ (f : Event). InRange s es f × (words ≡ event_words s f)) joined.0 all
 
-event_read : (s : Scenario) (es : List Event) (words : List Word) (e : Event) → (found : Option Form) → form_for s words ≡ found → read_for s es found words ≡ Ok e
+event_read : (s : Scenario) (es : List Event) (words : List Word) (e : Event) → (found : Option Form) → form_for s words ≡ found
+    → read_for s es found words ≡ Ok e
     → InRange s es e × (words ≡ event_words s e)
 event_read s es words e None is read = absurd cc
 event_read s es words e (Some form) is read = form_read s es form words e (found_fits (λ f. fits (cells s f) words) (forms.forms_for s words) form is) read
@@ -298,5 +303,7 @@ event_back_read s es e few is =
     rw (form_again s es e few is) (rw row (rw (event_back s e) (rw (is.may, is.joined) refl)))
 
 pub events_have_one_line : EventsHaveOneLine
-events_have_one_line s es words e few =
-    (λ read. event_read s es words e (form_for s words) refl read, λ is. subst (λ (ws : List Word). read_event s es ws ≡ Ok e) (sym is.1) (event_back_read s es e few is.0))
+events_have_one_line s es words e few = (
+  λ read. event_read s es words e (form_for s words) refl read,
+  λ is. subst (λ (ws : List Word). read_event s es ws ≡ Ok e) (sym is.1) (event_back_read s es e few is.0),
+)

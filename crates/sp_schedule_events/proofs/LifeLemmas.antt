@@ -1,5 +1,6 @@
 -- The flags of started nodes keep up with the events, and so does all that a timeline keeps.
-use Rattle.std.proofs.Common.{◌≡◌, ◌<◌, ℕ, ◌==◌, Bool, true, false, List, [], ◌∷◌, ◌++◌, set, replicate, get_or, refl, sym, ap, ◌∙◌, arith, get_or-set_same, get_or-set_other}
+use Rattle.std.proofs.Common.{◌≡◌, ◌<◌, ℕ, ◌==◌, Bool, true, false, List, [], ◌∷◌, ◌++◌, set, replicate, get_or, refl, sym, ap, ◌∙◌, arith, get_or-set_same}
+use Rattle.std.proofs.Common.{get_or-set_other}
 use Rattle.std.proofs.lemmas.Bool.Decides.{nat_tests}
 use Rattle.std.proofs.lemmas.List.{get_or-replicate, length-replicate, length-set}
 use Rattle.std.proofs.lemmas.List.Sums.{fold-append}
@@ -24,7 +25,8 @@ started_last : (es : List Event) (e : Event) (u : ℕ) → is_started (es ++ e �
 started_last es e u = fold-append (started_after u) false es (e ∷ [])
 
 -- an event that neither starts nor stops a node
-same_flags : (es : List Event) (flags : List Bool) (e : Event) → AreFlagged es flags → ((u : ℕ) (was : Bool) → started_after u was e ≡ was) → AreFlagged (es ++ e ∷ []) flags
+same_flags : (es : List Event) (flags : List Bool) (e : Event) → AreFlagged es flags → ((u : ℕ) (was : Bool) → started_after u was e ≡ was)
+    → AreFlagged (es ++ e ∷ []) flags
 same_flags es flags e are stays = record { places = are.places; each = λ u within. are.each u within ∙ sym (started_last es e u ∙ stays u (is_started es u)) }
 
 -- a flag that is set
@@ -39,7 +41,8 @@ one_flag es flags e v now are own other = record {
     go : (u : ℕ) → u < 256 → (t : Bool) → (v == u) ≡ t → get_or (set flags v now) u false ≡ is_started (es ++ e ∷ []) u
     go u within true is =
         let same : u ≡ v = grind (arith, nat_tests) in
-        ap (λ (n : ℕ). get_or (set flags v now) n false) same ∙ get_or-set_same flags v now false (omega (arith, are.places, within, same)) ∙ sym (own (is_started es v))
+        ap (λ (n : ℕ). get_or (set flags v now) n false) same ∙ get_or-set_same flags v now false (omega (arith, are.places, within, same))
+        ∙ sym (own (is_started es v))
         ∙ sym (started_last es e v) ∙ ap (λ (n : ℕ). is_started (es ++ e ∷ []) n) (sym same)
     go u within false is =
         let apart : u ≡ v → ⊥ = λ h. grind (arith, nat_tests) in
@@ -67,7 +70,8 @@ flagged_more es flags (events.Inject a b bytes) are = same_flags es flags (event
 flagged_more es flags (events.Craft c b key body) are = same_flags es flags (events.Craft c b key body) are (λ u was. refl)
 flagged_more es flags (events.CraftStatus c b s d base have) are = same_flags es flags (events.CraftStatus c b s d base have) are (λ u was. refl)
 flagged_more es flags (events.Publish a weights) are = same_flags es flags (events.Publish a weights) are (λ u was. refl)
-flagged_more es flags (events.CraftDocument c b key version weights) are = same_flags es flags (events.CraftDocument c b key version weights) are (λ u was. refl)
+flagged_more es flags (events.CraftDocument c b key version weights) are =
+    same_flags es flags (events.CraftDocument c b key version weights) are (λ u was. refl)
 
 -- and all that a timeline keeps does
 pub kept_more : (es : List Event) (rows : List Count) (flags : List Bool) (last : Published) (e : Event) → AreKept es rows flags last

@@ -1,5 +1,6 @@
 -- A line is found by its name: no other row has words with that name.
-use Rattle.std.proofs.Common.{◌≡◌, ℕ, suc, ◌==◌, ◌&&◌, Bool, true, false, cond, List, [], ◌∷◌, ◌++◌, Option, Some, None, Result, map, if◌then◌else◌, refl, sym, subst, ◌∙◌, ap, arith, inl, inr, length}
+use Rattle.std.proofs.Common.{◌≡◌, ℕ, suc, ◌==◌, ◌&&◌, Bool, true, false, cond, List, [], ◌∷◌, ◌++◌, Option, Some, None, Result, map, if◌then◌else◌, refl, sym}
+use Rattle.std.proofs.Common.{subst, ◌∙◌, ap, arith, inl, inr, length}
 use Rattle.std.specs.Prelude.{codes, find}
 use Rattle.std.specs.Option.{option_or}
 use Rattle.std.proofs.lemmas.List.Folds.{find-append}
@@ -85,7 +86,8 @@ one_of_two true test a b = refl
 one_of_two false test a b = refl
 
 -- the form of words by their name, which is that of one of the first alone
-pub by_plain_name : (s : Scenario) (x : Word) (xs : List Word) → same x (codes "start") ≡ false → same x (codes "stop") ≡ false → same x (codes "publish") ≡ false
+pub by_plain_name : (s : Scenario) (x : Word) (xs : List Word) → same x (codes "start") ≡ false → same x (codes "stop") ≡ false
+    → same x (codes "publish") ≡ false
     → same x (codes "craft") ≡ false → form_for s (x ∷ xs) ≡ find (λ form. starts (cells s form) (x ∷ xs)) plain_forms
 by_plain_name s x xs start stop publish craft =
     by_name s x xs (ap (λ (b : Bool). b && has_status xs) craft) ∙ in_parts s test
@@ -99,7 +101,8 @@ by_plain_name s x xs start stop publish craft =
 
 -- ---- a name of one form
 
-pub one_form : (s : Scenario) (es : List Event) (form : Form) (x : Word) (xs : List Word) → form_for s (x ∷ xs) ≡ cond (starts (cells s form) (x ∷ xs)) (Some form) None
+pub one_form : (s : Scenario) (es : List Event) (form : Form) (x : Word) (xs : List Word)
+    → form_for s (x ∷ xs) ≡ cond (starts (cells s form) (x ∷ xs)) (Some form) None
     → read_event s es (x ∷ xs) ≡ line_for s es form (x ∷ xs)
 one_form s es form x xs is = elim (cases_Bool (starts (cells s form) (x ∷ xs))) [
   | inl t ↦ rw (is, starts_so (cells s form) x xs, t) refl
@@ -131,7 +134,8 @@ has_one lines.Stop = false
 has_one lines.Publish = false
 has_one line = true
 
-only : (s : Scenario) (es : List Event) (line : LineName) (xs : List Word) → has_one line ≡ true → read_event s es (name line ∷ xs) ≡ line_for s es (form_of line) (name line ∷ xs)
+only : (s : Scenario) (es : List Event) (line : LineName) (xs : List Word) → has_one line ≡ true
+    → read_event s es (name line ∷ xs) ≡ line_for s es (form_of line) (name line ∷ xs)
 only s es lines.Rel xs one = one_form s es forms.Rel (codes "rel") xs (by_plain_name s (codes "rel") xs refl refl refl refl)
 only s es lines.Prio xs one = one_form s es forms.Prio (codes "prio") xs (by_plain_name s (codes "prio") xs refl refl refl refl)
 only s es lines.Take xs one = one_form s es forms.Take (codes "take") xs (by_plain_name s (codes "take") xs refl refl refl refl)
@@ -150,7 +154,8 @@ only s es lines.Publish xs one = absurd cc
 -- ---- a name that not each scenario has
 
 pub where_had : (s : Scenario) (es : List Event) (form : Form) (x : Word) (xs : List Word) (has : Bool)
-    → form_for s (x ∷ xs) ≡ (if has then cond (starts (cells s form) (x ∷ xs)) (Some form) None else None) → read_event s es (x ∷ xs) ≡ line_where has s es form (x ∷ xs)
+    → form_for s (x ∷ xs) ≡ (if has then cond (starts (cells s form) (x ∷ xs)) (Some form) None else None)
+    → read_event s es (x ∷ xs) ≡ line_where has s es form (x ∷ xs)
 where_had s es form x xs true is = one_form s es form x xs is
 where_had s es form x xs false is = ap (λ (found : Option Form). read_for s es found (x ∷ xs)) is
 
@@ -165,7 +170,8 @@ pub no_lives : (s : Scenario) (test : Form → Bool) → test forms.Start ≡ fa
 no_lives s test start stop =
     ap (λ (more : Option Form). option_or more (find test (document_forms (has_documents s)))) (none_of_two s.epochs test forms.Start forms.Stop start stop)
 
-pub started : (s : Scenario) (es : List Event) (xs : List Word) → read_event s es (codes "start" ∷ xs) ≡ line_where s.epochs s es forms.Start (codes "start" ∷ xs)
+pub started : (s : Scenario) (es : List Event) (xs : List Word)
+    → read_event s es (codes "start" ∷ xs) ≡ line_where s.epochs s es forms.Start (codes "start" ∷ xs)
 started s es xs =
     where_had s es forms.Start (codes "start") xs s.epochs
     (by_name s (codes "start") xs refl ∙ in_parts s test ∙ no_documents s test refl refl ∙ one_of_two s.epochs test forms.Start forms.Stop)
@@ -202,7 +208,8 @@ is_named x line is = same_words x (name line) (go names is)
     ]
 
 -- what a line's own call answered is what the words say
-pub read_named : (s : Scenario) (es : List Event) (line : LineName) (x : Word) (xs : List Word) (r : Result Event LineRefused) → has_one line ≡ true → line_named x ≡ Some line
+pub read_named : (s : Scenario) (es : List Event) (line : LineName) (x : Word) (xs : List Word) (r : Result Event LineRefused) → has_one line ≡ true
+    → line_named x ≡ Some line
     → Reads r (line_for s es (form_of line) (name line ∷ xs)) → Reads r (read_event s es (x ∷ xs))
 read_named s es line x xs r one is reads =
     subst (λ (ws : Word). Reads r (read_event s es (ws ∷ xs))) (sym (is_named x line is)) (subst (Reads r) (sym (only s es line xs one)) reads)
@@ -225,4 +232,16 @@ pub unnamed : (s : Scenario) (x : Word) (xs : List Word) → line_named x ≡ No
 unnamed s x xs none =
     let f = all_fail (λ line. same x (name line)) names none in
     by_plain_name s x xs f.1.1.1.1.1.1.1.1.1.1.1.0 f.1.1.1.1.1.1.1.1.1.1.1.1.0 f.1.1.1.1.1.1.1.1.1.1.1.1.1.0 f.1.1.1.1.1.1.1.1.1.1.0
-    ∙ rw (f.0, f.1.0, f.1.1.0, f.1.1.1.0, f.1.1.1.1.0, f.1.1.1.1.1.0, f.1.1.1.1.1.1.0, f.1.1.1.1.1.1.1.0, f.1.1.1.1.1.1.1.1.0, f.1.1.1.1.1.1.1.1.1.0, f.1.1.1.1.1.1.1.1.1.1.0) refl
+    ∙ rw (
+      f.0,
+      f.1.0,
+      f.1.1.0,
+      f.1.1.1.0,
+      f.1.1.1.1.0,
+      f.1.1.1.1.1.0,
+      f.1.1.1.1.1.1.0,
+      f.1.1.1.1.1.1.1.0,
+      f.1.1.1.1.1.1.1.1.0,
+      f.1.1.1.1.1.1.1.1.1.0,
+      f.1.1.1.1.1.1.1.1.1.1.0,
+    ) refl

@@ -34,12 +34,14 @@ same_words z (events.Publish u weights) = refl
 same_words z (events.CraftDocument c v key version weights) = refl
 
 -- a name and its fields, written one after the other, and a newline
-pub line_written : (s : Scenario) (e : Event) (old a b c new : List ℕ) → a ≡ old ++ event_name e → b ≡ a ++ after_spaces (front_words e) → c ≡ b ++ after_spaces (back_words s.format e)
+pub line_written : (s : Scenario) (e : Event) (old a b c new : List ℕ) → a ≡ old ++ event_name e → b ≡ a ++ after_spaces (front_words e)
+    → c ≡ b ++ after_spaces (back_words s.format e)
     → new ≡ c ++ 10 ∷ [] → new ≡ old ++ line_text (event_words s e)
 line_written s e old a b c new is_a is_b is_c is_new =
     let fields = after_append (front_words e) (back_words s.format e) in
     let words : event_name e ++ (after_spaces (front_words e) ++ after_spaces (back_words s.format e)) ≡ join_with_byte 32 (event_words s e) =
-    ap (λ (xs : List ℕ). event_name e ++ xs) (sym fields) ∙ joined (event_name e) (front_words e ++ back_words s.format e) ∙ ap (join_with_byte 32) (same_words s e) in
+    ap (λ (xs : List ℕ). event_name e ++ xs) (sym fields) ∙ joined (event_name e) (front_words e ++ back_words s.format e)
+    ∙ ap (join_with_byte 32) (same_words s e) in
     let pieces : new ≡ old ++ ((event_name e ++ (after_spaces (front_words e) ++ after_spaces (back_words s.format e))) ++ 10 ∷ []) =
     is_new ∙ rw (is_c, is_b, is_a) (simp append_assoc) in
     pieces ∙ ap (λ (xs : List ℕ). old ++ (xs ++ 10 ∷ [])) words

@@ -11,9 +11,11 @@ pub record Count : Type 0 where
   pub to : ℕ
   pub polls : ℕ
 
+-- whether a row is that of a direction
 abbrev pub is_from_to : ℕ → ℕ → Count → Bool
 is_from_to u v row = (row.from == u) && (row.to == v)
 
+-- a direction in which no frame was made
 abbrev pub no_polls : ℕ → ℕ → Count
 no_polls u v = record { from = u; to = v; polls = 0 }
 

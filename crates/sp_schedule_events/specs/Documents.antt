@@ -24,6 +24,7 @@ abbrev pub list_in : Event → Option (List ℕ)
 list_in (events.Publish u weights) = weights
 list_in _ = None
 
+-- what was published, with one more list of weights if there is one
 abbrev pub with_list : Published → Option (List ℕ) → Published
 with_list was None = was
 with_list was (Some weights) = record { version = was.version + 1; weights = Some weights }
@@ -65,5 +66,6 @@ abbrev pub has_weights : Published → Option (List ℕ) → Bool
 has_weights was (Some weights) = true
 has_weights was None = is_some was.weights
 
+-- whether a document may be crafted with this key
 abbrev pub may_craft : Scenario → Published → (key version : ℕ) → Option (List ℕ) → Bool
 may_craft s was key version weights = has_index s.height key version && has_weights was weights

@@ -23,6 +23,7 @@ if_joined s es e = if may_act s.epochs es e && is_joined s es e then Ok e else E
 unfoldable pub read_form : Scenario → List Event → Form → List Word → Result Event Fault
 read_form s es form words = row_at (cells s form) words >>= λ xs. if_joined s es (event_of s form xs)
 
+-- the event that words of a form say, or the first fault
 abbrev pub read_for : Scenario → List Event → Option Form → List Word → Result Event Fault
 read_for s es None words = Err faults.Form
 read_for s es (Some form) words = read_form s es form words

@@ -17,6 +17,7 @@ is_correct s n = not (is_bad s n)
 abbrev pub are_joined : Scenario → ℕ → ℕ → Bool
 are_joined s a b = list_any (joins a b) s.graph.edges
 
+-- whether two numbers differ
 abbrev pub differ : ℕ → ℕ → Bool
 differ a b = not (a == b)
 

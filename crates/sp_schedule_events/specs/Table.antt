@@ -43,12 +43,15 @@ pub data Form : Type 0 where
 
 -- ---- places
 
+-- a node of the scenario
 abbrev pub node : Scenario → Cell
 node s = Number 1 s.graph.nodes
 
+-- a correct node of the scenario
 abbrev pub correct : Scenario → Cell
 correct s = Tested 1 s.graph.nodes (is_correct s)
 
+-- a weight for each edge
 abbrev pub weights : Scenario → Cell
 weights s = Numbers (length s.graph.edges) MAX_WEIGHT
 
@@ -76,9 +79,11 @@ cells s CraftDocument =
 
 -- ---- the forms of a scenario
 
+-- the forms of starts and stops, where there are some
 abbrev pub life_forms : (epochs : Bool) → List Form
 life_forms epochs = if epochs then Start ∷ Stop ∷ [] else []
 
+-- the forms of documents, where there are some
 abbrev pub document_forms : (documents : Bool) → List Form
 document_forms documents = if documents then Publish ∷ CraftDocument ∷ [] else []
 
@@ -93,6 +98,7 @@ abbrev pub has_status : List Word → Bool
 has_status (c ∷ v ∷ key ∷ words) = same key (codes "status")
 has_status words = false
 
+-- whether a line crafts a report
 abbrev pub is_report : List Word → Bool
 is_report (name ∷ words) = same name (codes "craft") && has_status words
 is_report [] = false

@@ -60,7 +60,8 @@ begins_so c t started station o peers b0 b1 daemon is opens near given first = r
   first = subst (λ (p : Opening). Appends b0 b1 (first_text p)) opens first;
 }
 
-pub fails_so : (c : Config) (t : Topology) (count : ℕ) (started : Started) (station : Station) (o : Opening) (ended : Served) (w : Option (List Call)) (k : Option (List ℕ))
+pub fails_so : (c : Config) (t : Topology) (count : ℕ) (started : Started) (station : Station) (o : Opening) (ended : Served) (w : Option (List Call))
+    (k : Option (List ℕ))
     (f : KeptFile) (b0 b1 : Text) → IsStarted c t o station → o ≡ opening_of started → FailsToWrite (first_text o) b0 b1 ended
     → EndsStarted c t count started ended (seen w k b0 f) (seen w k b1 f)
 fails_so c t count started station o ended w k f b0 b1 is opens fails =
@@ -72,8 +73,10 @@ fails_so c t count started station o ended w k f b0 b1 is opens fails =
 
 -- ---- the configuration
 
-pub configured_so : (c : Config) (t : Topology) (started : Started) (w0 w1 : Option (List Call)) (k : Option (List ℕ)) (f0 f1 : KeptFile) (b0 b b1 : Text) (daemon : Daemon Station)
-    → IsOpened (ports_of c) (total_of t) started (seen w0 k b0 f0) (seen w1 k b f1) → StartsSafely f0.disk f1.disk started → BeginsStarted c t started b b1 daemon
+pub configured_so : (c : Config) (t : Topology) (started : Started) (w0 w1 : Option (List Call)) (k : Option (List ℕ)) (f0 f1 : KeptFile) (b0 b b1 : Text)
+    (daemon : Daemon Station)
+    → IsOpened (ports_of c) (total_of t) started (seen w0 k b0 f0) (seen w1 k b f1) → StartsSafely f0.disk f1.disk started
+    → BeginsStarted c t started b b1 daemon
     → BeginsConfigured c t (seen w0 k b0 f0) (seen w1 k b1 f1) daemon
 configured_so c t started w0 w1 k f0 f1 b0 b b1 daemon opened safe begun = record {
   started = started;
@@ -110,10 +113,19 @@ served text is_cut count before mid after d ended b ends =
     subst (λ (s : KeyState). EndsAfter StationStep indexes_in (peers_of b.config) count d.node s mid after ended) x.keys
     (subst (λ (ps : List Peer). EndsAfter StationStep indexes_in ps count d.node d.keys mid after ended) x.peers ends) in
     Is_served b.config b.topology b.whole b.configured
-    (record { started = x.started; between = record mid { text = before.text }; opened = x.opened; start = d.node; is_start = x.is_start; ends = Begun mid.text x.first turns })
+    (record {
+      started = x.started;
+      between = record mid { text = before.text };
+      opened = x.opened;
+      start = d.node;
+      is_start = x.is_start;
+      ends =
+          Begun mid.text x.first turns;
+    })
 
 pub kept_begun : (text : List ℕ) (is_cut : Bool) (before mid : Outside) (d : Daemon Station) (p q r : Option (List Disk)) → Begins text is_cut before mid d
     → KeepsAll before.file.disk p q → KeepsKeys d.keys mid.file.disk q r → KeepsAll before.file.disk p r
 kept_begun text is_cut before mid d p q r b early late =
     let x = b.begins in
-    kept_on before.file.disk mid.file.disk p q r (total_of b.topology) x.started x.opened.starts x.safe early (subst (λ (s : KeyState). KeepsKeys s mid.file.disk q r) x.keys late)
+    kept_on before.file.disk mid.file.disk p q r (total_of b.topology) x.started x.opened.starts x.safe early
+    (subst (λ (s : KeyState). KeepsKeys s mid.file.disk q r) x.keys late)

@@ -24,7 +24,8 @@ edges_of : (ns : List (NodeId × EdgeId)) (ps : List Peer) → map (λ (p : Peer
     → map (λ (k : EdgeId × List ℕ). k.0) (map (λ (p : (NodeId × EdgeId) × Peer). (p.0.1, p.1.key)) (zip ns ps)) ≡ map (λ (n : NodeId × EdgeId). n.1) ns
 edges_of [] ps same = refl
 edges_of (n ∷ ns) [] same = absurd (cc)
-edges_of (n ∷ ns) (p ∷ ps) same = ap (λ (rest : List EdgeId). n.1 ∷ rest) (edges_of ns ps (let e : map (λ (q : Peer). q.id) ps ≡ map (λ (m : NodeId × EdgeId). m.0) ns = cc in e))
+edges_of (n ∷ ns) (p ∷ ps) same =
+    ap (λ (rest : List EdgeId). n.1 ∷ rest) (edges_of ns ps (let e : map (λ (q : Peer). q.id) ps ≡ map (λ (m : NodeId × EdgeId). m.0) ns = cc in e))
 
 pub bootable : (c : Config) (t : Topology) (o : Opening) → length c.topology ≤ MAX_DOCUMENT_BYTES → Fits c t → IsTopology t → IsOpening t o
     → IsBootable (node_config c t) (node_signer c t.height o.index o.bound) o.boot

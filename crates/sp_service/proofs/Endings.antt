@@ -36,7 +36,8 @@ seen wire clock text file = record { wire = wire; clock = clock; text = text; fi
 
 -- ---- a configuration that fits
 
-pub node_ends : (c : Config) (t : Topology) (count : ℕ) (started : Started) (peers : List Peer) (start : Station) (o : Opening) (ended : Served) (before after : Outside)
+pub node_ends : (c : Config) (t : Topology) (count : ℕ) (started : Started) (peers : List Peer) (start : Station) (o : Opening) (ended : Served)
+    (before after : Outside)
     → IsStarted c t o start → o ≡ opening_of started → peers ≡ peers_of c
     → EndsTurns StationStep indexes_in peers o count start started.state before after ended → EndsStarted c t count started ended before after
 node_ends c t count started peers start o ended before after begun opens near ends =
@@ -52,7 +53,8 @@ pub unopened : (c : Config) (t : Topology) (count : ℕ) (ended : Served) (befor
 unopened c t count ended before after fails = Is_unopened fails
 
 pub opened_ends : (c : Config) (t : Topology) (count : ℕ) (started : Started) (ended : Served) (before between after : Outside)
-    → IsOpened (ports_of c) (total_of t) started before between → EndsStarted c t count started ended between after → EndsConfigured c t count before after ended
+    → IsOpened (ports_of c) (total_of t) started before between → EndsStarted c t count started ended between after
+    → EndsConfigured c t count before after ended
 opened_ends c t count started ended before between after opened (inl ends) =
     Is_daemon (record { started = started; between = between; opened = opened; start = ends.0; is_start = ends.1; ends = ends.2 })
 opened_ends c t count started ended before between after opened (inr none) =
@@ -63,6 +65,7 @@ forgotten c t count before = Is_forgotten (refl, refl, refl) refl refl
 
 -- ---- the key file
 
+-- a key file that wasn't touched keeps all
 pub kept_quiet : (told : Option Disk) (past : Option (List Disk)) → KeepsAll told past past
 kept_quiet told past file slot numbers is sound = since_none past (Keeps numbers.bound numbers.boot)
 
@@ -74,7 +77,8 @@ pub record AreNoLower (numbers : Numbers) (started : Started) : Type 0 where
 no_lower : (first n total : ℕ) → first < total → first ≤ min (first + n) total
 no_lower first n total less = grind (arith, less)
 
-found_so : (d : Disk) (e : Option Disk) (total : ℕ) (started : Started) (file : List ℕ) (slot : Slot) (numbers : Numbers) → d ≡ still file → IsSound slot numbers file
+found_so : (d : Disk) (e : Option Disk) (total : ℕ) (started : Started) (file : List ℕ) (slot : Slot) (numbers : Numbers) → d ≡ still file
+    → IsSound slot numbers file
     → Starts (Some d) e RESERVED total started → AreNoLower numbers started
 found_so d e total started file slot numbers is sound starts =
     let bytes : bytes_of d ≡ file = ap bytes_of is ∙ bytes_of-still file in
@@ -87,7 +91,8 @@ found_so d e total started file slot numbers is sound starts =
       boot = omega (arith, starts.begins.boot, boot);
     }
 
-pub kept_on : (d e : Option Disk) (p q r : Option (List Disk)) (total : ℕ) (started : Started) → Starts d e RESERVED total started → StartsSafely d e started → KeepsAll d p q
+pub kept_on : (d e : Option Disk) (p q r : Option (List Disk)) (total : ℕ) (started : Started) → Starts d e RESERVED total started → StartsSafely d e started
+    → KeepsAll d p q
     → KeepsKeys started.state e q r → KeepsAll d p r
 kept_on None e p q r total started starts safe before after file slot numbers told sound = absurd (none-some (still file) told)
 kept_on (Some d) e p q r total started starts safe before after file slot numbers told sound =
@@ -107,7 +112,8 @@ kept_on (Some d) e p q r total started starts safe before after file slot number
 
 -- ---- an input
 
-pub told : (text : List ℕ) (is_cut : Bool) (count : ℕ) (line : List ℕ) (ended : Served) (w : Option (List Call)) (k : Option (List ℕ)) (f : KeptFile) (b0 b1 : Text)
+pub told : (text : List ℕ) (is_cut : Bool) (count : ℕ) (line : List ℕ) (ended : Served) (w : Option (List Call)) (k : Option (List ℕ)) (f : KeptFile)
+    (b0 b1 : Text)
     → IsRefusal text is_cut line → IsTold served.Refused line ended b0 b1 → Ends text is_cut count (seen w k b0 f) (seen w k b1 f) ended
 told text is_cut count line ended w k f b0 b1 refusal is = Refusal line refusal (refl, refl, refl) is
 

@@ -26,12 +26,14 @@ use Rattle.sp_service.specs.declared.verdict.Verdict.{Verdict}
 use Rattle.sp_service.specs.declared.verdict.Verdict.TheVariants as verdicts
 
 -- the first line that was read is one of this key
-may_open_of : (t : Topology) (near : List _) (stage : Stage) (o : Opening) → IsGoodStage (total_of t) near stage → opening_in stage ≡ Some o → rows.IsOpening (total_of t) o
+may_open_of : (t : Topology) (near : List _) (stage : Stage) (o : Opening) → IsGoodStage (total_of t) near stage → opening_in stage ≡ Some o
+    → rows.IsOpening (total_of t) o
 may_open_of t near stages.Start o good is = absurd (cc)
 may_open_of t near (stages.Lines p ls held) o good is = subst (rows.IsOpening (total_of t)) (let e : p ≡ o = cc in e) good.0.opening
 may_open_of t near (stages.End p ls c) o good is = subst (rows.IsOpening (total_of t)) (let e : p ≡ o = cc in e) good.opening
 
-pub may_open : (t : Topology) (near : List _) (stage : Stage) (o : Opening) → IsGoodStage (total_of t) near stage → opening_in stage ≡ Some o → CanAnnounce t o → IsOpening t o
+pub may_open : (t : Topology) (near : List _) (stage : Stage) (o : Opening) → IsGoodStage (total_of t) near stage → opening_in stage ≡ Some o → CanAnnounce t o
+    → IsOpening t o
 may_open t near stage o good is announces =
     let opens = may_open_of t near stage o good is in
     record { boot = opens.boot.0; index = opens.index; bound = opens.bound; announces = announces }
@@ -98,7 +100,8 @@ come c t before text out reading start verdicts.Refused reads plays comes =
     subst (λ (x : List ℕ). IsVerdict c t before text verdicts.Refused x) (sym comes.2) (Bad_line reading start comes.0 reads plays comes.1)
 
 played : (c : Config) (t : Topology) (before : ℕ) (text out : List ℕ) (reading : Reading) (o : Opening) (verdict : Verdict)
-    → Reads c t before text reading → opening_in reading.stage ≡ Some o → CanAnnounce t o → ComesFrom c t o before reading verdict out → IsVerdict c t before text verdict out
+    → Reads c t before text reading → opening_in reading.stage ≡ Some o → CanAnnounce t o → ComesFrom c t o before reading verdict out
+    → IsVerdict c t before text verdict out
 played c t before text out reading o verdict reads opens announces from =
     come c t before text out reading from.start verdict reads (record { opening = o; opens = opens; announces = announces; started = from.started }) from.comes
 
@@ -114,5 +117,6 @@ all_played c t before text reading o r reads opens announces =
     (λ j. played c t before text j.line reading o j.verdict reads opens announces)
 
 -- the ids of the peers are those of the neighbours
-pub near_list : (c : Config) (t : Topology) (ids : List NodeId) (peers : List Peer) → Fits c t → peers ≡ c.peers → ids ≡ map (λ p. p.id) peers → ids ≡ neighbours c t
+pub near_list : (c : Config) (t : Topology) (ids : List NodeId) (peers : List Peer) → Fits c t → peers ≡ c.peers → ids ≡ map (λ p. p.id) peers
+    → ids ≡ neighbours c t
 near_list c t ids peers fits same is = is ∙ ap (map (λ (p : Peer). p.id)) same ∙ fits.peers.neighbours_are

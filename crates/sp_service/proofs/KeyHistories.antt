@@ -61,8 +61,10 @@ module _ (found : List ℕ) (sound : IsSomeSound found) where
 
 pub they_are_runs : DaemonsAreRuns
 they_are_runs text is_cut count before after ended (Refusal out refusal quiet told) found is sound = untouched found sound before.file after.file quiet.2
-they_are_runs text is_cut count before after ended (Unopened c t whole configured fails_so) found is sound = fails found sound c t before after ended is fails_so
-they_are_runs text is_cut count before after ended (No_node c t taken whole configured opened memory) found is sound = started found sound before.file after.file is opened.kept
+they_are_runs text is_cut count before after ended (Unopened c t whole configured fails_so) found is sound =
+    fails found sound c t before after ended is fails_so
+they_are_runs text is_cut count before after ended (No_node c t taken whole configured opened memory) found is sound =
+    started found sound before.file after.file is opened.kept
 they_are_runs text is_cut count before after ended (Is_served c t whole configured opened) found is sound =
     each_moment StationStep indexes_in in_order (ports_of c) (total_of t) found opened.started (peers_of c) count opened.start ended before opened.between after
     (few_indexes t.height) is sound opened.opened (takes_first c t opened.started opened.start opened.opened.starts opened.is_start) opened.ends

@@ -47,7 +47,8 @@ is_opening t told now started starts = record {
     capped first total = grind arith
 
 -- the node that starts has the bound of the start
-pub held_at_start : (c : Config) (t : Topology) (started : Started) (told : Option Disk) (start : Station) → StandsFor told started.state → started.state.serial < 2 ^ 64
+pub held_at_start : (c : Config) (t : Topology) (started : Started) (told : Option Disk) (start : Station) → StandsFor told started.state
+    → started.state.serial < 2 ^ 64
     → IsStarted c t (opening_of started) start
     → HoldsKeys told started.state (indexes_in start)
 held_at_start c t started told start stands numbered begun =
@@ -73,7 +74,8 @@ few_peers c t fits topology =
     let near = few c.node.0 0 t.edges in
     let peers : length (map (λ (p : Peer). p.id) c.peers) ≡ length c.peers = mapped (λ (p : Peer). p.id) c.peers in
     let ports : length (peers_of c) ≡ length c.peers = mapped (λ (p : Peer). record { node = p.id; port = p.port }) c.peers in
-    let joined : length (neighbours c t) ≡ length (neighbours_from c.node.0 0 t.edges) = mapped (λ (n : NodeId × EdgeId). n.0) (neighbours_from c.node.0 0 t.edges) in
+    let joined : length (neighbours c t) ≡ length (neighbours_from c.node.0 0 t.edges) =
+    mapped (λ (n : NodeId × EdgeId). n.0) (neighbours_from c.node.0 0 t.edges) in
     omega (arith, ids, peers, ports, joined, edges, most, near)
 
 pub few_read : (c : Config) (t : Topology) (ps : List near.Peer) → Fits c t → IsTopology t → ps ≡ peers_of c → length ps < 2 ^ 16

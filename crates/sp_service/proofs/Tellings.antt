@@ -37,6 +37,7 @@ pub record Says (Holds : ℕ → Type 0) (text : List ℕ) (is_cut : Bool) : Typ
   pub whole : is_cut ≡ false
   pub configured : IsConfiguredFor Holds text
 
+-- what an ending of a daemon tells
 pub data Tells (text : List ℕ) (is_cut : Bool) (turns : ℕ) (disk : Option Disk) : Served → Type 0 where
   By_refusal : (Says (λ _. Unit {0}) text is_cut → ⊥) → Tells text is_cut turns disk served.Refused
   By_turns : Says (λ total. IfSome disk (λ d. GivesNoStart total d → ⊥)) text is_cut → Tells text is_cut turns disk served.Done
@@ -48,8 +49,12 @@ pub data Tells (text : List ℕ) (is_cut : Bool) (turns : ℕ) (disk : Option Di
 
 -- what holds of one reading of a text holds of each
 pub both : (Holds Other : ℕ → Type 0) (text : List ℕ) → IsConfiguredFor Holds text → IsConfiguredFor Other text → (total : ℕ) × Holds total × Other total
-both Holds Other text one two =
-    (total_of one.topology, one.holds, subst (λ (t : Topology). Other (total_of t)) (same_topology text two.config one.config two.topology one.topology two.configured one.configured) two.holds)
+both Holds Other text one two = (
+  total_of one.topology,
+  one.holds,
+  subst (λ (t : Topology). Other (total_of t)) (same_topology text two.config one.config two.topology one.topology two.configured one.configured)
+      two.holds,
+)
 
 -- ---- a start
 
@@ -62,7 +67,8 @@ few_changes keys (t ∷ ts) = let rest = few_changes (keys_after keys t.reserved
     one None = omega arith
     one (Some upto) = omega arith
 
-gave_start : (total : ℕ) (started : Started) (told now : Option Disk) → Starts told now RESERVED total started → IfSome told (λ disk. GivesNoStart total disk → ⊥)
+gave_start : (total : ℕ) (started : Started) (told now : Option Disk) → Starts told now RESERVED total started
+    → IfSome told (λ disk. GivesNoStart total disk → ⊥)
 gave_start total started None now starts = tt
 gave_start total started (Some disk) now starts = none
   where
@@ -118,23 +124,27 @@ module _ (text : List ℕ) (is_cut : Bool) (turns : ℕ) (c : Config) (t : Topol
   by_want told served.Wire line b0 b1 fails = absurd fails
   by_want told (served.Keys refused) line b0 b1 fails = absurd fails
 
-  unopened : (before after : Outside) (ended : Served) → FailsToOpen (ports_of c) (total_of t) before after ended → Tells text is_cut turns before.file.disk ended
+  unopened : (before after : Outside) (ended : Served) → FailsToOpen (ports_of c) (total_of t) before after ended
+      → Tells text is_cut turns before.file.disk ended
   unopened before after ended (No_wire is told) = by_line before.file.disk served.Wire ended _ before.text after.text told By_wire
   unopened before after ended (No_start refused is told) =
       by_line before.file.disk (served.Keys refused) ended _ before.text after.text told (unstarted before.file.disk refused is.cause)
 
-  stopped : (told now : Option Disk) (started : Started) (ts : List Turn) (refused : KeyRefused) → Starts told now RESERVED (total_of t) started → length ts < turns
+  stopped : (told now : Option Disk) (started : Started) (ts : List Turn) (refused : KeyRefused) → Starts told now RESERVED (total_of t) started
+      → length ts < turns
       → IsEnd (keys_on started.state ts).serial refused → Tells text is_cut turns told (served.Keys refused)
   stopped told now started ts keys.KeeperFault starts few end = By_keeper
   stopped told now started ts keys.Unformatted starts few end = absurd end
   stopped told now started ts keys.Formatted starts few end = absurd end
   stopped told now started ts (keys.Exhausted number) starts few end =
       by_keys told (keys.Exhausted number)
-      (last_serial (total_of t) turns (keys_on started.state ts).serial started told now starts end (let most = few_changes started.state ts in omega (arith, few, most)))
+      (last_serial (total_of t) turns (keys_on started.state ts).serial started told now starts end
+      (let most = few_changes started.state ts in omega (arith, few, most)))
 
   module _ (told now : Option Disk) (started : Started) (starts : Starts told now RESERVED (total_of t) started) where
     finished : (line : Closing) (b0 b1 : Text) (ended : Served) → Finishes line b0 b1 ended → Tells text is_cut turns told ended
-    finished line b0 b1 served.Done ends = By_turns (says (λ total. IfSome told (λ d. GivesNoStart total d → ⊥)) (gave_start (total_of t) started told now starts))
+    finished line b0 b1 served.Done ends =
+        By_turns (says (λ total. IfSome told (λ d. GivesNoStart total d → ⊥)) (gave_start (total_of t) started told now starts))
     finished line b0 b1 served.Sink ends = By_sink
     finished line b0 b1 served.Memory ends = By_memory
     finished line b0 b1 served.Refused ends = absurd ends
@@ -148,7 +158,8 @@ module _ (text : List ℕ) (is_cut : Bool) (turns : ℕ) (c : Config) (t : Topol
     last_turn peers polled node ts between after ended few (Broken (inl sink) early) = subst (Tells text is_cut turns told) (sym sink) By_sink
     last_turn peers polled node ts between after ended few (Broken (inr memory) early) = subst (Tells text is_cut turns told) (sym memory) By_memory
 
-    begun : (peers : List Peer) (start : Station) (before after : Outside) (ended : Served) → EndsAfter StationStep indexes_in peers turns start started.state before after ended
+    begun : (peers : List Peer) (start : Station) (before after : Outside) (ended : Served)
+        → EndsAfter StationStep indexes_in peers turns start started.state before after ended
         → Tells text is_cut turns told ended
     begun peers start before after ended (Whole ts last between counted ran quiet ends) = finished _ between.text after.text ended ends
     begun peers start before after ended (Stopped ts last between few ran ends) = last_turn peers _ last ts between after ended few ends
@@ -162,13 +173,15 @@ refusal : (text out : List ℕ) (is_cut : Bool) → IsRefusal text is_cut out �
 refusal text out true is says = let whole = says.whole in absurd (cc)
 refusal text out false is says = not_refused text out says.configured.config says.configured.topology says.configured.configured is
 
+-- each ending of a daemon tells what it ends with
 pub told : (text : List ℕ) (is_cut : Bool) (turns : ℕ) (before after : Outside) (ended : Served) → Ends text is_cut turns before after ended
     → Tells text is_cut turns before.file.disk ended
 told text is_cut turns before after ended (Refusal out is quiet (inl line)) =
     subst (Tells text is_cut turns before.file.disk) (sym line.0) (By_refusal (refusal text out is_cut is))
 told text is_cut turns before after ended (Refusal out is quiet (inr line)) = subst (Tells text is_cut turns before.file.disk) (sym line.0) By_sink
 told text is_cut turns before after ended (Unopened c t whole configured fails) = unopened text is_cut turns c t whole configured before after ended fails
-told text is_cut turns before after ended (No_node c t started whole configured opened memory) = subst (Tells text is_cut turns before.file.disk) (sym memory) By_memory
+told text is_cut turns before after ended (No_node c t started whole configured opened memory) =
+    subst (Tells text is_cut turns before.file.disk) (sym memory) By_memory
 told text is_cut turns before after ended (Is_served c t whole configured ends) =
     turned text is_cut turns c t whole configured before.file.disk _ ends.started ends.opened.starts _ _ ends.start ends.between after ended ends.ends
 told text is_cut turns before after ended (No_memory quiet unwritten memory) = subst (Tells text is_cut turns before.file.disk) (sym memory) By_memory

@@ -43,6 +43,7 @@ misfit_word setups.Key = codes "Key"
 misfit_word setups.Peer = codes "Peer"
 misfit_word setups.Memory = []
 
+-- the line of a configuration that doesn't fit its topology
 unfoldable pub misfit_line : SetupRefused → List ℕ
 misfit_line refused = codes "refused 0 Topology " ++ (misfit_word refused ++ codes "\n")
 
@@ -62,6 +63,7 @@ pub record IsMisfit (text out : List ℕ) : Type 0 where
   pub misfits : Misfits config refused
   pub written : out ≡ misfit_line refused
 
+-- what is written for a text that is refused
 abbrev pub IsRefused : List ℕ → List ℕ → Type 0
 IsRefused text out = IsBadText text out ⊎ IsMisfit text out
 

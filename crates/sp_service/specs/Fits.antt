@@ -25,9 +25,11 @@ use Rattle.sp_service.specs.declared.refused.SetupRefused.TheVariants as refusal
 abbrev pub IsSigned : Config → ℕ → Type 0
 IsSigned c size = IsValid c.admin (take size c.topology) (drop size c.topology)
 
+-- the node isn't in the topology
 abbrev pub IsStranger : Config → Topology → Type 0
 IsStranger c t = key_of c.node.0 t.nodes ≡ None
 
+-- the seed gives the node's key in the topology
 abbrev pub HasOwnKey : Config → Topology → Type 0
 HasOwnKey c t = key_of c.node.0 t.nodes ≡ Some (public_key (param_of t.height) c.seed)
 
@@ -40,6 +42,7 @@ abbrev pub have_own_ports : List Peer → Bool
 have_own_ports [] = true
 have_own_ports (p ∷ ps) = not (list_any (λ q. q.port == p.port) ps) && have_own_ports ps
 
+-- the neighbours are those of the topology, each with a port of its own
 pub record ArePeers (c : Config) (t : Topology) : Type 0 where
   pub neighbours_are : map (λ p. p.id) c.peers ≡ neighbours c t
   pub apart : have_own_ports c.peers ≡ true

@@ -14,9 +14,11 @@ use Rattle.sp_service_turns.specs.Outside.{Outside}
 use Rattle.sp_service_turns.specs.Served.{opening_of}
 use Rattle.sp_service_turns.specs.declared.served.Served.{Served}
 
--- Whatever a crash may leave at a moment of a daemon that ended so, on a file of these bytes: until its start is taken, a run of its station left it that signed
+-- Whatever a crash may leave at a moment of a daemon that ended so, on a file of these bytes: until its start is taken, a run of its station left it that
+-- signed
 -- nothing; and at each later moment to its end, one that signed what its station had signed at its start, with whatever message, and in its whole turns
-abbrev pub EachMomentIsLeft : (found text : List ℕ) (is_cut : Bool) (count : ℕ) (before after : Outside) (ended : Served) → Ends text is_cut count before after ended → Type 0
+abbrev pub EachMomentIsLeft : (found text : List ℕ) (is_cut : Bool) (count : ℕ) (before after : Outside) (ended : Served)
+    → Ends text is_cut count before after ended → Type 0
 EachMomentIsLeft found text is_cut count before after ended (Is_served c t whole configured opened) =
     LeavesBetween StationStep indexes_in found [] before.file opened.between.file
     × ((signed : List Signing) → SignsOne (indexes_at (total_of t) opened.started) (indexes_in opened.start) signed

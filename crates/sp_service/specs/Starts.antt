@@ -47,6 +47,7 @@ pub record IsOpening (t : Topology) (o : Opening) : Type 0 where
   pub bound : o.bound ≤ total_of t
   pub announces : CanAnnounce t o
 
+-- a station at its start
 pub record IsStarted (c : Config) (t : Topology) (o : Opening) (s : Station) : Type 0 where
   pub node : node_of s ≡ started_of (node_config c t) (node_signer c t.height o.index o.bound) o.boot
   pub clients : s.clients ≡ no_sessions

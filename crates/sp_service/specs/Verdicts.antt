@@ -31,9 +31,11 @@ use Rattle.sp_service.specs.declared.verdict.Verdict.TheVariants as verdicts
 abbrev pub verified_line : ℕ → List ℕ
 verified_line count = line_text (codes "verified" ∷ decimal count ∷ [])
 
+-- the line of the first answer that differs
 abbrev pub mismatch_line : ℕ → Digest → Digest → List ℕ
 mismatch_line line recorded computed = line_text (codes "mismatch" ∷ decimal line ∷ hex_word recorded.0 ∷ hex_word computed.0 ∷ [])
 
+-- the line of a recording that is malformed
 abbrev pub form_line : ℕ → List ℕ
 form_line line = line_text (codes "refused" ∷ decimal line ∷ codes "Form" ∷ [])
 

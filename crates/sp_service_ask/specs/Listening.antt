@@ -9,6 +9,7 @@ use Rattle.sp_service_ask.specs.declared.question.Question.{Question}
 abbrev pub lies_in : List ℕ → Option ℕ → Option (List ℕ)
 lies_in buffer count = option_map (λ n. take n buffer) count
 
+-- what one receive gives: a reply, or nothing that is one
 abbrev pub IsHeard : ℕ → List ℕ → Got → Option (List ℕ) → Type 0
 IsHeard port front got None = is_reply port front got ≡ false
 IsHeard port front got (Some reply) = (is_reply port front got ≡ true) × (got ≡ Came port reply)

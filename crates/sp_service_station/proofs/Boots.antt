@@ -40,10 +40,12 @@ by_start P c own boot said unsaid = go c.epochs said
     go true said = said refl
     go false said = unsaid
 
+-- a node begins with the bound of its signer
 pub bound_at_start : (c : NodeConfig) (own : NodeSigner) (boot : ℕ) (n : NodeState) → n ≡ started_of c own boot → n.signer.bound ≡ own.signer.bound
 bound_at_start c own boot n is =
     ap (λ (s : NodeState). s.signer.bound) is ∙ by_start (λ s. s.signer.bound ≡ own.signer.bound) c own boot (λ on. refl) refl
 
+-- a node takes the first index for its start's own object
 pub takes_at_start : (c : NodeConfig) (own : NodeSigner) (boot : ℕ) (n : NodeState) → n ≡ started_of c own boot
     → (c.epochs ≡ true → own.signer.index < own.signer.bound) → TakesNext (indexes_of (booted_of c own boot)) (indexes_of n)
 takes_at_start c own boot n is below =

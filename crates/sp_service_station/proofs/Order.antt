@@ -23,7 +23,8 @@ use Rattle.sp_rules.specs.Parts.{Parts, edge_to}
 use Rattle.sp_rules.specs.Polls.{after_poll}
 use Rattle.sp_rules.specs.Prio.{is_there}
 use Rattle.sp_rules.specs.Rel.{room}
-use Rattle.sp_rules.specs.Sends.{PrioSend, after_send_prio, after_send_rel, after_set_weight, after_take_prio, after_take_rel, is_unmet, no_life, no_paths, no_room, prio_refusal, rel_refusal, send_prio_refusal, signer_refusal, weight_refusal, weight_refusal_at}
+use Rattle.sp_rules.specs.Sends.{PrioSend, after_send_prio, after_send_rel, after_set_weight, after_take_prio, after_take_rel, is_unmet, no_life, no_paths}
+use Rattle.sp_rules.specs.Sends.{no_room, prio_refusal, rel_refusal, send_prio_refusal, signer_refusal, weight_refusal, weight_refusal_at}
 use Rattle.sp_rules.specs.Steps.{Datagram, Input, NodeStep, Output, Poll, Publish, SendPrio, SendRel, SetWeight, TakePrio, TakeRel, Tick}
 use Rattle.sp_rules.specs.Ticks.{after_tick, at_time, due_now, settled_by}
 use Rattle.sp_rules.specs.Weights.{is_withdrawn, minimum}
@@ -40,7 +41,8 @@ use Rattle.sp_service_station.proofs.Uses.{are_reserved}
 free_signer : (s : Signer) → signer_refusal s ≡ None → s.index ≢ s.bound
 free_signer s free same = go (s.index == s.total) (s.index == s.bound) refl free
   where
-    go : (x y : Bool) → (s.index == s.bound) ≡ y → (if x then Some (refusals.Spent s.index) else if y then Some (refusals.NotReserved s.bound) else None) ≡ None → ⊥
+    go : (x y : Bool) → (s.index == s.bound) ≡ y → (if x then Some (refusals.Spent s.index) else if y then Some (refusals.NotReserved s.bound) else None) ≡ None
+        → ⊥
     go true y p e = none-some (refusals.Spent s.index) (sym e)
     go false true p e = none-some (refusals.NotReserved s.bound) (sym e)
     go false false p e = eqb-false s.index s.bound p same
@@ -61,7 +63,8 @@ prio_free : (n : NodeState) (m : PrioSend) (choice : Choice) → send_prio_refus
 prio_free n m choice free =
     let own = first_free (prio_refusal n m) (no_paths choice) free in
     test_free (nat_lt m.expiry n.now) (refusals.Expired n.now) (signer_refusal n.signer)
-    (test_free ((m.dst.0 == n.fixed.me.0) || not (is_there n.parts.prio m.dst.0) || not (is_there n.parts.prio n.fixed.me.0) || is_unmet n m.dst) refusals.BadEnd
+    (test_free ((m.dst.0 == n.fixed.me.0) || not (is_there n.parts.prio m.dst.0) || not (is_there n.parts.prio n.fixed.me.0) || is_unmet n m.dst)
+    refusals.BadEnd
     (if nat_lt m.expiry n.now then Some (refusals.Expired n.now) else signer_refusal n.signer) own)
 
 rel_free : (n : NodeState) (dst : NodeId) → rel_refusal n dst ≡ None → signer_refusal n.signer ≡ None
@@ -115,12 +118,14 @@ is_going old new made is goes = subst (Goes old) (sym is) goes
 goes : (old : NodeState) (input : Input) (output : Output) (new : NodeState) → NodeStep (format_of old.fixed) old input output new → Goes old new
 goes old (Poll to) output new step = is_going old new (after_poll old to) step.1 (goes_called (call_refusal old to) old _ _)
 goes old (Datagram from bytes) output new step = is_going old new (after_datagram (format_of old.fixed) old from bytes) step.1
-    (goes_taken (call_refusal old from) old (before_document (format_of old.fixed) old from bytes) (document_at (format_of old.fixed) old from bytes) (inl refl))
+    (goes_taken (call_refusal old from) old (before_document (format_of old.fixed) old from bytes) (document_at (format_of old.fixed) old from bytes)
+    (inl refl))
 goes old (Publish bytes) output new step =
     is_going old new (after_publish (format_of old.fixed) old bytes) step.1
     (publishing (format_of old.fixed) old bytes (λ m told. Goes old m) (inl refl) (λ d reads by. inl refl))
 goes old (Tick now) output new step =
-    is_going old new (after_tick (format_of old.fixed) old now) step.1 (goes_settled old (at_time old now) (due_now old) (signer_refusal old.signer) refl (λ free. free))
+    is_going old new (after_tick (format_of old.fixed) old now) step.1
+    (goes_settled old (at_time old now) (due_now old) (signer_refusal old.signer) refl (λ free. free))
 goes old (SendRel dst payload) output new step =
     is_going old new (after_send_rel (format_of old.fixed) old dst payload) step.1
     (goes_signed (rel_refusal old dst) old _ (rel_free old dst))
@@ -139,6 +144,7 @@ goes_by_request : (old : tables.Table) (port : ℕ) (bytes reply : List ℕ) (ne
     → tables.Datagram AnswersBy old port bytes reply new before after → Goes before.node.state after.node.state
 goes_by_request old port bytes reply new before after done = by_handled Goes (λ n. inl refl) goes done.read old port reply new before after done.handled
 
+-- a station signs in order
 pub in_order : SignsInOrder StationStep indexes_in
 in_order old new (inputs.Reserve upto) answer step = λ above within. ap indexes_of step.1 ∙ are_reserved (node_of old) upto above within
 in_order old new (inputs.Tick now) answer step = goes (node_of old) (Tick now) step.0.0 (node_of new) step.0.1

@@ -32,14 +32,16 @@ module _ (R : NodeState → NodeState → Type 0) (same : (n : NodeState) → R 
   as_before : (old new : LocalNode) → new ≡ old → R old.node.state new.node.state
   as_before old new is = subst (λ (l : LocalNode). R old.node.state l.node.state) (sym is) (same old.node.state)
 
-  by_take : (other : Bool) (old : LocalNode) (src : NodeId) (answer : Answer) (new : LocalNode) → TakesFrom other old src answer new → R old.node.state new.node.state
+  by_take : (other : Bool) (old : LocalNode) (src : NodeId) (answer : Answer) (new : LocalNode) → TakesFrom other old src answer new
+      → R old.node.state new.node.state
   by_take true old src answer new takes = by_step old.node.state (TakeRel src) takes.output new.node.state takes.step
   by_take false old src answer new takes = as_before old new takes.1
 
   by_command : (old : LocalNode) (command : Command) (answer : Answer) (new : LocalNode) → AnswersBy old command answer new → R old.node.state new.node.state
   by_command old (commands.Send dst payload) answer new sends = by_step old.node.state (SendRel dst payload) sends.output new.node.state sends.step
   by_command old (commands.SendPrio dst prio expiry paths payload) answer new sends =
-      by_step old.node.state (SendPrio (record { dst = dst; prio = prio; expiry = expiry; paths = paths; payload = payload })) sends.output new.node.state sends.step
+      by_step old.node.state (SendPrio (record { dst = dst; prio = prio; expiry = expiry; paths = paths; payload = payload })) sends.output new.node.state
+      sends.step
   by_command old (commands.Take src) answer new takes = by_take (is_other old.node.state src) old src answer new takes
   by_command old commands.TakePrio answer new takes = by_step old.node.state TakePrio takes.output new.node.state takes.step
   by_command old (commands.Weight peer weight) answer new sends = by_step old.node.state (SetWeight peer weight) sends.output new.node.state sends.step
@@ -78,7 +80,8 @@ uses_by_request old port bytes reply new before after done =
 -- ---- frames
 
 -- a node that made a frame was called
-called : (n : NodeState) (v : NodeId) (bytes : List ℕ) (new : NodeState) → NodeStep (format_of n.fixed) n (Poll v) (replied (Frame bytes)) new → call_refusal n v ≡ None
+called : (n : NodeState) (v : NodeId) (bytes : List ℕ) (new : NodeState) → NodeStep (format_of n.fixed) n (Poll v) (replied (Frame bytes)) new
+    → call_refusal n v ≡ None
 called n v bytes new step = go (call_refusal n v) step.0
   where
     go : (r : Option NodeRefused) → replied (Frame bytes) ≡ refused_call r (replied (Frame (frame_to (format_of n.fixed) n v))) → r ≡ None

@@ -14,7 +14,8 @@ use Rattle.sp_rules.specs.Node.{NodeState, Signer, call_refusal, extended}
 use Rattle.sp_rules.specs.Parts.{edge_to}
 use Rattle.sp_rules.specs.Prio.{is_there}
 use Rattle.sp_rules.specs.Rel.{room}
-use Rattle.sp_rules.specs.Sends.{PrioSend, is_unmet, no_life, no_paths, no_room, prio_refusal, rel_refusal, send_prio_refusal, signer_refusal, weight_refusal, weight_refusal_at}
+use Rattle.sp_rules.specs.Sends.{PrioSend, is_unmet, no_life, no_paths, no_room, prio_refusal, rel_refusal, send_prio_refusal, signer_refusal, weight_refusal}
+use Rattle.sp_rules.specs.Sends.{weight_refusal_at}
 use Rattle.sp_rules.specs.Steps as steps
 use Rattle.sp_rules.specs.Ticks.{due_now, reply_of, tick_reply_of}
 use Rattle.sp_rules.specs.Weights.{is_withdrawn, minimum}
@@ -63,7 +64,8 @@ free_paths (Mask mask) None free = λ b is. absurd (cc)
 free_paths (OnlyPaths found) None free = λ b is. absurd (cc)
 free_paths choice (Some refused) free = free
 
-free_test : (t : Bool) (refused : SendRefused) (refusal : Option SendRefused) → IsFree (Some refused) → IsFree refusal → IsFree (if t then Some refused else refusal)
+free_test : (t : Bool) (refused : SendRefused) (refusal : Option SendRefused) → IsFree (Some refused) → IsFree refusal
+    → IsFree (if t then Some refused else refusal)
 free_test true refused refusal one other = one
 free_test false refused refusal one other = other
 
@@ -148,7 +150,8 @@ IsWithin s = (indexes_in s).bound ≤ (indexes_in s).total
 within_reserved : (n : NodeState) (upto : ℕ) → n.signer.bound ≤ n.signer.total → (reserved n upto).signer.bound ≤ (reserved n upto).signer.total
 within_reserved n upto within = go (nat_le n.signer.bound upto) (nat_le upto n.signer.total) refl
   where
-    go : (a b : Bool) → nat_le upto n.signer.total ≡ b → (if a && b then extended n upto else n).signer.bound ≤ (if a && b then extended n upto else n).signer.total
+    go : (a b : Bool) → nat_le upto n.signer.total ≡ b
+        → (if a && b then extended n upto else n).signer.bound ≤ (if a && b then extended n upto else n).signer.total
     go true true is = grind (arith, nat_tests)
     go true false is = within
     go false b is = within
@@ -161,7 +164,8 @@ within_restocked None old new same within = subst IsWithin (sym same) within
 within_by : (old new : Station) → UsesOne (indexes_in old) (indexes_in new) → IsWithin old → IsWithin new
 within_by old new uses within = omega (arith, within, uses.bound, uses.total)
 
-uses_from : (node : Option NodeId) (arrived bytes : List ℕ) (old new : Station) → HearsFrom StationStep node arrived old bytes new → UsesOne (indexes_in old) (indexes_in new)
+uses_from : (node : Option NodeId) (arrived bytes : List ℕ) (old new : Station) → HearsFrom StationStep node arrived old bytes new
+    → UsesOne (indexes_in old) (indexes_in new)
 uses_from (Some node) arrived bytes old new hears = uses_one (node_of old) (steps.Datagram node bytes) hears.0.0 (node_of new) hears.0.1
 uses_from None arrived bytes old new same = subst (λ (s : Station). UsesOne (indexes_in old) (indexes_in s)) (sym same) (uses_none (node_of old))
 

@@ -53,18 +53,21 @@ is_near old new made is near = subst (IsNear old) (sym is) near
 rises : (old : NodeState) (input : Input) (output : Output) (new : NodeState) → NodeStep (format_of old.fixed) old input output new → IsNear old new
 rises old (Poll to) output new step = is_near old new (after_poll old to) step.1 (near_called _ old _ _)
 rises old (Datagram from bytes) output new step = is_near old new (after_datagram (format_of old.fixed) old from bytes) step.1
-    (near_taken (call_refusal old from) old (before_document (format_of old.fixed) old from bytes) (document_at (format_of old.fixed) old from bytes) (omega arith))
+    (near_taken (call_refusal old from) old (before_document (format_of old.fixed) old from bytes) (document_at (format_of old.fixed) old from bytes)
+    (omega arith))
 rises old (Publish bytes) output new step =
     is_near old new (after_publish (format_of old.fixed) old bytes) step.1
     (publishing (format_of old.fixed) old bytes (λ m told. IsNear old m) (omega arith) (λ d reads by. omega arith))
-rises old (Tick now) output new step = is_near old new (after_tick (format_of old.fixed) old now) step.1 (near_settled (at_time old now) (due_now old) (signer_refusal old.signer))
+rises old (Tick now) output new step =
+    is_near old new (after_tick (format_of old.fixed) old now) step.1 (near_settled (at_time old now) (due_now old) (signer_refusal old.signer))
 rises old (SendRel dst payload) output new step = is_near old new (after_send_rel (format_of old.fixed) old dst payload) step.1 (near_signed _ old _)
 rises old (SendPrio message) output new step = is_near old new (after_send_prio (format_of old.fixed) old message step.choice) step.new_is (near_signed _ old _)
 rises old (SetWeight peer weight) output new step = is_near old new (after_set_weight (format_of old.fixed) old peer weight) step.1 (near_signed _ old _)
 rises old (TakeRel src) output new step = is_near old new (after_take_rel old src) step.1 (omega arith)
 rises old TakePrio output new step = is_near old new (after_take_prio old) step.1 (omega arith)
 
-pub uses_one : (old : NodeState) (input : Input) (output : Output) (new : NodeState) → NodeStep (format_of old.fixed) old input output new → UsesOne (indexes_of old) (indexes_of new)
+pub uses_one : (old : NodeState) (input : Input) (output : Output) (new : NodeState) → NodeStep (format_of old.fixed) old input output new
+    → UsesOne (indexes_of old) (indexes_of new)
 uses_one old input output new step =
     let shape = shapes_stay (format_of old.fixed) old input output new step in
     record { index = rises old input output new step; bound = ap (λ (s : Shape). s.bound) shape; total = ap (λ (s : Shape). s.total) shape }

@@ -16,6 +16,7 @@ pub record Station : Type 0 where
   pub clients : tables.Table
   pub local : LocalNode
 
+-- the node of a station
 abbrev pub node_of : Station → NodeState
 node_of s = s.local.node.state
 
@@ -27,6 +28,7 @@ reserved n upto = if nat_le n.signer.bound upto && nat_le upto n.signer.total th
 abbrev pub indexes_of : NodeState → Indexes
 indexes_of n = record { index = n.signer.index; bound = n.signer.bound; total = n.signer.total }
 
+-- the indexes of a station's node
 abbrev pub indexes_in : Station → Indexes
 indexes_in s = indexes_of (node_of s)
 
@@ -34,6 +36,7 @@ indexes_in s = indexes_of (node_of s)
 abbrev pub Gives : (steps.Output → List ℕ) → NodeState → steps.Input → List ℕ → NodeState → Type 0
 Gives answer_of old input answer new = (output : steps.Output) × steps.NodeStep (format_of old.fixed) old input output new × (answer ≡ answer_of output)
 
+-- the frame of an output
 abbrev pub frame_of : steps.Output → List ℕ
 frame_of output = frame_in output.reply
 

@@ -18,6 +18,7 @@ abbrev pub lines_of : Option Reply → List Effect → List ℕ
 lines_of None effects = []
 lines_of (Some reply) effects = reply_text (record { reply = reply; effects = effects })
 
+-- the text of an answer and its effects
 abbrev pub answer_text : steps.Output → List ℕ
 answer_text output = lines_of (word_of output.reply) output.effects
 

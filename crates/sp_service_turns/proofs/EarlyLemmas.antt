@@ -1,5 +1,6 @@
 -- Where a turn may break off.
-use Rattle.std.proofs.Common.{◌≡◌, ◌+◌, ℕ, Bool, true, List, [], ◌∷◌, ◌++◌, Option, None, Some, Result, Ok, Err, OnErr, OnOk, refl, sym, ap, ◌∙◌, subst, append_assoc, append-nil, inl, inr}
+use Rattle.std.proofs.Common.{◌≡◌, ◌+◌, ℕ, Bool, true, List, [], ◌∷◌, ◌++◌, Option, None, Some, Result, Ok, Err, OnErr, OnOk, refl, sym, ap, ◌∙◌, subst}
+use Rattle.std.proofs.Common.{append_assoc, append-nil, inl, inr}
 use Rattle.std.specs.Prelude.{IsErrAnd}
 use Rattle.sp_base.specs.declared.id.NodeId.{NodeId}
 use Rattle.sp_keystate.specs.declared.key_state.KeyState.{KeyState}
@@ -12,7 +13,8 @@ use Rattle.sp_service_turns.specs.Early.{BeginsLine, Early, EarlyCame, EarlyClie
 use Rattle.sp_service_turns.specs.Indexes.{UsesOne}
 use Rattle.sp_service_turns.specs.Inputs.{Datagram, Input, Poll, Request, Steps, Tick}
 use Rattle.sp_service_turns.specs.Outside.{KeptFile, Outside, Text}
-use Rattle.sp_service_turns.specs.Turns.{Moves, Turn, calls_of, client_lines, lines_of, node_at, overlay_line, overlay_lines, poll_lines, reserve_lines, tick_line, told}
+use Rattle.sp_service_turns.specs.Turns.{Moves, Turn, calls_of, client_lines, lines_of, node_at, overlay_line, overlay_lines, poll_lines, reserve_lines}
+use Rattle.sp_service_turns.specs.Turns.{tick_line, told}
 use Rattle.sp_service_turns.specs.Verified.{Agrees, Is_silent, Is_so, Starts, asked}
 use Rattle.sp_service_turns.specs.declared.ended.Ended.{Ended}
 use Rattle.sp_service_turns.specs.declared.ended.Ended.TheVariants as ended
@@ -27,7 +29,8 @@ on_ok_by (Ok x) P Q go h = go h
 on_ok_by (Err e) P Q go h = tt
 
 -- an end that a caller hands on
-pub broken_on : {U : Type 0} (T : Type 0) (r : Result U Ended) (e : Ended) {P Q : Type 0} → IsErrAnd r (λ x. x ≡ e) → (P → Q) → IfBroken {T = T} (Err e) P → IfBroken r Q
+pub broken_on : {U : Type 0} (T : Type 0) (r : Result U Ended) (e : Ended) {P Q : Type 0} → IsErrAnd r (λ x. x ≡ e) → (P → Q) → IfBroken {T = T} (Err e) P
+    → IfBroken r Q
 broken_on {U} T (Ok x) e {P} {Q} is go h = absurd is
 broken_on {U} T (Err e) d {P} {Q} is go h = same e (subst (λ (x : Ended). IfBroken {T = T} (Err x) P) (sym is) h)
   where
@@ -48,7 +51,8 @@ pub record Begun {N : Type 0} (steps : Steps N) (old : N) (ls : List Line) (befo
   pub agrees : Agrees steps old begun new count
   pub text : GetsFront before after begun
 
-widen : {N : Type 0} (steps : Steps N) (old : N) (ls more all : List Line) (b0 b1 : Text) → Begun steps old ls b0 b1 → ls ++ more ≡ all → Begun steps old all b0 b1
+widen : {N : Type 0} (steps : Steps N) (old : N) (ls more all : List Line) (b0 b1 : Text) → Begun steps old ls b0 b1 → ls ++ more ≡ all
+    → Begun steps old all b0 b1
 widen steps old ls more all b0 b1 b same = record {
   begun = b.begun;
   later = b.later ++ more;
@@ -59,7 +63,8 @@ widen steps old ls more all b0 b1 b same = record {
   text = b.text;
 }
 
-module _ {N : Type 0} (steps : Steps N) (first n : N) (ls : List Line) (count : ℕ) (b0 b1 b2 : Text) (agrees : Agrees steps first ls n count) (text : Gets b0 b1 ls) where
+module _ {N : Type 0} (steps : Steps N) (first n : N) (ls : List Line) (count : ℕ) (b0 b1 b2 : Text) (agrees : Agrees steps first ls n count)
+    (text : Gets b0 b1 ls) where
   unbegun : (line : Line) → b2 ≡ b1 → Begun steps first (ls ++ line ∷ []) b0 b2
   unbegun line same = record {
     begun = ls;
@@ -71,7 +76,8 @@ module _ {N : Type 0} (steps : Steps N) (first n : N) (ls : List Line) (count : 
     text = subst (λ (b : Text). GetsFront b0 b ls) (sym same) (front_whole b0 b1 ls text);
   }
 
-  line_begun : (line : Line) (new : N) (k : ℕ) → Agrees steps first (ls ++ line ∷ []) new k → GetsFront b1 b2 (line ∷ []) → Begun steps first (ls ++ line ∷ []) b0 b2
+  line_begun : (line : Line) (new : N) (k : ℕ) → Agrees steps first (ls ++ line ∷ []) new k → GetsFront b1 b2 (line ∷ [])
+      → Begun steps first (ls ++ line ∷ []) b0 b2
   line_begun line new k more front = record {
     begun = ls ++ line ∷ [];
     later = [];
@@ -82,7 +88,8 @@ module _ {N : Type 0} (steps : Steps N) (first n : N) (ls : List Line) (count : 
     text = front_on b0 b1 b2 ls (line ∷ []) text front;
   }
 
-  begins : (input : Input) (line : List ℕ → Line) → ((a : List ℕ) → asked (line a) ≡ Some (record { input = input; digest = told a })) → BeginsLine steps n input line b1 b2
+  begins : (input : Input) (line : List ℕ → Line) → ((a : List ℕ) → asked (line a) ≡ Some (record { input = input; digest = told a }))
+      → BeginsLine steps n input line b1 b2
       → (answer : List ℕ) × Begun steps first (ls ++ line answer ∷ []) b0 b2
   begins input line asks (inl same) = ([], unbegun (line []) same)
   begins input line asks (inr (answer, new, step, front)) =
@@ -122,7 +129,8 @@ no_more x xs is = absurd (cc)
 nested : (a b c d e : List Line) → (((a ++ b) ++ c) ++ d) ++ e ≡ a ++ (b ++ (c ++ (d ++ e)))
 nested a b c d e = append_assoc ((a ++ b) ++ c) d e ∙ append_assoc (a ++ b) c (d ++ e) ∙ append_assoc a b (c ++ (d ++ e))
 
-pub at_restock : {N : Type 0} (steps : Steps N) (indexes : N → Indexes) (peers : List Peer) (polled : Option Peer) {n : N} {keys : KeyState} {f f0 : KeptFile} {w : Option (List Call)}
+pub at_restock : {N : Type 0} (steps : Steps N) (indexes : N → Indexes) (peers : List Peer) (polled : Option Peer) {n : N} {keys : KeyState} {f f0 : KeptFile}
+    {w : Option (List Call)}
     {c : Option (List ℕ)} {b b0 : Text} → EarlyRestock steps indexes n keys f f0 b b0 → Early steps indexes peers polled n keys (seen w c b f) (seen w c b0 f0)
 at_restock steps indexes peers polled {n} {keys} {f} {f0} {w} {c} {b} {b0} early =
     let t = so_far (Some early.upto) 0 [] Nothing [] Nothing [] in
@@ -142,9 +150,11 @@ at_restock steps indexes peers polled {n} {keys} {f} {f0} {w} {c} {b} {b0} early
       text = early.text;
     }
 
-module _ {N : Type 0} (steps : Steps N) (indexes : N → Indexes) (peers : List Peer) (polled : Option Peer) {n n0 : N} {keys keys_now : KeyState} {f f0 : KeptFile} {b b0 : Text}
+module _ {N : Type 0} (steps : Steps N) (indexes : N → Indexes) (peers : List Peer) (polled : Option Peer) {n n0 : N} {keys keys_now : KeyState}
+    {f f0 : KeptFile} {b b0 : Text}
     (r : Restocked steps indexes n n0 keys keys_now f f0 b b0) where
-  pub at_tick : {w : Option (List Call)} {c0 c1 : Option (List ℕ)} {b1 : Text} → EarlyTick steps n0 c0 c1 b0 b1 → Early steps indexes peers polled n keys (seen w c0 b f) (seen w c1 b1 f0)
+  pub at_tick : {w : Option (List Call)} {c0 c1 : Option (List ℕ)} {b1 : Text} → EarlyTick steps n0 c0 c1 b0 b1
+      → Early steps indexes peers polled n keys (seen w c0 b f) (seen w c1 b1 f0)
   at_tick {w} {c0} {c1} {b1} early =
       let ls = reserve_lines r.reserved in
       let a = reserved steps indexes n r.reserved n n0 [] 0 Starts r.step in
@@ -171,19 +181,22 @@ module _ {N : Type 0} (steps : Steps N) (indexes : N → Indexes) (peers : List 
   module _ {n1 : N} {c0 c1 : Option (List ℕ)} {b1 : Text} (tick : Ticked steps n0 n1 c0 c1 b0 b1) where
     upto_tick : (k : ℕ) × Agrees steps n (reserve_lines r.reserved ++ tick_line tick.now tick.answer ∷ []) n1 k
     upto_tick =
-        let a = reserved steps indexes n r.reserved n n0 [] 0 Starts r.step in (a.0 + 1, Is_so (tick_line tick.now tick.answer) _ tick.answer a.1 refl tick.step refl)
+        let a = reserved steps indexes n r.reserved n n0 [] 0 Starts r.step in
+        (a.0 + 1, Is_so (tick_line tick.now tick.answer) _ tick.answer a.1 refl tick.step refl)
 
     ticked_text : Gets b b1 (reserve_lines r.reserved ++ tick_line tick.now tick.answer ∷ [])
     ticked_text = gets_on b b0 b1 (reserve_lines r.reserved) (tick_line tick.now tick.answer ∷ []) r.text tick.text
 
-    pub at_overlay : {w0 w1 : Option (List Call)} {b2 : Text} → EarlyOverlay steps peers n1 w0 w1 b1 b2 → Early steps indexes peers polled n keys (seen w0 c0 b f) (seen w1 c1 b2 f0)
+    pub at_overlay : {w0 w1 : Option (List Call)} {b2 : Text} → EarlyOverlay steps peers n1 w0 w1 b1 b2
+        → Early steps indexes peers polled n keys (seen w0 c0 b f) (seen w1 c1 b2 f0)
     at_overlay {w0} {w1} {b2} early =
         let ls = reserve_lines r.reserved ++ tick_line tick.now tick.answer ∷ [] in
         let came = came_begins steps n n1 ls upto_tick.0 b b1 b2 upto_tick.1 ticked_text (node_at peers early.port) early.port early.bytes early.line in
         let t = so_far r.reserved tick.now tick.answer (Came early.port early.bytes) came.0 Nothing [] in
         let over = overlay_lines peers came.0 (Came early.port early.bytes) in
         let lines = widen steps n (ls ++ over) (poll_lines [] polled) (lines_of peers polled t) b b2 came.1
-        (append_assoc ls over (poll_lines [] polled) ∙ append_assoc (reserve_lines r.reserved) (tick_line tick.now tick.answer ∷ []) (over ++ poll_lines [] polled)) in
+        (append_assoc ls over (poll_lines [] polled)
+        ∙ append_assoc (reserve_lines r.reserved) (tick_line tick.now tick.answer ∷ []) (over ++ poll_lines [] polled)) in
         record {
           t = t;
           due = r.due;
@@ -201,7 +214,8 @@ module _ {N : Type 0} (steps : Steps N) (indexes : N → Indexes) (peers : List 
         }
 
     module _ {n2 : N} {w0 w1 : Option (List Call)} {b2 : Text} {x : ℕ} (o : Overheard steps peers n1 n2 w0 w1 b1 b2 x) where
-      pub at_client : {w2 : Option (List Call)} {b3 : Text} → EarlyClient steps n2 w1 w2 b2 b3 → Early steps indexes peers polled n keys (seen w0 c0 b f) (seen w2 c1 b3 f0)
+      pub at_client : {w2 : Option (List Call)} {b3 : Text} → EarlyClient steps n2 w1 w2 b2 b3
+          → Early steps indexes peers polled n keys (seen w0 c0 b f) (seen w2 c1 b3 f0)
       at_client {w2} {b3} early =
           let a = arrives steps peers o.got n1 n2 b1 b2 x o.heard in
           let over = overlay_lines peers a.arrived o.got in
@@ -209,7 +223,8 @@ module _ {N : Type 0} (steps : Steps N) (indexes : N → Indexes) (peers : List 
           let ls = (reserve_lines r.reserved ++ tick_lines) ++ over in
           let far = heard steps indexes n peers a.arrived o.got n1 n2 (reserve_lines r.reserved ++ tick_lines) upto_tick.0 upto_tick.1 a.hears in
           let text = gets_on b b1 b2 (reserve_lines r.reserved ++ tick_lines) over ticked_text a.text in
-          let reply = begins steps n n2 ls far.0 b b2 b3 far.1 text (Request early.port early.bytes) (λ reply. lines.Client early.port early.bytes (told reply)) (λ x. refl) early.line in
+          let reply = begins steps n n2 ls far.0 b b2 b3 far.1 text (Request early.port early.bytes) (λ reply. lines.Client early.port early.bytes (told reply))
+          (λ x. refl) early.line in
           let t = so_far r.reserved tick.now tick.answer o.got a.arrived (Came early.port early.bytes) reply.0 in
           let served = client_lines reply.0 (Came early.port early.bytes) in
           let lines = widen steps n (ls ++ served) (poll_lines [] polled) (lines_of peers polled t) b b3 reply.1
@@ -235,13 +250,16 @@ module _ {N : Type 0} (steps : Steps N) (indexes : N → Indexes) (peers : List 
             text = lines.text;
           }
 
-      module _ (tick_uses : UsesOne (indexes n0) (indexes n1)) (overlay_uses : UsesOne (indexes n1) (indexes n2)) {n3 : N} {w2 : Option (List Call)} {b3 : Text} {y : ℕ}
+      module _ (tick_uses : UsesOne (indexes n0) (indexes n1)) (overlay_uses : UsesOne (indexes n1) (indexes n2)) {n3 : N} {w2 : Option (List Call)} {b3 : Text}
+          {y : ℕ}
           (s : Served steps n2 n3 w1 w2 b2 b3 y) where
         but_its_poll : Done steps indexes peers None n n3 keys keys_now (seen w0 c0 b f) (seen w2 c1 b3 f0) (x + y + 0)
         but_its_poll =
-            whole steps indexes peers None n n0 n1 n2 n3 n3 keys keys_now f f0 w0 w1 w2 w2 c0 c1 b b0 b1 b2 b3 b3 x y 0 r tick tick_uses o overlay_uses s (refl, refl, refl, refl)
+            whole steps indexes peers None n n0 n1 n2 n3 n3 keys keys_now f f0 w0 w1 w2 w2 c0 c1 b b0 b1 b2 b3 b3 x y 0 r tick tick_uses o overlay_uses s
+            (refl, refl, refl, refl)
 
-        pub at_poll : {w3 : Option (List Call)} {b4 : Text} → w3 ≡ w2 → EarlyPoll steps polled n3 b3 b4 → Early steps indexes peers polled n keys (seen w0 c0 b f) (seen w3 c1 b4 f0)
+        pub at_poll : {w3 : Option (List Call)} {b4 : Text} → w3 ≡ w2 → EarlyPoll steps polled n3 b3 b4
+            → Early steps indexes peers polled n keys (seen w0 c0 b f) (seen w3 c1 b4 f0)
         at_poll {w3} {b4} silent early =
             let d = but_its_poll in
             let m = d.moves in
@@ -255,7 +273,8 @@ module _ {N : Type 0} (steps : Steps N) (indexes : N → Indexes) (peers : List 
             let last = poll_lines poll.0 polled in
             let same : ls ++ last ≡ lines_of peers polled t =
             append_assoc (reserve_lines d.t.reserved) (tick_lines ++ (over ++ (served ++ []))) last
-            ∙ ap (λ (l : List Line). reserve_lines d.t.reserved ++ (tick_lines ++ l)) (append_assoc over (served ++ []) last ∙ ap (λ (l : List Line). over ++ l) (append_assoc served [] last)) in
+            ∙ ap (λ (l : List Line). reserve_lines d.t.reserved ++ (tick_lines ++ l))
+            (append_assoc over (served ++ []) last ∙ ap (λ (l : List Line). over ++ l) (append_assoc served [] last)) in
             let lines = widen steps n (ls ++ last) [] (lines_of peers polled t) b b4 poll.1 (append-nil (ls ++ last) ∙ same) in
             record {
               t = t;

@@ -1,5 +1,6 @@
 -- How a daemon ends that had written its first line, from its turns and how they ended.
-use Rattle.std.proofs.Common.{◌≡◌, ◌<◌, ℕ, ◌++◌, ◌∷◌, List, length, map, Option, None, Some, Result, Ok, Err, IfErr, refl, sym, ap, ◌∙◌, subst, append-nil, arith, inl, inr, []}
+use Rattle.std.proofs.Common.{◌≡◌, ◌<◌, ℕ, ◌++◌, ◌∷◌, List, length, map, Option, None, Some, Result, Ok, Err, IfErr, refl, sym, ap, ◌∙◌, subst, append-nil}
+use Rattle.std.proofs.Common.{arith, inl, inr, []}
 use Rattle.std.specs.List.{flat_map}
 use Rattle.std.specs.Prelude.{IsErrAnd}
 use Rattle.std.proofs.lemmas.Grind.{flat_map-append}
@@ -51,8 +52,10 @@ abbrev seen : Option (List Call) → Option (List ℕ) → Text → KeptFile →
 seen wire clock text file = record { wire = wire; clock = clock; text = text; file = file }
 
 -- why a turn ended, and how its daemon ends then
-pub ended_by : {N : Type 0} (T : Type 0) (steps : Steps N) (indexes : N → Indexes) (peers : List Peer) (polled : Option Peer) (n n1 : N) (keys : KeyState) (e : Ended) (end : Served)
-    (w0 w1 : Option (List Call)) (k0 k1 : Option (List ℕ)) (b0 b1 b2 : Text) (f0 f1 : KeptFile) → IfBroken {T = T} (Err e) (Early steps indexes peers polled n keys (seen w0 k0 b0 f0) (seen w1 k1 b1 f1))
+pub ended_by : {N : Type 0} (T : Type 0) (steps : Steps N) (indexes : N → Indexes) (peers : List Peer) (polled : Option Peer) (n n1 : N) (keys : KeyState)
+    (e : Ended) (end : Served)
+    (w0 w1 : Option (List Call)) (k0 k1 : Option (List ℕ)) (b0 b1 b2 : Text) (f0 f1 : KeptFile)
+    → IfBroken {T = T} (Err e) (Early steps indexes peers polled n keys (seen w0 k0 b0 f0) (seen w1 k1 b1 f1))
     → IfKeysEnd {T = T} (Err e) ((n1 ≡ n) × (w1 ≡ w0) × (k1 ≡ k0) × (b1 ≡ b0)) → IfKeysEndBy {T = T} (Err e) (λ refused. NoMore (indexes n) keys refused f0 f1)
     → Stops e b1 b2 end → EndsTurn steps indexes peers polled n keys (seen w0 k0 b0 f0) (seen w1 k1 b2 f1) end
 ended_by T steps indexes peers polled n n1 keys (ended.Keys refused) end w0 w1 k0 k1 b0 b1 b2 f0 f1 early still spent stops =
@@ -69,9 +72,11 @@ pub ended_on : {T : Type 0} (r : Result T Served) (e : Served) (P : Served → T
 ended_on (Ok x) e P is h = absurd is
 ended_on (Err x) e P is h = subst P (sym is) h
 
-module _ {N : Type 0} (steps : Steps N) (indexes : N → Indexes) (count asked : ℕ) (d0 d1 : Daemon N) (o0 o1 : Outside) (made : HasMade steps indexes count d0 d1 o0 o1) where
+module _ {N : Type 0} (steps : Steps N) (indexes : N → Indexes) (count asked : ℕ) (d0 d1 : Daemon N) (o0 o1 : Outside)
+    (made : HasMade steps indexes count d0 d1 o0 o1) where
   -- a daemon whose next turn ended so
-  pub ends_with : (o2 : Outside) (end : Served) → count < asked → EndsTurn steps indexes d1.peers.items (polled_by d1.peers.items d1.turns) d1.node d1.keys o1 o2 end
+  pub ends_with : (o2 : Outside) (end : Served) → count < asked
+      → EndsTurn steps indexes d1.peers.items (polled_by d1.peers.items d1.turns) d1.node d1.keys o1 o2 end
       → EndsAfter steps indexes d0.peers.items asked d0.node d0.keys o0 o2 end
   ends_with o2 end few ends =
       let P : List Peer → ℕ → KeyState → Type 0 = λ ps n k. EndsTurn steps indexes ps (polled_by ps n) d1.node k o1 o2 end in
@@ -86,5 +91,6 @@ module _ {N : Type 0} (steps : Steps N) (indexes : N → Indexes) (count asked :
       → EndsAfter steps indexes d0.peers.items asked d0.node d0.keys o0 (record o1 { text = b2 }) end
   finishes b2 end all ends =
       let same : record { turns = d1.turns; lost = d1.lost } ≡ closing_of d0.peers.items made.turns =
-      ap (λ (n : ℕ). record { turns = n; lost = d1.lost }) (made.counted ∙ sym made.made) ∙ ap (λ (n : ℕ). record { turns = length made.turns; lost = n }) made.lost_are in
+      ap (λ (n : ℕ). record { turns = n; lost = d1.lost }) (made.counted ∙ sym made.made)
+      ∙ ap (λ (n : ℕ). record { turns = length made.turns; lost = n }) made.lost_are in
       Whole made.turns d1.node o1 (made.made ∙ all) made.ran (refl, refl, refl) (subst (λ (c : Closing). Finishes c o1.text b2 end) same ends)

@@ -1,5 +1,6 @@
 -- Indexes and the key file over the parts of a turn, and over turns.
-use Rattle.std.proofs.Common.{◌≡◌, ℕ, ◌+◌, ◌-◌, ◌≤◌, ◌<◌, min, Bool, true, false, List, [], ◌∷◌, Option, None, Some, Result, Ok, Err, refl, sym, ap, subst, ◌∙◌, arith, inl, inr}
+use Rattle.std.proofs.Common.{◌≡◌, ℕ, ◌+◌, ◌-◌, ◌≤◌, ◌<◌, min, Bool, true, false, List, [], ◌∷◌, Option, None, Some, Result, Ok, Err, refl, sym, ap, subst, ◌∙◌}
+use Rattle.std.proofs.Common.{arith, inl, inr}
 use Rattle.std.specs.Prelude.{◌&&◌, ◌^◌, if◌then◌else◌, nat_lt, nat_le, IfSome}
 use Rattle.std.proofs.lemmas.Bool.Decides.{nat_tests}
 use Rattle.std.proofs.lemmas.Option.{none-some}
@@ -8,7 +9,8 @@ use Rattle.sp_keystate.proofs.Since.{since_none, since_on, since_weaker}
 use Rattle.sp_keystate.specs.Changes.{Changes}
 use Rattle.sp_keystate.specs.Soundness.{Keeps}
 use Rattle.sp_keystate.specs.Slots.{other, place}
-use Rattle.sp_keystate.specs.States.{HasFaultCause, IsChangeAnswer, IsSoundAt, KeepsMeanwhile, SoundAs, StandsFor, changed_state, next_numbers, reserve_end, serial_end}
+use Rattle.sp_keystate.specs.States.{HasFaultCause, IsChangeAnswer, IsSoundAt, KeepsMeanwhile, SoundAs, StandsFor, changed_state, next_numbers, reserve_end}
+use Rattle.sp_keystate.specs.States.{serial_end}
 use Rattle.sp_keystate.specs.declared.key_state.KeyState.{KeyState}
 use Rattle.sp_keystate.specs.declared.refused.KeyRefused.{KeyRefused}
 use Rattle.sp_keystate.specs.declared.refused.KeyRefused.TheVariants.{KeeperFault, Unformatted, Formatted, Exhausted}
@@ -92,7 +94,8 @@ if_broken (Err ended.Sink) h = h
 if_broken (Err ended.Memory) h = h
 if_broken (Err (ended.Keys refused)) h = tt
 
-pub restocked_none : {N : Type 0} (steps : Steps N) (indexes : N → Indexes) (n : N) (keys : KeyState) (file : KeptFile) (b : Text) (i : Indexes) → i ≡ indexes n → are_few i ≡ false
+pub restocked_none : {N : Type 0} (steps : Steps N) (indexes : N → Indexes) (n : N) (keys : KeyState) (file : KeptFile) (b : Text) (i : Indexes) → i ≡ indexes n
+    → are_few i ≡ false
     → Restocked steps indexes n n keys keys file file b b
 restocked_none steps indexes n keys file b i is few =
     let here : are_few (indexes n) ≡ false = subst (λ (j : Indexes). are_few j ≡ false) is few in
@@ -116,7 +119,8 @@ module _ (i at : Indexes) (keys new : KeyState) (upto : ℕ) (is : i ≡ at) (sa
   new_is : new ≡ changed_state keys upto keys.boot
   new_is = changed ∙ ap (λ (u : ℕ). changed_state keys u keys.boot) (sym bound)
 
-  pub reserves : (d0 d1 : Option Disk) (p0 p1 : Option (List Disk)) (f0 f1 : ℕ) → Changes d0 d1 (place (other keys.slot)) (next_numbers keys (min (keys.bound + RESERVED) i.total) keys.boot)
+  pub reserves : (d0 d1 : Option Disk) (p0 p1 : Option (List Disk)) (f0 f1 : ℕ)
+      → Changes d0 d1 (place (other keys.slot)) (next_numbers keys (min (keys.bound + RESERVED) i.total) keys.boot)
       → KeepsMeanwhile d0 p0 p1 keys → IfSome d1 (SoundAs new) → f1 ≡ f0 → Reserves keys upto (kept_file d0 p0 f0) (kept_file d1 p1 f1)
   reserves d0 d1 p0 p1 f0 f1 changes meanwhile sound faultless = record {
     change = subst (λ (u : ℕ). Changes d0 d1 (place (other keys.slot)) (next_numbers keys u keys.boot)) (sym bound) changes;
@@ -125,8 +129,10 @@ module _ (i at : Indexes) (keys new : KeyState) (upto : ℕ) (is : i ≡ at) (sa
     faultless = faultless;
   }
 
-  pub restocked_some : {N : Type 0} (steps : Steps N) (indexes : N → Indexes) (before after : N) (file_before file_after : KeptFile) (b0 b1 : Text) → at ≡ indexes before → i.index ≤ i.bound
-      → steps before (Reserve upto) [] after → AreReserved at upto (indexes after) → Gets b0 b1 (lines.Reserve upto ∷ []) → Reserves keys upto file_before file_after
+  pub restocked_some : {N : Type 0} (steps : Steps N) (indexes : N → Indexes) (before after : N) (file_before file_after : KeptFile) (b0 b1 : Text)
+      → at ≡ indexes before → i.index ≤ i.bound
+      → steps before (Reserve upto) [] after → AreReserved at upto (indexes after) → Gets b0 b1 (lines.Reserve upto ∷ [])
+      → Reserves keys upto file_before file_after
       → Restocked steps indexes before after keys new file_before file_after b0 b1
   restocked_some steps indexes before after file_before file_after b0 b1 here ordered step reserved text file =
       let order : at.index ≤ at.bound = subst (λ (j : Indexes). j.index ≤ j.bound) is ordered in
@@ -141,15 +147,18 @@ module _ (i at : Indexes) (keys new : KeyState) (upto : ℕ) (is : i ≡ at) (sa
       }
 
 -- the file was changed, and the line that tells it may not have been written
-pub early_restock : {N : Type 0} {T : Type 0} (steps : Steps N) (indexes : N → Indexes) (before after : N) (keys : KeyState) (upto : ℕ) (file_before file_after : KeptFile) (b0 b1 : Text) (r : Result T Ended)
-    → Some upto ≡ reserved_by (indexes before) → steps before (Reserve upto) [] after → Reserves keys upto file_before file_after → GetsFront b0 b1 (lines.Reserve upto ∷ [])
+pub early_restock : {N : Type 0} {T : Type 0} (steps : Steps N) (indexes : N → Indexes) (before after : N) (keys : KeyState) (upto : ℕ)
+    (file_before file_after : KeptFile) (b0 b1 : Text) (r : Result T Ended)
+    → Some upto ≡ reserved_by (indexes before) → steps before (Reserve upto) [] after → Reserves keys upto file_before file_after
+    → GetsFront b0 b1 (lines.Reserve upto ∷ [])
     → IfBroken r (EarlyRestock steps indexes before keys file_before file_after b0 b1)
 early_restock steps indexes before after keys upto file_before file_after b0 b1 r due step file text =
     if_broken r (record { upto = upto; due = due; new = after; step = step; file = file; text = text })
 
 -- ---- the key file
 
-sound_after : (keys : KeyState) (before after : Option Disk) (at : ℕ) (next : Numbers) (old : KeyState) → Changes before after at next → IfSome after (SoundAs keys)
+sound_after : (keys : KeyState) (before after : Option Disk) (at : ℕ) (next : Numbers) (old : KeyState) → Changes before after at next
+    → IfSome after (SoundAs keys)
     → IsSoundAt before old → IsSoundAt after keys
 sound_after keys None after at next old changes there sound = absurd sound
 sound_after keys (Some d) None at next old changes there sound = absurd (none-some _ changes)
@@ -209,7 +218,8 @@ keys_end_on T U ended.Memory P Q R go h by = tt
 
 -- ---- why there are no more indexes
 
-at_end : (keys : KeyState) (total : ℕ) (refused : KeyRefused) → keys.bound < total → IsChangeAnswer {T = Unit {0}} (reserve_end keys total) (Err refused) → IsEnd keys.serial refused
+at_end : (keys : KeyState) (total : ℕ) (refused : KeyRefused) → keys.bound < total → IsChangeAnswer {T = Unit {0}} (reserve_end keys total) (Err refused)
+    → IsEnd keys.serial refused
 at_end keys total KeeperFault less answer = tt
 at_end keys total Unformatted less answer = absurd answer
 at_end keys total Formatted less answer = absurd answer
@@ -219,7 +229,8 @@ at_end keys total (Exhausted number) less answer = go (nat_le total keys.bound) 
     go true most e = let least : total ≤ keys.bound = grind (arith, nat_tests) in absurd (omega (arith, less, least))
     go false few e = last_serial keys.serial number e
 
-pub no_more : (keys : KeyState) (i at : Indexes) (refused : KeyRefused) (d0 d1 : Option Disk) (p0 p1 : Option (List Disk)) (f0 f1 : ℕ) → i ≡ at → keys.bound ≡ at.bound → are_few i ≡ true
+pub no_more : (keys : KeyState) (i at : Indexes) (refused : KeyRefused) (d0 d1 : Option Disk) (p0 p1 : Option (List Disk)) (f0 f1 : ℕ) → i ≡ at
+    → keys.bound ≡ at.bound → are_few i ≡ true
     → IsChangeAnswer {T = Unit {0}} (reserve_end keys i.total) (Err refused) → KeepsMeanwhile d0 p0 p1 keys → HasFaultCause {T = Unit {0}} f0 f1 (Err refused)
     → NoMore at keys refused (kept_file d0 p0 f0) (kept_file d1 p1 f1)
 no_more keys i at refused d0 d1 p0 p1 f0 f1 is same few answer meanwhile faults = record {

@@ -6,22 +6,26 @@ use Rattle.sp_recording.specs.declared.line.Line.{Line}
 use Rattle.sp_recording.specs.declared.line.Line.TheVariants as lines
 use Rattle.sp_service_turns.specs.Inputs.{Steps}
 use Rattle.sp_service_turns.specs.Runs.{MovesOn, all_lines, polled_by}
-use Rattle.sp_service_turns.specs.Turns.{Hears, HearsFrom, Moves, Polls, Replies, Restocks, Turn, client_lines, lines_of, node_at, overlay_line, overlay_lines, poll_lines, reserve_lines, tick_line, told}
+use Rattle.sp_service_turns.specs.Turns.{Hears, HearsFrom, Moves, Polls, Replies, Restocks, Turn, client_lines, lines_of, node_at, overlay_line, overlay_lines}
+use Rattle.sp_service_turns.specs.Turns.{poll_lines, reserve_lines, tick_line, told}
 use Rattle.sp_service_turns.specs.declared.indexes.Indexes.{Indexes}
 use Rattle.sp_service_turns.specs.Verified.{Agrees, Is_silent, Is_so, RecordingsAgree, Starts}
 use Rattle.sp_service_turns.specs.declared.peer.Peer.{Peer}
 
 module _ {N : Type 0} (steps : Steps N) (indexes : N → Indexes) (first : N) where
-  no_lines : (old new : N) (before : List Line) (count : ℕ) → Agrees steps first before old count → new ≡ old → (n : ℕ) × Agrees steps first (before ++ []) new n
+  no_lines : (old new : N) (before : List Line) (count : ℕ) → Agrees steps first before old count → new ≡ old
+      → (n : ℕ) × Agrees steps first (before ++ []) new n
   no_lines old new before count a same =
       (count, subst (λ (l : List Line). Agrees steps first l new count) (sym (append-nil before)) (subst (λ x. Agrees steps first before x count) (sym same) a))
 
-  heard_from : (node : Option NodeId) (arrived : List ℕ) (old new : N) (port : ℕ) (bytes : List ℕ) (before : List Line) (count : ℕ) → Agrees steps first before old count
+  heard_from : (node : Option NodeId) (arrived : List ℕ) (old new : N) (port : ℕ) (bytes : List ℕ) (before : List Line) (count : ℕ)
+      → Agrees steps first before old count
       → HearsFrom steps node arrived old bytes new → (n : ℕ) × Agrees steps first (before ++ overlay_line node port bytes arrived ∷ []) new n
   heard_from (Some node) arrived old new port bytes before count a h = (count + 1, Is_so (lines.Overlay node bytes (told arrived)) _ arrived a refl h refl)
   heard_from None arrived old new port bytes before count a h = (count, Is_silent (lines.Stray port) a refl h)
 
-  pub heard : (peers : List Peer) (arrived : List ℕ) (got : Got) (old new : N) (before : List Line) (count : ℕ) → Agrees steps first before old count → Hears steps peers arrived old got new
+  pub heard : (peers : List Peer) (arrived : List ℕ) (got : Got) (old new : N) (before : List Line) (count : ℕ) → Agrees steps first before old count
+      → Hears steps peers arrived old got new
       → (n : ℕ) × Agrees steps first (before ++ overlay_lines peers arrived got) new n
   heard peers arrived (Came port bytes) old new before count a h = heard_from (node_at peers port) arrived old new port bytes before count a h
   heard peers arrived Nothing old new before count a h = no_lines old new before count a h
@@ -44,7 +48,8 @@ module _ {N : Type 0} (steps : Steps N) (indexes : N → Indexes) (first : N) wh
   reserved None old new before count a h = no_lines old new before count a h
 
   -- one turn
-  pub one : (peers : List Peer) (o : Option Peer) (t : Turn) (old new : N) (before : List Line) (count : ℕ) → Agrees steps first before old count → Moves steps indexes peers o t old new
+  pub one : (peers : List Peer) (o : Option Peer) (t : Turn) (old new : N) (before : List Line) (count : ℕ) → Agrees steps first before old count
+      → Moves steps indexes peers o t old new
       → (n : ℕ) × Agrees steps first (before ++ lines_of peers o t) new n
   one peers o t old new before count a m =
       let more = reserve_lines t.reserved in
@@ -62,13 +67,17 @@ module _ {N : Type 0} (steps : Steps N) (indexes : N → Indexes) (first : N) wh
       ∙ append_assoc (before ++ more) (line ∷ []) (over ++ (served ++ frame)) ∙ append_assoc before more ((line ∷ []) ++ (over ++ (served ++ frame))) in
       (e.0, subst (λ (l : List Line). Agrees steps first l new e.0) same e.1)
 
-  many : (peers : List Peer) (turn : ℕ) (ts : List Turn) (old new : N) (before : List Line) (count : ℕ) → Agrees steps first before old count → MovesOn steps indexes peers turn ts old new
+  many : (peers : List Peer) (turn : ℕ) (ts : List Turn) (old new : N) (before : List Line) (count : ℕ) → Agrees steps first before old count
+      → MovesOn steps indexes peers turn ts old new
       → (n : ℕ) × Agrees steps first (before ++ all_lines peers turn ts) new n
   many peers turn [] old new before count a same = no_lines old new before count a same
   many peers turn (t ∷ ts) old new before count a m =
       let b = one peers (polled_by peers turn) t old m.0 before count a m.1 in
-      let c = many peers (turn + 1) ts m.0 new (before ++ lines_of peers (polled_by peers turn) t) b.0 b.1 m.2 in
-      (c.0, subst (λ (l : List Line). Agrees steps first l new c.0) (append_assoc before (lines_of peers (polled_by peers turn) t) (all_lines peers (turn + 1) ts)) c.1)
+      let c = many peers (turn + 1) ts m.0 new (before ++ lines_of peers (polled_by peers turn) t) b.0 b.1 m.2 in (
+        c.0,
+        subst (λ (l : List Line). Agrees steps first l new c.0)
+            (append_assoc before (lines_of peers (polled_by peers turn) t) (all_lines peers (turn + 1) ts)) c.1,
+      )
 
 -- all turns
 pub recorded : {N : Type 0} (steps : Steps N) (indexes : N → Indexes) → RecordingsAgree steps indexes

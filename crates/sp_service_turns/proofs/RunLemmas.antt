@@ -1,5 +1,6 @@
 -- One turn more.
-use Rattle.std.proofs.Common.{◌≡◌, ◌≤◌, ℕ, ◌+◌, Bool, true, false, List, [], ◌∷◌, ◌++◌, length, map, Option, Some, None, refl, sym, ap, subst, ◌∙◌, append_assoc, append-nil, arith}
+use Rattle.std.proofs.Common.{◌≡◌, ◌≤◌, ℕ, ◌+◌, Bool, true, false, List, [], ◌∷◌, ◌++◌, length, map, Option, Some, None, refl, sym, ap, subst, ◌∙◌}
+use Rattle.std.proofs.Common.{append_assoc, append-nil, arith}
 use Rattle.std.proofs.lemmas.List.{length_push}
 use Rattle.sp_keystate.specs.declared.key_state.KeyState.{KeyState}
 use Rattle.sp_outside.specs.Calls.{Call, Came, Got, Lost, Nothing, Tells}
@@ -16,28 +17,44 @@ use Rattle.sp_service_turns.specs.declared.indexes.Indexes.{Indexes}
 use Rattle.sp_service_turns.specs.declared.peer.Peer.{Peer}
 use Rattle.sp_service_turns.proofs.TextLemmas.{gets_itself, gets_on, tells_itself, tells_on}
 
-moves_on : {N : Type 0} (steps : Steps N) (indexes : N → Indexes) (peers : List Peer) (turn : ℕ) (ts : List Turn) (t : Turn) (a b c : N) → MovesOn steps indexes peers turn ts a b
+moves_on : {N : Type 0} (steps : Steps N) (indexes : N → Indexes) (peers : List Peer) (turn : ℕ) (ts : List Turn) (t : Turn) (a b c : N)
+    → MovesOn steps indexes peers turn ts a b
     → Moves steps indexes peers (polled_by peers (turn + length ts)) t b c → MovesOn steps indexes peers turn (ts ++ t ∷ []) a c
-moves_on steps indexes peers turn [] t a b c h m =
-    (c, subst (λ (x : _). Moves steps indexes peers (polled_by peers turn) t x c) h (subst (λ (n : ℕ). Moves steps indexes peers (polled_by peers n) t b c) (omega arith) m), refl)
-moves_on steps indexes peers turn (x ∷ ts) t a b c h m =
-    (h.0, h.1, moves_on steps indexes peers (turn + 1) ts t h.0 b c h.2 (subst (λ (n : ℕ). Moves steps indexes peers (polled_by peers n) t b c) (omega arith) m))
+moves_on steps indexes peers turn [] t a b c h m = (
+  c,
+  subst (λ (x : _). Moves steps indexes peers (polled_by peers turn) t x c) h
+      (subst (λ (n : ℕ). Moves steps indexes peers (polled_by peers n) t b c) (omega arith) m),
+  refl,
+)
+moves_on steps indexes peers turn (x ∷ ts) t a b c h m = (
+  h.0,
+  h.1,
+  moves_on steps indexes peers (turn + 1) ts t h.0 b c h.2
+      (subst (λ (n : ℕ). Moves steps indexes peers (polled_by peers n) t b c) (omega arith) m),
+)
 
-calls_on : (peers : List Peer) (turn : ℕ) (ts : List Turn) (t : Turn) → all_calls peers turn (ts ++ t ∷ []) ≡ all_calls peers turn ts ++ calls_of (polled_by peers (turn + length ts)) t
-calls_on peers turn [] t = append-nil (calls_of (polled_by peers turn) t) ∙ ap (λ (n : ℕ). calls_of (polled_by peers n) t) (let e : turn ≡ turn + 0 = omega arith in e)
+calls_on : (peers : List Peer) (turn : ℕ) (ts : List Turn) (t : Turn)
+    → all_calls peers turn (ts ++ t ∷ []) ≡ all_calls peers turn ts ++ calls_of (polled_by peers (turn + length ts)) t
+calls_on peers turn [] t =
+    append-nil (calls_of (polled_by peers turn) t) ∙ ap (λ (n : ℕ). calls_of (polled_by peers n) t) (let e : turn ≡ turn + 0 = omega arith in e)
 calls_on peers turn (x ∷ ts) t =
     ap (λ (l : List Call). calls_of (polled_by peers turn) x ++ l) (calls_on peers (turn + 1) ts t)
     ∙ sym (append_assoc (calls_of (polled_by peers turn) x) (all_calls peers (turn + 1) ts) (calls_of (polled_by peers (turn + 1 + length ts)) t))
-    ∙ ap (λ (n : ℕ). (calls_of (polled_by peers turn) x ++ all_calls peers (turn + 1) ts) ++ calls_of (polled_by peers n) t) (let e : turn + 1 + length ts ≡ turn + length (x ∷ ts) = omega arith in e)
+    ∙ ap (λ (n : ℕ). (calls_of (polled_by peers turn) x ++ all_calls peers (turn + 1) ts) ++ calls_of (polled_by peers n) t)
+    (let e : turn + 1 + length ts ≡ turn + length (x ∷ ts) = omega arith in e)
 
-lines_on : (peers : List Peer) (turn : ℕ) (ts : List Turn) (t : Turn) → all_lines peers turn (ts ++ t ∷ []) ≡ all_lines peers turn ts ++ lines_of peers (polled_by peers (turn + length ts)) t
-lines_on peers turn [] t = append-nil (lines_of peers (polled_by peers turn) t) ∙ ap (λ (n : ℕ). lines_of peers (polled_by peers n) t) (let e : turn ≡ turn + 0 = omega arith in e)
+lines_on : (peers : List Peer) (turn : ℕ) (ts : List Turn) (t : Turn)
+    → all_lines peers turn (ts ++ t ∷ []) ≡ all_lines peers turn ts ++ lines_of peers (polled_by peers (turn + length ts)) t
+lines_on peers turn [] t =
+    append-nil (lines_of peers (polled_by peers turn) t) ∙ ap (λ (n : ℕ). lines_of peers (polled_by peers n) t) (let e : turn ≡ turn + 0 = omega arith in e)
 lines_on peers turn (x ∷ ts) t =
     ap (λ (l : List Line). lines_of peers (polled_by peers turn) x ++ l) (lines_on peers (turn + 1) ts t)
     ∙ sym (append_assoc (lines_of peers (polled_by peers turn) x) (all_lines peers (turn + 1) ts) (lines_of peers (polled_by peers (turn + 1 + length ts)) t))
-    ∙ ap (λ (n : ℕ). (lines_of peers (polled_by peers turn) x ++ all_lines peers (turn + 1) ts) ++ lines_of peers (polled_by peers n) t) (let e : turn + 1 + length ts ≡ turn + length (x ∷ ts) = omega arith in e)
+    ∙ ap (λ (n : ℕ). (lines_of peers (polled_by peers turn) x ++ all_lines peers (turn + 1) ts) ++ lines_of peers (polled_by peers n) t)
+    (let e : turn + 1 + length ts ≡ turn + length (x ∷ ts) = omega arith in e)
 
-lost_on : (peers : List Peer) (turn : ℕ) (ts : List Turn) (t : Turn) → all_lost peers turn (ts ++ t ∷ []) ≡ all_lost peers turn ts + lost_of (polled_by peers (turn + length ts)) t
+lost_on : (peers : List Peer) (turn : ℕ) (ts : List Turn) (t : Turn)
+    → all_lost peers turn (ts ++ t ∷ []) ≡ all_lost peers turn ts + lost_of (polled_by peers (turn + length ts)) t
 lost_on peers turn [] t = ap (λ (n : ℕ). lost_of (polled_by peers n) t + 0) (let e : turn ≡ turn + 0 = omega arith in e) ∙ omega arith
 lost_on peers turn (x ∷ ts) t =
     let rest = lost_on peers (turn + 1) ts t in
@@ -83,13 +100,15 @@ module _ {N : Type 0} (steps : Steps N) (indexes : N → Indexes) where
       let t = m.done.t in
       let near = ap (λ v. v.items) r.peers in
       let at : d1.turns ≡ 0 + length ts = omega (arith, r.counted, r.made) in
-      let p : polled_by d1.peers.items d1.turns ≡ polled_by d0.peers.items (0 + length ts) = ap (λ (n : ℕ). polled_by d1.peers.items n) at ∙ ap (λ (ps : List Peer). polled_by ps (0 + length ts)) near in
+      let p : polled_by d1.peers.items d1.turns ≡ polled_by d0.peers.items (0 + length ts) =
+      ap (λ (n : ℕ). polled_by d1.peers.items n) at ∙ ap (λ (ps : List Peer). polled_by ps (0 + length ts)) near in
       let o : Option Peer = polled_by d0.peers.items (0 + length ts) in
       let moves : Moves steps indexes d0.peers.items o t d1.node d2.node = subst (λ (ps : List Peer). Moves steps indexes ps o t d1.node d2.node) near
       (subst (λ (q : Option Peer). Moves steps indexes d1.peers.items q t d1.node d2.node) p m.done.moves) in
       let text : Gets o1.text o2.text (lines_of d0.peers.items o t) = subst (λ (ps : List Peer). Gets o1.text o2.text (lines_of ps o t)) near
       (subst (λ (q : Option Peer). Gets o1.text o2.text (lines_of d1.peers.items q t)) p m.done.text) in
-      let keys : d2.keys ≡ keys_on d0.keys (ts ++ t ∷ []) = m.done.keys ∙ ap (λ (k : KeyState). keys_after k t.reserved) r.keys ∙ sym (keys_more d0.keys ts t) in
+      let keys : d2.keys ≡ keys_on d0.keys (ts ++ t ∷ []) =
+      m.done.keys ∙ ap (λ (k : KeyState). keys_after k t.reserved) r.keys ∙ sym (keys_more d0.keys ts t) in
       let lost = lost_on d0.peers.items 0 ts t in
       let same : lost_of (polled_by d1.peers.items d1.turns) t ≡ lost_of o t = ap (λ (q : Option Peer). lost_of q t) p in
       record {
@@ -99,10 +118,12 @@ module _ {N : Type 0} (steps : Steps N) (indexes : N → Indexes) where
           moves = moves_on steps indexes d0.peers.items 0 ts t d0.node d1.node d2.node r.ran.moves moves;
           calls = subst (λ (l : List Call). Tells o0.wire o2.wire l) (sym (calls_on d0.peers.items 0 ts t))
               (tells_on o0.wire o1.wire o2.wire _ _ r.ran.calls (subst (λ (q : Option Peer). Tells o1.wire o2.wire (calls_of q t)) p m.done.calls));
-          readings = subst (λ (l : List ℕ). Tells o0.clock o2.clock l) (sym (nows_on ts t)) (tells_on o0.clock o1.clock o2.clock _ _ r.ran.readings m.done.reading);
+          readings = subst (λ (l : List ℕ). Tells o0.clock o2.clock l) (sym (nows_on ts t))
+              (tells_on o0.clock o1.clock o2.clock _ _ r.ran.readings m.done.reading);
           text = subst (λ (l : List Line). Gets o0.text o2.text l) (sym (lines_on d0.peers.items 0 ts t))
               (gets_on o0.text o1.text o2.text (all_lines d0.peers.items 0 ts) (lines_of d0.peers.items o t) r.ran.text text);
-          file = files_more d0.keys ts t o0.file o1.file o2.file r.ran.file (subst (λ (k : KeyState). FileMoves t.reserved k o1.file o2.file) r.keys m.done.file);
+          file = files_more d0.keys ts t o0.file o1.file o2.file r.ran.file
+              (subst (λ (k : KeyState). FileMoves t.reserved k o1.file o2.file) r.keys m.done.file);
           held = subst (λ (k : KeyState). HoldsKeys o2.file.disk k (indexes d2.node)) keys held;
         };
         keys = keys;

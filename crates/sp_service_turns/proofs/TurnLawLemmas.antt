@@ -1,5 +1,6 @@
 -- Lines that agree, read from their end; and why a key file ends a turn.
-use Rattle.std.proofs.Common.{◌≡◌, ℕ, zero, suc, ◌+◌, ◌-◌, ◌<◌, ◌⊎◌, inl, inr, Bool, true, false, List, [], ◌∷◌, ◌++◌, take, None, Some, refl, sym, ap, subst, ◌∙◌, arith}
+use Rattle.std.proofs.Common.{◌≡◌, ℕ, zero, suc, ◌+◌, ◌-◌, ◌<◌, ◌⊎◌, inl, inr, Bool, true, false, List, [], ◌∷◌, ◌++◌, take, None, Some, refl, sym, ap, subst}
+use Rattle.std.proofs.Common.{◌∙◌, arith}
 use Rattle.std.specs.Prelude.{◌&&◌, ◌^◌, nat_lt, slice_get}
 use Rattle.std.proofs.lemmas.Bool.Decides.{nat_tests}
 use Rattle.std.proofs.lemmas.Option.{none-some}
@@ -49,7 +50,8 @@ no_question q is = none-some q is
 
 module _ {N : Type 0} (steps : Steps N) (first : N) (determined : IsDetermined steps) where
   one_pass : (line : Line) (a b m n : N) → a ≡ b → Passes steps line a m → Passes steps line b n → m ≡ n
-  one_pass (lines.Reserve upto) a b m n same one other = (determined b (Reserve upto) [] [] m n (subst (λ (x : N). steps x (Reserve upto) [] m) same one) other).1
+  one_pass (lines.Reserve upto) a b m n same one other =
+      (determined b (Reserve upto) [] [] m n (subst (λ (x : N). steps x (Reserve upto) [] m) same one) other).1
   one_pass (lines.Tick now digest) a b m n same one other = one ∙ same ∙ sym other
   one_pass (lines.Overlay node bytes digest) a b m n same one other = one ∙ same ∙ sym other
   one_pass (lines.Stray port) a b m n same one other = one ∙ same ∙ sym other
@@ -77,12 +79,14 @@ module _ {N : Type 0} (steps : Steps N) (first : N) (determined : IsDetermined s
       let ends = one_end xs ys k l same in absurd (none-some q (sym k_is ∙ ap asked ends.1 ∙ l_is))
   one_state ls ks m n c d same (Is_so {before = xs} k q answer a k_is step digest) (Is_silent {before = ys} l b l_is pass) =
       let ends = one_end xs ys k l same in absurd (none-some q (sym l_is ∙ ap asked (sym ends.1) ∙ k_is))
-  one_state ls ks m n c d same (Is_so {before = xs} {node = u} {count = i} k q x a k_is step digest) (Is_so {before = ys} {node = v} {count = j} l r y b l_is other digest_2) =
+  one_state ls ks m n c d same (Is_so {before = xs} {node = u} {count = i} k q x a k_is step digest)
+      (Is_so {before = ys} {node = v} {count = j} l r y b l_is other digest_2) =
       let ends = one_end xs ys k l same in
       (one_answer q r u v m n x y (asked_once k l q r ends.1 k_is l_is) (one_state xs ys u v i j ends.0 a b) step other).1
 
   -- so where all agree, the answer here has the digest of this line
-  pub has_digest : (ls : List Line) (m : N) (c : ℕ) → Agrees steps first ls m c → (place : ℕ) (line : Line) (q : Question) → slice_get ls place ≡ Some line → asked line ≡ Some q
+  pub has_digest : (ls : List Line) (m : N) (c : ℕ) → Agrees steps first ls m c → (place : ℕ) (line : Line) (q : Question) → slice_get ls place ≡ Some line
+      → asked line ≡ Some q
       → (node after : N) (answer : List ℕ) (d : ℕ) → Agrees steps first (take place ls) node d → steps node q.input answer after → told answer ≡ q.digest
   has_digest ls m c Starts place line q here asks node after answer d before step = absurd (none-some line here)
   has_digest ls m c (Is_silent {before = xs} {node = u} {count = i} k a k_is pass) place line q here asks node after answer d before step =
@@ -104,7 +108,8 @@ module _ {N : Type 0} (steps : Steps N) (first : N) (determined : IsDetermined s
 
 pub nothing_does_both : {N : Type 0} (steps : Steps N) → NothingAgreesAndDiffers steps
 nothing_does_both steps determined first last ls count place recorded computed agrees differs =
-    let same = has_digest steps first determined ls last count agrees place differs.line differs.q differs.here differs.asks differs.node differs.after differs.answer differs.count
+    let same = has_digest steps first determined ls last count agrees place differs.line differs.q differs.here differs.asks differs.node differs.after
+    differs.answer differs.count
     differs.before differs.answers in
     differs.other (differs.computed_is ∙ same ∙ sym differs.recorded_is)
 

@@ -23,11 +23,13 @@ Answers steps line None old None new = Passes steps line old new
 Answers steps line (Some q) old (Some answer) new = steps old q.input answer new
 Answers steps line q old answer new = ⊥
 
+-- how two digests come out
 abbrev pub IsOfDigests : Digest → Digest → Compared → Type 0
 IsOfDigests recorded computed compared.Silent = ⊥
 IsOfDigests recorded computed compared.Same = computed ≡ recorded
 IsOfDigests recorded computed (compared.Other r c) = (r ≡ recorded) × (c ≡ computed) × (computed ≢ recorded)
 
+-- how an answer comes out beside the digest that was recorded
 abbrev pub IsCompared : Option Digest → Option (List ℕ) → Compared → Type 0
 IsCompared (Some recorded) (Some answer) judged = IsOfDigests recorded (told answer) judged
 IsCompared recorded answer judged = judged ≡ compared.Silent
@@ -37,12 +39,14 @@ abbrev pub IsJudged : {N : Type 0} → Steps N → Line → Option Question → 
 IsJudged steps line None old judged new = (judged ≡ compared.Silent) × Passes steps line old new
 IsJudged steps line (Some q) old judged new = (answer : List ℕ) × steps old q.input answer new × IsOfDigests q.digest (told answer) judged
 
+-- whether a line counts as agreed: 1 or 0
 abbrev pub counted : Compared → ℕ
 counted compared.Same = 1
 counted _ = 0
 
 -- ---- all lines
 
+-- what a refusal of lines says
 abbrev pub LinesErr : {N : Type 0} → Steps N → N → List Line → LinesRefused → Type 0
 LinesErr steps first ls (lines_refused.Differs place recorded computed) = Differs steps first ls place recorded computed
 LinesErr steps first ls lines_refused.Memory = Unit {0}
@@ -67,6 +71,7 @@ pub record DiffersAt {N : Type 0} (steps : Steps N) (first : N) (before : ℕ) (
   pub line_is : line ≡ before + 2 + place
   pub differs : Differs steps first (lines_in reading.stage) place recorded computed
 
+-- what a refusal of a recording says
 abbrev pub VerifyErr : {N : Type 0} → Steps N → N → ℕ → Reading → VerifyRefused → Type 0
 VerifyErr steps first before reading (refusals.Mismatch line recorded computed) = DiffersAt steps first before reading line recorded computed
 VerifyErr steps first before reading (refusals.Form line) = IsBadAfter steps first reading line

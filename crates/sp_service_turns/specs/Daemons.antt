@@ -28,6 +28,7 @@ use Rattle.sp_service_turns.specs.declared.served.Served.TheVariants as served
 abbrev pub first_text : Opening → List ℕ
 first_text o = line_text (opening_words o)
 
+-- the last line of a recording
 abbrev pub last_text : Closing → List ℕ
 last_text c = line_text (closing_words c)
 

@@ -48,6 +48,7 @@ pub record Restocked {N : Type 0} (steps : Steps N) (indexes : N → Indexes) (o
   pub keys : keys_now ≡ keys_after keys_before reserved
   pub file : FileMoves reserved keys_before file_before file_after
 
+-- the tick of a turn: the clock was read, the node ticked, and its line was written
 pub record Ticked {N : Type 0} (steps : Steps N) (old new : N) (clock_before clock_after : Option (List ℕ)) (text_before text_after : Text) : Type 0 where
   pub now : ℕ
   pub answer : List ℕ
@@ -61,11 +62,13 @@ Came steps None old port bytes new before after = (new ≡ old) × Gets before a
 Came steps (Some node) old port bytes new before after =
     (answer : List ℕ) × steps old (Datagram node bytes) answer new × Gets before after (lines.Overlay node bytes (told answer) ∷ [])
 
+-- what becomes of what the overlay socket gave
 abbrev pub IsOverheard : {N : Type 0} → Steps N → List Peer → Got → N → N → Text → Text → ℕ → Type 0
 IsOverheard steps peers (Came_in port bytes) old new before after lost = Came steps (node_at peers port) old port bytes new before after × (lost ≡ 0)
 IsOverheard steps peers Nothing old new before after lost = (new ≡ old) × (after ≡ before) × (lost ≡ 0)
 IsOverheard steps peers Lost old new before after lost = (new ≡ old) × (after ≡ before) × (lost ≡ 1)
 
+-- the overlay part of a turn: one receive, and what became of it
 pub record Overheard {N : Type 0} (steps : Steps N) (peers : List Peer) (old new : N)
     (wire_before wire_after : Option (List Call)) (text_before text_after : Text) (lost : ℕ) : Type 0 where
   pub got : Got
@@ -78,6 +81,7 @@ pub record SentOne (before after : Option (List Call)) (side : Side) (port : ℕ
   pub calls : Tells before after (Sent side port bytes is_sent ∷ [])
   pub lost_is : lost ≡ unless is_sent
 
+-- the reply to a client's request
 pub record Replied {N : Type 0} (steps : Steps N) (old : N) (port : ℕ) (bytes : List ℕ) (new : N)
     (wire_before wire_after : Option (List Call)) (text_before text_after : Text) (lost : ℕ)
     : Type 0 where
@@ -86,11 +90,13 @@ pub record Replied {N : Type 0} (steps : Steps N) (old : N) (port : ℕ) (bytes 
   pub sent : SentOne wire_before wire_after Client port reply lost
   pub text : Gets text_before text_after (lines.Client port bytes (told reply) ∷ [])
 
+-- what becomes of what the client socket gave
 abbrev pub IsServed : {N : Type 0} → Steps N → Got → N → N → Option (List Call) → Option (List Call) → Text → Text → ℕ → Type 0
 IsServed steps (Came_in port bytes) old new wire_before wire_after before after lost = Replied steps old port bytes new wire_before wire_after before after lost
 IsServed steps Nothing old new wire_before wire_after before after lost = (new ≡ old) × (wire_after ≡ wire_before) × (after ≡ before) × (lost ≡ 0)
 IsServed steps Lost old new wire_before wire_after before after lost = (new ≡ old) × (wire_after ≡ wire_before) × (after ≡ before) × (lost ≡ 1)
 
+-- the client part of a turn: one receive, and what became of it
 pub record Served {N : Type 0} (steps : Steps N) (old new : N)
     (wire_before wire_after : Option (List Call)) (text_before text_after : Text) (lost : ℕ) : Type 0 where
   pub got : Got
@@ -98,6 +104,7 @@ pub record Served {N : Type 0} (steps : Steps N) (old new : N)
   pub calls : Tells wire_before wire_between (Received Client got ∷ [])
   pub served : IsServed steps got old new wire_between wire_after text_before text_after lost
 
+-- the poll of a neighbour: its frame was made, sent and written
 pub record Polled {N : Type 0} (steps : Steps N) (old : N) (peer : Peer) (new : N)
     (wire_before wire_after : Option (List Call)) (text_before text_after : Text) (lost : ℕ) : Type 0 where
   pub frame : List ℕ
@@ -105,6 +112,7 @@ pub record Polled {N : Type 0} (steps : Steps N) (old : N) (peer : Peer) (new : 
   pub sent : SentOne wire_before wire_after Overlay peer.port frame lost
   pub text : Gets text_before text_after (lines.Poll peer.node (told frame) ∷ [])
 
+-- the poll of a turn, where there is a neighbour to poll
 abbrev pub PolledNext : {N : Type 0} → Steps N → Option Peer → N → N → Option (List Call) → Option (List Call) → Text → Text → ℕ → Type 0
 PolledNext steps (Some peer) old new wire_before wire_after before after lost = Polled steps old peer new wire_before wire_after before after lost
 PolledNext steps None old new wire_before wire_after before after lost = (new ≡ old) × (wire_after ≡ wire_before) × (after ≡ before) × (lost ≡ 0)

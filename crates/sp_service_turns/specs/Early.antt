@@ -54,6 +54,7 @@ abbrev pub BeginsLine : {N : Type 0} → Steps N → N → Input → (List ℕ �
 BeginsLine {N} steps old input line before after =
     (after ≡ before) ⊎ ((answer : List ℕ) × (new : N) × steps old input answer new × GetsFront before after (line answer ∷ []))
 
+-- a turn that broke off as indexes were reserved
 pub record EarlyRestock {N : Type 0} (steps : Steps N) (indexes : N → Indexes) (old : N) (keys : KeyState) (file_before file_after : KeptFile)
     (before after : Text) : Type 0 where
   pub upto : ℕ
@@ -63,15 +64,18 @@ pub record EarlyRestock {N : Type 0} (steps : Steps N) (indexes : N → Indexes)
   pub file : Reserves keys upto file_before file_after
   pub text : GetsFront before after (reserve_lines (Some upto))
 
+-- a turn that broke off at its tick
 pub record EarlyTick {N : Type 0} (steps : Steps N) (old : N) (clock_before clock_after : Option (List ℕ)) (before after : Text) : Type 0 where
   pub now : ℕ
   pub reading : Tells clock_before clock_after (now ∷ [])
   pub line : BeginsLine steps old (Tick now) (tick_line now) before after
 
+-- a datagram whose line was begun
 abbrev pub EarlyCame : {N : Type 0} → Steps N → Option NodeId → N → ℕ → List ℕ → Text → Text → Type 0
 EarlyCame steps None old port bytes before after = GetsFront before after (lines.Stray port ∷ [])
 EarlyCame steps (Some node) old port bytes before after = BeginsLine steps old (Datagram node bytes) (overlay_line (Some node) port bytes) before after
 
+-- a turn that broke off at a neighbour's datagram
 pub record EarlyOverlay {N : Type 0} (steps : Steps N) (peers : List Peer) (old : N) (wire_before wire_after : Option (List Call)) (before after : Text)
     : Type 0 where
   pub port : ℕ
@@ -79,15 +83,18 @@ pub record EarlyOverlay {N : Type 0} (steps : Steps N) (peers : List Peer) (old 
   pub calls : Tells wire_before wire_after (Received Overlay (Came port bytes) ∷ [])
   pub line : EarlyCame steps (node_at peers port) old port bytes before after
 
+-- a request whose line was begun
 abbrev pub EarlyReply : {N : Type 0} → Steps N → N → ℕ → List ℕ → Text → Text → Type 0
 EarlyReply steps old port bytes before after = BeginsLine steps old (Request port bytes) (λ reply. lines.Client port bytes (told reply)) before after
 
+-- a turn that broke off at a request
 pub record EarlyClient {N : Type 0} (steps : Steps N) (old : N) (wire_before wire_after : Option (List Call)) (before after : Text) : Type 0 where
   pub port : ℕ
   pub bytes : List ℕ
   pub calls : Tells wire_before wire_after (Received Client (Came port bytes) ∷ [])
   pub line : EarlyReply steps old port bytes before after
 
+-- a turn that broke off at its poll
 abbrev pub EarlyPoll : {N : Type 0} → Steps N → Option Peer → N → Text → Text → Type 0
 EarlyPoll steps None old before after = ⊥
 EarlyPoll steps (Some peer) old before after = BeginsLine steps old (Poll peer.node) (λ frame. lines.Poll peer.node (told frame)) before after

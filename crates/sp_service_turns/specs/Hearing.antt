@@ -10,6 +10,7 @@ heard_in buffer heard.Nothing = calls.Nothing
 heard_in buffer heard.Lost = calls.Lost
 heard_in buffer (heard.Came port count) = calls.Came port (take count buffer)
 
+-- a datagram that was received isn't longer than its buffer
 abbrev pub IsWithin : Heard → Type 0
 IsWithin (heard.Came port count) = count ≤ DATAGRAM_BYTES
 IsWithin _ = Unit {0}

@@ -13,6 +13,7 @@ pub record KeptFile : Type 0 where
   pub past : Option (List Disk)
   pub faults : ℕ
 
+-- all that is outside of a daemon, as it stands
 pub record Outside : Type 0 where
   pub wire : Option (List Call)
   pub clock : Option (List ℕ)

@@ -23,14 +23,17 @@ MovesOn steps indexes peers turn [] old new = new ≡ old
 MovesOn {N} steps indexes peers turn (t ∷ ts) old new =
     (mid : N) × Moves steps indexes peers (polled_by peers turn) t old mid × MovesOn steps indexes peers (turn + 1) ts mid new
 
+-- the calls of turns, in order
 abbrev pub all_calls : List Peer → ℕ → List Turn → List Call
 all_calls peers turn [] = []
 all_calls peers turn (t ∷ ts) = calls_of (polled_by peers turn) t ++ all_calls peers (turn + 1) ts
 
+-- the lines of turns, in order
 abbrev pub all_lines : List Peer → ℕ → List Turn → List Line
 all_lines peers turn [] = []
 all_lines peers turn (t ∷ ts) = lines_of peers (polled_by peers turn) t ++ all_lines peers (turn + 1) ts
 
+-- how many calls of turns failed
 abbrev pub all_lost : List Peer → ℕ → List Turn → ℕ
 all_lost peers turn [] = 0
 all_lost peers turn (t ∷ ts) = lost_of (polled_by peers turn) t + all_lost peers (turn + 1) ts

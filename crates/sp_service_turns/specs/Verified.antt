@@ -14,6 +14,7 @@ pub record Question : Type 0 where
   pub input : Input
   pub digest : Digest
 
+-- the digest that a line recorded
 abbrev pub digest_in : Question → Digest
 digest_in q = q.digest
 

@@ -1,5 +1,6 @@
 -- The numbers of the entries of each source, where one comes and where one goes; and the source that has most.
-use Rattle.std.proofs.Common.{◌≡◌, ◌≤◌, ◌<◌, ℕ, ◌+◌, ◌-◌, Bool, true, false, List, [], ◌∷◌, ◌++◌, length, map, set, replicate, get_or, Option, Some, refl, sym, ap, ◌∙◌, arith, cond, nat_lt, get_or-set_same, get_or-set_other, sum, find}
+use Rattle.std.proofs.Common.{◌≡◌, ◌≤◌, ◌<◌, ℕ, ◌+◌, ◌-◌, Bool, true, false, List, [], ◌∷◌, ◌++◌, length, map, set, replicate, get_or, Option, Some, refl, sym}
+use Rattle.std.proofs.Common.{ap, ◌∙◌, arith, cond, nat_lt, get_or-set_same, get_or-set_other, sum, find}
 use Rattle.std.specs.Prelude.{◌==◌, ◌||◌, count_by}
 use Rattle.std.specs.List.{range_with_len}
 use Rattle.std.proofs.lemmas.Bool.Decides.{nat_tests}

@@ -1,5 +1,6 @@
 -- Places in which entries stand, and empty ones: what an id finds, what an emptied place leaves, and what moves.
-use Rattle.std.proofs.Common.{◌≡◌, ◌≤◌, ◌<◌, ℕ, ◌+◌, Bool, true, false, List, [], ◌∷◌, ◌++◌, length, Option, Some, None, refl, sym, ap, ◌∙◌, arith, cond, nat_eq, All, filter, find, get_or, is_some, take}
+use Rattle.std.proofs.Common.{◌≡◌, ◌≤◌, ◌<◌, ℕ, ◌+◌, Bool, true, false, List, [], ◌∷◌, ◌++◌, length, Option, Some, None, refl, sym, ap, ◌∙◌, arith, cond}
+use Rattle.std.proofs.Common.{nat_eq, All, filter, find, get_or, is_some, take}
 use Rattle.std.specs.Prelude.{◌==◌, IfSome}
 use Rattle.std.specs.Map.{lookup, set_value, values_of}
 use Rattle.std.specs.Option.{option_and_then}
@@ -94,7 +95,8 @@ pub emptied_length : (id : ℕ) (ps : List (ℕ × Option Entry)) → length (se
 emptied_length id [] = refl
 emptied_length id (p ∷ ps) = go (nat_eq id p.0) (emptied_length id ps)
   where
-    go : (t : Bool) → length (set_value (nat_eq id) ps None) ≡ length ps → length (cond t ((p.0, None) ∷ ps) (p ∷ set_value (nat_eq id) ps None)) ≡ length (p ∷ ps)
+    go : (t : Bool) → length (set_value (nat_eq id) ps None) ≡ length ps
+        → length (cond t ((p.0, None) ∷ ps) (p ∷ set_value (nat_eq id) ps None)) ≡ length (p ∷ ps)
     go true rest = refl
     go false rest = omega (arith, rest)
 
@@ -113,7 +115,8 @@ emptied_below id last (p ∷ ps) all = go (nat_eq id p.0) (emptied_below id last
     here : p.0 ≤ last
     here = All-head (λ (q : ℕ × Option Entry). q.0 ≤ last) p ps all
 
-    go : (t : Bool) → All (λ q. q.0 ≤ last) (set_value (nat_eq id) ps None) → All (λ q. q.0 ≤ last) (cond t ((p.0, None) ∷ ps) (p ∷ set_value (nat_eq id) ps None))
+    go : (t : Bool) → All (λ q. q.0 ≤ last) (set_value (nat_eq id) ps None)
+        → All (λ q. q.0 ≤ last) (cond t ((p.0, None) ∷ ps) (p ∷ set_value (nat_eq id) ps None))
     go true rest = All-cons (λ (q : ℕ × Option Entry). q.0 ≤ last) (p.0, None) ps here (All-tail (λ (q : ℕ × Option Entry). q.0 ≤ last) p ps all)
     go false rest = All-cons (λ (q : ℕ × Option Entry). q.0 ≤ last) p (set_value (nat_eq id) ps None) here rest
 
@@ -131,7 +134,8 @@ pub live_push : (ps : List (ℕ × Option Entry)) (key : ℕ) (e : Entry) → li
 live_push [] key e = refl
 live_push (p ∷ ps) key e = go p.1 (live_push ps key e)
   where
-    go : (v : Option Entry) → live_of (ps ++ (key, Some e) ∷ []) ≡ live_of ps ++ e ∷ [] → live (v ∷ values_of (ps ++ (key, Some e) ∷ [])) ≡ live (v ∷ values_of ps) ++ e ∷ []
+    go : (v : Option Entry) → live_of (ps ++ (key, Some e) ∷ []) ≡ live_of ps ++ e ∷ []
+        → live (v ∷ values_of (ps ++ (key, Some e) ∷ [])) ≡ live (v ∷ values_of ps) ++ e ∷ []
     go None rest = rest
     go (Some x) rest = ap (λ (es : List Entry). x ∷ es) rest
 
@@ -154,7 +158,8 @@ pub moved_live : (ps : List (ℕ × Option Entry)) → live_of (filter (λ p. is
 moved_live [] = refl
 moved_live (p ∷ ps) = go p.1 (moved_live ps)
   where
-    go : (v : Option Entry) → live_of (filter (λ q. is_some q.1) ps) ≡ live_of ps → live_of (cond (is_some v) ((p.0, v) ∷ filter (λ q. is_some q.1) ps) (filter (λ q. is_some q.1) ps)) ≡ live (v ∷ values_of ps)
+    go : (v : Option Entry) → live_of (filter (λ q. is_some q.1) ps) ≡ live_of ps
+        → live_of (cond (is_some v) ((p.0, v) ∷ filter (λ q. is_some q.1) ps) (filter (λ q. is_some q.1) ps)) ≡ live (v ∷ values_of ps)
     go None rest = rest
     go (Some e) rest = ap (λ (es : List Entry). e ∷ es) rest
 
@@ -162,7 +167,8 @@ pub moved_length : (ps : List (ℕ × Option Entry)) → length (filter (λ p. i
 moved_length [] = refl
 moved_length (p ∷ ps) = go p.1 (moved_length ps)
   where
-    go : (v : Option Entry) → length (filter (λ q. is_some q.1) ps) ≡ length (live_of ps) → length (cond (is_some v) ((p.0, v) ∷ filter (λ q. is_some q.1) ps) (filter (λ q. is_some q.1) ps)) ≡ length (live (v ∷ values_of ps))
+    go : (v : Option Entry) → length (filter (λ q. is_some q.1) ps) ≡ length (live_of ps)
+        → length (cond (is_some v) ((p.0, v) ∷ filter (λ q. is_some q.1) ps) (filter (λ q. is_some q.1) ps)) ≡ length (live (v ∷ values_of ps))
     go None rest = rest
     go (Some e) rest = omega (arith, rest)
 

@@ -10,6 +10,7 @@ pub record IsCounted (entries : List Entry) (counts : List ℕ) : Type 0 where
   pub each : (id : ℕ) → id < 256 → slice_index counts id ≡ count_of entries id
   pub all : sum counts ≡ length entries
 
+-- a store within its capacity, with the right number of entries of each source
 pub record IsSound (store : Store) (counts : List ℕ) : Type 0 where
   pub bounded : length store.entries ≤ store.capacity
   pub counted : IsCounted store.entries counts

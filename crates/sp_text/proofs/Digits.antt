@@ -1,5 +1,6 @@
 -- The sixteen digits in lower case, and what a text of them reads as.
-use Rattle.std.proofs.Common.{◌≡◌, ℕ, zero, suc, ◌+◌, ◌*◌, ◌/◌, ◌%◌, ◌<◌, ◌≤◌, ◌⊎◌, Bool, true, false, not, List, [], ◌∷◌, length, get_or, slice_index, take, append_assoc, ◌++◌, Option, Some, None, Result, Ok, Err, refl, sym, ap, ◌∙◌, arith}
+use Rattle.std.proofs.Common.{◌≡◌, ℕ, zero, suc, ◌+◌, ◌*◌, ◌/◌, ◌%◌, ◌<◌, ◌≤◌, ◌⊎◌, Bool, true, false, not, List, [], ◌∷◌, length, get_or, slice_index, take}
+use Rattle.std.proofs.Common.{append_assoc, ◌++◌, Option, Some, None, Result, Ok, Err, refl, sym, ap, ◌∙◌, arith}
 use Rattle.std.specs.Prelude.{All}
 use Rattle.std.specs.Char.{is_ascii_uppercase}
 use Rattle.std.specs.List.{list_all, list_any}
@@ -76,7 +77,8 @@ pub record Read (high low : Option ℕ) (rest : Result (List ℕ) FromHexError) 
 
 -- they read only where each of them does
 read_parts : (a b i : ℕ) (high low : Option ℕ) (rest : Result (List ℕ) FromHexError) (bytes : List ℕ)
-    → ((digit_or_error a i high >>= (λ h. digit_or_error b (i + 1) low >>= (λ l. Ok (h * 16 + l)))) >>= (λ byte. rest >>= (λ others. Ok (byte ∷ others)))) ≡ Ok bytes
+    → ((digit_or_error a i high >>= (λ h. digit_or_error b (i + 1) low >>= (λ l. Ok (h * 16 + l)))) >>= (λ byte. rest >>= (λ others. Ok (byte ∷ others))))
+    ≡ Ok bytes
     → Read high low rest bytes
 read_parts a b i None low rest bytes h = cc h
 read_parts a b i (Some x) None rest bytes h = cc h
@@ -109,7 +111,13 @@ pair_again a b text rest bytes read small again =
     let tail = or_parts (is_ascii_uppercase b) (list_any is_ascii_uppercase text) head.1 in
     let high = digit_again a read.first read.high_is head.0 in
     let low = digit_again b read.second read.low_is tail.0 in
-    rw (read.whole, encode_lower-pair read.first read.second read.others (value_is_small b read.second read.low_is), high, low, ← again read.others read.rest_is) refl
+    rw (
+      read.whole,
+      encode_lower-pair read.first read.second read.others (value_is_small b read.second read.low_is),
+      high,
+      low,
+      ← again read.others read.rest_is,
+    ) refl
 
 -- pairs of digits with no capital are the text of the bytes that they read as
 pairs_again : (i : ℕ) (text bytes : List ℕ) → decode_pairs i text ≡ Ok bytes → list_any is_ascii_uppercase text ≡ false → text ≡ encode_lower bytes
@@ -117,7 +125,8 @@ unfolding decode_pairs encode_with
 pairs_again i [] bytes reads small = rw (← (ap (λ (r : Result (List ℕ) FromHexError). result_unwrap_or r []) reads)) refl
 pairs_again i (a ∷ []) bytes reads small = cc reads
 pairs_again i (a ∷ b ∷ rest) bytes reads small =
-    let tail = or_parts (is_ascii_uppercase b) (list_any is_ascii_uppercase rest) (or_parts (is_ascii_uppercase a) (list_any is_ascii_uppercase (b ∷ rest)) small).1 in
+    let tail = or_parts (is_ascii_uppercase b) (list_any is_ascii_uppercase rest)
+    (or_parts (is_ascii_uppercase a) (list_any is_ascii_uppercase (b ∷ rest)) small).1 in
     pair_again a b rest (decode_pairs (i + 2) rest) bytes
     (read_parts a b i (hex_digit_value a) (hex_digit_value b) (decode_pairs (i + 2) rest) bytes reads) small
     (λ others read. pairs_again (i + 2) rest others read tail.1)

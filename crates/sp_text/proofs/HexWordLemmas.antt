@@ -8,7 +8,8 @@ use Rattle.std.proofs.lemmas.Bool.{both_ways, cases_lt}
 use Rattle.std.proofs.lemmas.List.{get_or_past}
 use Rattle.hex.specs.Hex.{IsBytes, decode_sized, encode_lower, encode_with, lower_digits}
 use Rattle.hex.specs.declared.error.FromHexError.{FromHexError}
-use Rattle.hex.proofs.HexLemmas.{IsOk-decode_sized, decode_of-encode_lower, decode_of-same, decode_sized-encode_lower, decode_sized-ok, decode_sized-twice, length-encode_with}
+use Rattle.hex.proofs.HexLemmas.{IsOk-decode_sized, decode_of-encode_lower, decode_of-same, decode_sized-encode_lower, decode_sized-ok, decode_sized-twice}
+use Rattle.hex.proofs.HexLemmas.{length-encode_with}
 use Rattle.sp_base.specs.Spelling.{AreBytes}
 use Rattle.sp_text.specs.Spelling.{hex_word, is_digit}
 use Rattle.sp_text.proofs.Digits.{digits_spelled, list_any-encode_lower, read_are_bytes, text_again}
@@ -61,7 +62,8 @@ sized_gives_bytes word n (Ok bytes) reads = sized_are_bytes word n bytes (sym re
 sized_gives_bytes word n (Err e) reads = tt
 
 -- what is refused is the text of no n bytes
-sized_refuses : (word : List ℕ) (n : ℕ) (e : FromHexError) → decode_sized word n ≡ Err e → (bytes : List ℕ) → AreBytes bytes → length bytes ≡ n → word ≢ encode_lower bytes
+sized_refuses : (word : List ℕ) (n : ℕ) (e : FromHexError) → decode_sized word n ≡ Err e → (bytes : List ℕ) → AreBytes bytes → length bytes ≡ n
+    → word ≢ encode_lower bytes
 sized_refuses word n e refused bytes are long same =
     cc (sym refused ∙ ap (λ (w : List ℕ). decode_sized w n) same ∙ decode_sized-encode_lower bytes n long (are_bytes bytes are))
 

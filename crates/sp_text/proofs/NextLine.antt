@@ -1,5 +1,6 @@
 -- The first newline of a text, searched for in no more bytes than the longest line and its newline have.
-use Rattle.std.proofs.Common.{◌≡◌, ◌≢◌, ℕ, zero, suc, ◌+◌, ◌<◌, ◌≤◌, ◌==◌, min, nat_lt, Bool, true, false, not, inl, inr, List, [], ◌∷◌, ◌++◌, length, get_or, subst, take, drop, Some, None, Ok, Err, refl, sym, ap, ◌∙◌, arith, length-take, length-append}
+use Rattle.std.proofs.Common.{◌≡◌, ◌≢◌, ℕ, zero, suc, ◌+◌, ◌<◌, ◌≤◌, ◌==◌, min, nat_lt, Bool, true, false, not, inl, inr, List, [], ◌∷◌, ◌++◌, length, get_or}
+use Rattle.std.proofs.Common.{subst, take, drop, Some, None, Ok, Err, refl, sym, ap, ◌∙◌, arith, length-take, length-append}
 use Rattle.std.specs.List.{after_first, before_first, position, position_or_len}
 use Rattle.std.proofs.lemmas.Bool.{cases_Bool, cases_eq, cases_lt, eqb-true, ne_eqb}
 use Rattle.std.proofs.lemmas.Bool.Decides.{nat_tests}

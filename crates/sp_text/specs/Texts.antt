@@ -20,12 +20,15 @@ text_of line = record { number = line.number; bytes = line.bytes.now }
 
 -- ---- lines
 
+-- whether a byte ends a line
 abbrev pub is_newline : ℕ → Bool
 is_newline byte = byte == 10
 
+-- the refusal of a line with too many bytes: it tells the first one above the limit
 abbrev pub long_line : ℕ → TextRefused
 long_line number = refusals.LineLong (record { line = number; column = MAX_LINE_BYTES + 1 })
 
+-- the refusal of a text whose last line has no newline: it tells where that is missing
 abbrev pub cut_line : ℕ → List ℕ → TextRefused
 cut_line number text = refusals.Cut (record { line = number; column = length text + 1 })
 
@@ -57,6 +60,7 @@ ReadLinesAreSpelled =
 
 -- ---- words
 
+-- whether a byte may stand in a word: a visible character of ASCII
 abbrev pub is_word_byte : ℕ → Bool
 is_word_byte byte = nat_le 33 byte && nat_le byte 126
 

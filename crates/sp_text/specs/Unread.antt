@@ -6,6 +6,7 @@ pub record Unread : Type 0 where
   pub given : ℕ
   pub rest : List ℕ
 
+-- a line as it stands in a text: its number, and its bytes without the newline
 pub record LineText : Type 0 where
   pub number : ℕ
   pub bytes : List ℕ

@@ -12,7 +12,8 @@ use Rattle.sp_service.proofs.Tellings.{By_keeper, By_keys, By_memory, By_refusal
 use Rattle.sp_service.specs.Complete.{GivesNoStart, IsAtEnd, IsConfiguredFor}
 use Rattle.sp_service_turns.specs.Outside.{Outside}
 use Rattle.sp_service_turns.specs.declared.served.Served.{Served}
-use Rattle.sp_top.specs.Daemons.{AreTold, As_wanted, CanServe, CannotStart, DaemonEnds, DaemonRuns, EndsUnlessFailed, IsInputFor, MayEndByKeys, No_keeper, No_memory, No_sink, No_source, No_wire, ServedFrom}
+use Rattle.sp_top.specs.Daemons.{AreTold, As_wanted, CanServe, CannotStart, DaemonEnds, DaemonRuns, EndsUnlessFailed, IsInputFor, MayEndByKeys, No_keeper}
+use Rattle.sp_top.specs.Daemons.{No_memory, No_sink, No_source, No_wire, ServedFrom}
 use Rattle.sp_top.specs.Statuses.{key_status, served_status}
 use Rattle.sp_words.specs.declared.status.Status.{Status}
 use Rattle.sp_words.specs.declared.status.Status.TheVariants as statuses
@@ -24,7 +25,8 @@ pub record IsWhole (text bytes : List ℕ) (is_cut : Bool) : Type 0 where
   pub bytes_are : bytes ≡ text
   pub whole : is_cut ≡ false
 
-whole_input : (text bytes : List ℕ) (is_cut : Bool) → IsInput (Some text) MAX_INPUT_BYTES bytes is_cut → length text ≤ MAX_INPUT_BYTES → IsWhole text bytes is_cut
+whole_input : (text bytes : List ℕ) (is_cut : Bool) → IsInput (Some text) MAX_INPUT_BYTES bytes is_cut → length text ≤ MAX_INPUT_BYTES
+    → IsWhole text bytes is_cut
 whole_input text bytes is_cut input short = record {
   bytes_are = input.0 ∙ take_all MAX_INPUT_BYTES text short;
   whole = input.1 ∙ grind (arith, nat_tests, short);
@@ -99,11 +101,13 @@ module _ (turns : ℕ) (status : Status) (before after : Outside) where
   tells : (left : Option (List ℕ)) (is : ServedFrom left turns status before after) → Tells is.text is.is_cut turns before.file.disk is.ended
   tells left is = told is.text is.is_cut turns before after is.ended is.ends
 
-  all_serve : (left : Option (List ℕ)) (disk : Option Disk) → before.file.disk ≡ disk → DaemonEnds left turns status before after → AreTold left disk (CanServe turns)
+  all_serve : (left : Option (List ℕ)) (disk : Option Disk) → before.file.disk ≡ disk → DaemonEnds left turns status before after
+      → AreTold left disk (CanServe turns)
       → EndsUnlessFailed statuses.Done status
   all_serve (Some text) (Some disk) file (inl is) can =
       subst (EndsUnlessFailed statuses.Done) (sym is.status_is)
-      (serves text is.text is.is_cut turns disk is.input is.ended (subst (λ (d : Option Disk). Tells is.text is.is_cut turns d is.ended) file (tells (Some text) is)) can)
+      (serves text is.text is.is_cut turns disk is.input is.ended
+      (subst (λ (d : Option Disk). Tells is.text is.is_cut turns d is.ended) file (tells (Some text) is)) can)
   all_serve left disk file (inr is) can = unread statuses.Done status is.cause
   all_serve (Some text) None file (inl is) can = absurd can
   all_serve None disk file (inl is) can = absurd can
@@ -112,19 +116,23 @@ module _ (turns : ℕ) (status : Status) (before after : Outside) where
       → EndsUnlessFailed statuses.KeyState status
   all_stop (Some text) (Some disk) file (inl is) can =
       subst (EndsUnlessFailed statuses.KeyState) (sym is.status_is)
-      (stops text is.text is.is_cut turns disk is.input is.ended (subst (λ (d : Option Disk). Tells is.text is.is_cut turns d is.ended) file (tells (Some text) is)) can)
+      (stops text is.text is.is_cut turns disk is.input is.ended
+      (subst (λ (d : Option Disk). Tells is.text is.is_cut turns d is.ended) file (tells (Some text) is)) can)
   all_stop left disk file (inr is) can = unread statuses.KeyState status is.cause
   all_stop (Some text) None file (inl is) can = absurd can
   all_stop None disk file (inl is) can = absurd can
 
   -- a daemon that ended by its key file
-  stopped : (text : List ℕ) (disk : Disk) → before.file.disk ≡ Some disk → DaemonEnds (Some text) turns status before after → status ≡ statuses.KeyState → MayEndByKeys turns disk text
+  stopped : (text : List ℕ) (disk : Disk) → before.file.disk ≡ Some disk → DaemonEnds (Some text) turns status before after → status ≡ statuses.KeyState
+      → MayEndByKeys turns disk text
   stopped text disk file (inl is) ended =
-      by_keys text is.text is.is_cut turns disk is.input is.ended (subst (λ (d : Option Disk). Tells is.text is.is_cut turns d is.ended) file (tells (Some text) is))
+      by_keys text is.text is.is_cut turns disk is.input is.ended
+      (subst (λ (d : Option Disk). Tells is.text is.is_cut turns d is.ended) file (tells (Some text) is))
       (sym is.status_is ∙ ended)
   stopped text disk file (inr is) ended = absurd (unread_keys status is.cause ended)
 
-pub runs : (left : Option (List ℕ)) (turns : ℕ) (status : Status) (before after : Outside) → DaemonEnds left turns status before after → DaemonRuns left turns status before after
+pub runs : (left : Option (List ℕ)) (turns : ℕ) (status : Status) (before after : Outside) → DaemonEnds left turns status before after
+    → DaemonRuns left turns status before after
 runs left turns status before after ends = record {
   ends = ends;
   serves = all_serve turns status before after left before.file.disk refl ends;

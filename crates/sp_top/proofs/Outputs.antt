@@ -25,7 +25,8 @@ answers_of command left verdict out text is_cut input answered = record { text =
 
 -- the usage line was written, or a beginning of it
 pub usage_written : (left : Option (List ℕ)) (status : Status) (before after : Option (List ℕ)) → (status ≡ statuses.Usage) ⊎ (status ≡ statuses.Sink)
-    → (status ≡ statuses.Usage → Appends before after usage_line) → (status ≡ statuses.Sink → AppendsFront before after usage_line) → WroteAtEnd None left status before after
+    → (status ≡ statuses.Usage → Appends before after usage_line) → (status ≡ statuses.Sink → AppendsFront before after usage_line)
+    → WroteAtEnd None left status before after
 usage_written left status before after (inl usage) whole begun = rw usage (record { output = usage_line; is_output = No_command; written = whole usage })
 usage_written left status before after (inr sink) whole begun =
     rw sink (record { status = statuses.Usage; output = usage_line; is_output = No_command; begun = begun sink })

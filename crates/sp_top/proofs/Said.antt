@@ -18,7 +18,8 @@ one_text : (words : List (List ℕ)) (a b : CommandLine) → IsCommandLine words
 one_text words a b p q = sym p.of_line.are ∙ p.given.texts_are ∙ sym q.given.texts_are ∙ q.of_line.are
 
 -- whatever asks the same has the same request
-is_no_request : (request : List ℕ) (line : CommandLine) (command : Command) → ((r : Request) → IsRequest request r → ⊥) → Some request ≡ (texts_for line).request
+is_no_request : (request : List ℕ) (line : CommandLine) (command : Command) → ((r : Request) → IsRequest request r → ⊥)
+    → Some request ≡ (texts_for line).request
     → IsMeant line command → ⊥
 is_no_request request lines.Replay command none same meant = cc
 is_no_request request lines.Topology command none same meant = cc

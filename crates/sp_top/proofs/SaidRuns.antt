@@ -82,7 +82,8 @@ answered command left past status o0 o1 wrote worldless usage = record {
 }
 
 pub verified : (left : Option (List ℕ)) (past : Option Past) (status : Status) (o0 o1 : Outside)
-    → Wrote (Some commands.Verify) left past status o0.text o1.text → past ≡ None → status ≢ statuses.Usage → SaidClaims (Some commands.Verify) left past status o0 o1
+    → Wrote (Some commands.Verify) left past status o0.text o1.text → past ≡ None → status ≢ statuses.Usage
+    → SaidClaims (Some commands.Verify) left past status o0 o1
 verified left past status o0 o1 wrote worldless usage = record {
   wrote = λ _ _. wrote;
   worldless = λ runs. worldless;

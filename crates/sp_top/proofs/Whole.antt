@@ -27,7 +27,8 @@ offline_whole (offlines.Paths q) text true verdicts.Done out is done = absurd is
 offline_whole command text true verdicts.Fewer out is done = absurd (cc)
 offline_whole command text true verdicts.Refused out is done = absurd (cc)
 
-pub verified_whole : (text : List ℕ) (is_cut : Bool) (verdict : verified.Verdict) (out : List ℕ) → IsJudged text is_cut verdict out → verified_status verdict ≡ statuses.Done
+pub verified_whole : (text : List ℕ) (is_cut : Bool) (verdict : verified.Verdict) (out : List ℕ) → IsJudged text is_cut verdict out
+    → verified_status verdict ≡ statuses.Done
     → is_cut ≡ false
 verified_whole text false verdict out is done = refl
 verified_whole text true judgements.Verified out is done = let refused = is.0 in absurd (cc)
@@ -54,6 +55,8 @@ served_whole text is_cut turns before after ended ends = go ended (told text is_
     go _ By_memory done = absurd (cc)
 
 -- so a daemon that is done read its input to its end
-pub daemon_whole : (rest : Option (List ℕ)) (text : List ℕ) (is_cut : Bool) (turns : ℕ) (before after : Outside) (ended : Served) (status : Status) → (is_cut ≡ false → IsAtEnd rest)
+pub daemon_whole : (rest : Option (List ℕ)) (text : List ℕ) (is_cut : Bool) (turns : ℕ) (before after : Outside) (ended : Served) (status : Status)
+    → (is_cut ≡ false → IsAtEnd rest)
     → status ≡ served_status ended → Ends text is_cut turns before after ended → status ≡ statuses.Done → IsAtEnd rest
-daemon_whole rest text is_cut turns before after ended status at_end is ends done = at_end (served_whole text is_cut turns before after ended ends (sym is ∙ done))
+daemon_whole rest text is_cut turns before after ended status at_end is ends done =
+    at_end (served_whole text is_cut turns before after ended ends (sym is ∙ done))

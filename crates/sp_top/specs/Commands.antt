@@ -25,6 +25,7 @@ IsMeant (lines.Generate seed) command = command ≡ commands.Generate seed
 IsMeant (lines.Daemon turns) command = command ≡ commands.Daemon turns
 IsMeant (lines.Ask a) command = (command ≡ commands.Ask a) × ((r : Request) × IsRequest a.request.now r)
 
+-- words that say a command
 pub record AreWords (words : List (List ℕ)) (command : Command) : Type 0 where
   pub line : CommandLine
   pub said : IsCommandLine words line
@@ -41,6 +42,7 @@ BySaid words Holds = ((said : Option Command) × Says words said × Holds said) 
 
 -- ---- ranges
 
+-- a command whose numbers are in their ranges
 abbrev pub IsInRange : Command → Type 0
 IsInRange (commands.Generate number) = IsSeed number
 IsInRange (commands.Offline command) = IsOffline command

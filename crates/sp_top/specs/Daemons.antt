@@ -28,6 +28,7 @@ pub record IsUnread (status : Status) (before after : Outside) : Type 0 where
   pub quiet : IsQuiet before after
   pub unwritten : after.text ≡ before.text
 
+-- how a daemon ends: it served, or its input couldn't be read
 abbrev pub DaemonEnds : Option (List ℕ) → ℕ → Status → Outside → Outside → Type 0
 DaemonEnds left turns status before after = ServedFrom left turns status before after ⊎ IsUnread status before after
 

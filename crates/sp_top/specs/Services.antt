@@ -26,6 +26,7 @@ use Rattle.sp_words.specs.declared.status.Status.TheVariants as statuses
 abbrev pub reply_line : List ℕ → List ℕ
 reply_line reply = reply ++ codes "\n"
 
+-- the line of a question without a reply
 abbrev pub unanswered_line : ℕ → List ℕ
 unanswered_line turns = line_text (codes "unanswered" ∷ decimal turns ∷ [])
 
@@ -55,9 +56,11 @@ pub record IsForgotten (q : Question) (status : Status) (before after : Outside)
   pub called : (after.wire ≡ before.wire) ⊎ ((would : Status) × (line : List ℕ) × Answers q before after would line)
   pub unwritten : after.text ≡ before.text
 
+-- the question of what was asked
 abbrev pub question_of : Ask → Question
 question_of a = record { port = a.port; local = a.local; turns = a.turns; request = a.request }
 
+-- how a question ends
 abbrev pub AskEnds : Ask → Status → Outside → Outside → Type 0
 AskEnds a status before after = IsAnswered (question_of a) status before after
     ⊎ (IsUntold (question_of a) status before after ⊎ IsForgotten (question_of a) status before after)
@@ -70,6 +73,7 @@ IsTold would line status before after =
 
 -- ---- a key file is made
 
+-- the line of a key file that was made
 abbrev pub formatted_line : List ℕ
 formatted_line = codes "formatted\n"
 

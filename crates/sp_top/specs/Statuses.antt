@@ -15,6 +15,7 @@ verdict_status verdicts.Done = statuses.Done
 verdict_status verdicts.Fewer = statuses.Fewer
 verdict_status verdicts.Refused = statuses.Refused
 
+-- the status of what a verification found
 abbrev pub verified_status : verified.Verdict → Status
 verified_status judgements.Verified = statuses.Done
 verified_status judgements.Mismatch = statuses.Mismatch

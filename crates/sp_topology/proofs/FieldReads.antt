@@ -1,5 +1,6 @@
 -- The fields of a document that are read, and its front: the bytes begin with them.
-use Rattle.std.proofs.Common.{◌≡◌, if◌then◌else◌, ℕ, ◌<◌, ◌≤◌, ◌^◌, ◌==◌, inl, inr, List, [], ◌∷◌, ◌++◌, append_assoc, Result, Ok, Some, None, refl, sym, ap, subst, ◌∙◌, arith}
+use Rattle.std.proofs.Common.{◌≡◌, if◌then◌else◌, ℕ, ◌<◌, ◌≤◌, ◌^◌, ◌==◌, inl, inr, List, [], ◌∷◌, ◌++◌, append_assoc, Result, Ok, Some, None, refl, sym, ap}
+use Rattle.std.proofs.Common.{subst, ◌∙◌, arith}
 use Rattle.std.specs.Prelude.{Option}
 use Rattle.std.proofs.lemmas.Bool.{cases_Bool, eqb-true}
 use Rattle.std.proofs.lemmas.List.Elements.{All-cons, All-head, All-nil, All-tail}
@@ -14,7 +15,8 @@ use Rattle.sp_base.specs.declared.format.TheConstants.{FORMAT_1, FORMAT_2}
 use Rattle.sp_topology.specs.declared.topology.LmsHeight.{LmsHeight}
 use Rattle.sp_topology.specs.declared.refused.TopologyRefused.{TopologyRefused}
 use Rattle.sp_topology.specs.declared.refused.TopologyRefused.TheVariants as refusals
-use Rattle.sp_topology.specs.Documents.{Front, field_at, format_fault, front_at, front_bytes, height_field_at, height_or_refusal, judged_at, name, name_fault, unless}
+use Rattle.sp_topology.specs.Documents.{Front, field_at, format_fault, front_at, front_bytes, height_field_at, height_or_refusal, judged_at, name, name_fault}
+use Rattle.sp_topology.specs.Documents.{unless}
 use Rattle.sp_topology.specs.Faults.{node_count_fault}
 use Rattle.sp_topology.specs.Heights.{height_at, height_number}
 use Rattle.sp_topology.proofs.Judged.{node_count_passed, number_of_height}
@@ -115,7 +117,8 @@ pub record FrontRead (bytes : List ℕ) (f : Front) (rest : List ℕ) : Type 0 w
 
 -- the steps of the front, each with what comes after it
 abbrev after_height : ℕ → ℕ → LmsHeight × List ℕ → Result (Front × List ℕ) TopologyRefused
-after_height format version h = judged_at 1 (node_count_fault format) h.1 >>= λ c. Ok (record { format = format; version = version; height = h.0; count = c.0 }, c.1)
+after_height format version h =
+    judged_at 1 (node_count_fault format) h.1 >>= λ c. Ok (record { format = format; version = version; height = h.0; count = c.0 }, c.1)
 
 abbrev after_version : ℕ → ℕ × List ℕ → Result (Front × List ℕ) TopologyRefused
 after_version format v = height_field_at v.1 >>= λ h. after_height format v.0 h
@@ -149,7 +152,8 @@ front_read bytes p are e =
     let s2 = then_ok (judged_at 1 format_fault s1.0.1) after_format p s1.2 in
     let s3 = then_ok (field_at 4 s2.0.1) (after_version s2.0.0) p s2.2 in
     let s4 = then_ok (height_field_at s3.0.1) (after_height s2.0.0 s3.0.0) p s3.2 in
-    let s5 = then_ok (judged_at 1 (node_count_fault s2.0.0) s4.0.1) (λ c. Ok (record { format = s2.0.0; version = s3.0.0; height = s4.0.0; count = c.0 }, c.1)) p s4.2 in
+    let s5 = then_ok (judged_at 1 (node_count_fault s2.0.0) s4.0.1) (λ c. Ok (record { format = s2.0.0; version = s3.0.0; height = s4.0.0; count = c.0 }, c.1))
+    p s4.2 in
     let f : Front = record { format = s2.0.0; version = s3.0.0; height = s4.0.0; count = s5.0.0 } in
     let j1 = judged_read 4 name_fault bytes s1.0 are s1.1 in
     let j2 = judged_read 1 format_fault s1.0.1 s2.0 j1.field.begins.are_bytes s2.1 in

@@ -4,9 +4,11 @@ use Rattle.std.specs.Prelude.{Option}
 use Rattle.sp_base.specs.Cursor.{or_else}
 use Rattle.sp_topology.specs.declared.topology.Edge.{Edge}
 use Rattle.sp_topology.specs.declared.refused.TopologyRefused.{TopologyRefused}
-use Rattle.sp_topology.specs.Faults.{NoFaultIsInRange, are_nodes, edge_count_fault, edge_fault, edges_fault, ends_fault, graph_fault, id_fault, ids_fault, node_count_fault, weight_fault}
+use Rattle.sp_topology.specs.Faults.{NoFaultIsInRange, are_nodes, edge_count_fault, edge_fault, edges_fault, ends_fault, graph_fault, id_fault, ids_fault}
+use Rattle.sp_topology.specs.Faults.{node_count_fault, weight_fault}
 use Rattle.sp_topology.specs.Ranges.{AreEdges, AreIds, IsGraph, ends_of}
-use Rattle.sp_topology.proofs.Judged.{edge_count_passed, edge_count_passes, ends_pass, ends_passed, id_passed, id_passes, node_count_passed, node_count_passes, weight_passed, weight_passes}
+use Rattle.sp_topology.proofs.Judged.{edge_count_passed, edge_count_passes, ends_pass, ends_passed, id_passed, id_passes, node_count_passed, node_count_passes}
+use Rattle.sp_topology.proofs.Judged.{weight_passed, weight_passes}
 
 -- neither is a fault
 neither : (x y : Option TopologyRefused) → or_else x y ≡ None → (x ≡ None) × (y ≡ None)

@@ -1,5 +1,6 @@
 -- The judgements pass exactly what is in its range.
-use Rattle.std.proofs.Common.{◌≡◌, ℕ, ◌<◌, ◌≤◌, ◌==◌, ◌&&◌, ◌||◌, nat_lt, nat_le, Bool, true, false, cond, inl, inr, List, length, drop, Some, None, refl, sym, ap, ◌∙◌, arith}
+use Rattle.std.proofs.Common.{◌≡◌, ℕ, ◌<◌, ◌≤◌, ◌==◌, ◌&&◌, ◌||◌, nat_lt, nat_le, Bool, true, false, cond, inl, inr, List, length, drop, Some, None, refl, sym}
+use Rattle.std.proofs.Common.{ap, ◌∙◌, arith}
 use Rattle.std.specs.Prelude.{Option}
 use Rattle.std.proofs.lemmas.Bool.{cases_Bool, cases_lt}
 use Rattle.std.proofs.lemmas.Bool.Decides.{nat_tests}
@@ -58,7 +59,8 @@ pub weight_passes : (format : ℕ) → (weight : ℕ) → IsWeight format weight
 weight_passes format weight is = grind (arith, nat_tests)
 
 pub weight_passed : (format : ℕ) → (weight : ℕ) → weight_fault format weight ≡ None → IsWeight format weight
-weight_passed format weight e = let is = passed (nat_le (least_weight format) weight && nat_le weight 1000000) _ e in (grind (arith, nat_tests), grind (arith, nat_tests))
+weight_passed format weight e = let is = passed (nat_le (least_weight format) weight && nat_le weight 1000000) _ e in
+    (grind (arith, nat_tests), grind (arith, nat_tests))
 
 -- ---- heights and keys
 

@@ -46,11 +46,13 @@ weight same = cc
 
 id_no_memory : (format : ℕ) → (before id : ℕ) → NoMemory (id_fault format before id)
 id_no_memory format before id =
-    either (nat_lt id 1 || nat_lt (max_nodes format) id || nat_lt id before) (Some refusals.Order) _ order (either (id == before) (Some refusals.Twice) None twice none)
+    either (nat_lt id 1 || nat_lt (max_nodes format) id || nat_lt id before) (Some refusals.Order) _ order
+    (either (id == before) (Some refusals.Twice) None twice none)
 
 pub ids_no_memory : (format : ℕ) → (before : ℕ) (ids : List ℕ) → NoMemory (ids_fault format before ids)
 ids_no_memory format before [] = none
-ids_no_memory format before (id ∷ ids) = after (id_fault format before id) (ids_fault format id ids) (id_no_memory format before id) (ids_no_memory format id ids)
+ids_no_memory format before (id ∷ ids) =
+    after (id_fault format before id) (ids_fault format id ids) (id_no_memory format before id) (ids_no_memory format id ids)
 
 ends_no_memory : (known : Bool) (before ends : ℕ × ℕ) → NoMemory (ends_fault known before ends)
 ends_no_memory known before ends =

@@ -1,5 +1,6 @@
 -- Bytes that are read as a topology begin with its document.
-use Rattle.std.proofs.Common.{◌≡◌, ℕ, suc, zero, ◌<◌, ◌≤◌, List, [], ◌∷◌, ◌++◌, length, get_or, append_assoc, length-append, Result, Ok, refl, sym, ap, subst, arith}
+use Rattle.std.proofs.Common.{◌≡◌, ℕ, suc, zero, ◌<◌, ◌≤◌, List, [], ◌∷◌, ◌++◌, length, get_or, append_assoc, length-append, Result, Ok, refl, sym, ap, subst}
+use Rattle.std.proofs.Common.{arith}
 use Rattle.std.specs.Prelude.{flat_map}
 use Rattle.std.proofs.lemmas.Grind.{get_or_default_zero}
 use Rattle.byteorder.specs.Endian.{big_bytes}
@@ -14,12 +15,14 @@ use Rattle.sp_topology.specs.declared.topology.NodeKey.{NodeKey}
 use Rattle.sp_topology.specs.declared.topology.Topology.{Topology}
 use Rattle.sp_topology.specs.declared.refused.TopologyRefused.{TopologyRefused}
 use Rattle.sp_topology.specs.declared.refused.TopologyRefused.TheVariants as refusals
-use Rattle.sp_topology.specs.Documents.{Front, ReadIsSpelled, document, edge_at, edge_bytes, edges_at, ends_at, field_at, front_at, front_bytes, front_of, judged_at, key_at, node_at, node_bytes, nodes_at, topology_at, unless}
+use Rattle.sp_topology.specs.Documents.{Front, ReadIsSpelled, document, edge_at, edge_bytes, edges_at, ends_at, field_at, front_at, front_bytes, front_of}
+use Rattle.sp_topology.specs.Documents.{judged_at, key_at, node_at, node_bytes, nodes_at, topology_at, unless}
 use Rattle.sp_topology.specs.Faults.{are_nodes, edge_count_fault, ends_fault, id_fault, key_fault, weight_fault}
 use Rattle.sp_topology.specs.Ranges.{AreEdges, AreEnds, AreNodes, IsId, IsKey, IsTopology, IsWeight, ends_of, ids_of}
 use Rattle.sp_topology.proofs.Judged.{edge_count_passed, ends_passed, id_passed, key_passed, weight_passed}
 use Rattle.sp_topology.proofs.Spelled.{length-ids_of}
-use Rattle.sp_topology.proofs.FieldReads.{Begins, FrontRead, Judged, field_read, front_are_bytes, front_read, joined, judged_read, ok_same, rest_are_bytes, unless_ok}
+use Rattle.sp_topology.proofs.FieldReads.{Begins, FrontRead, Judged, field_read, front_are_bytes, front_read, joined, judged_read, ok_same, rest_are_bytes}
+use Rattle.sp_topology.proofs.FieldReads.{unless_ok}
 
 -- ---- nodes
 
@@ -92,7 +95,8 @@ nodes_read format height zero before bytes p are e =
     let here : NodesRead format height zero before bytes [] bytes = record { begins = record { spelled = refl; are_bytes = are }; are = tt; long = refl } in
     same_nodes format height zero before bytes ([], bytes) p (ok_same ([], bytes) p e) here
 nodes_read format height (suc count) before bytes p are e =
-    let s = then_ok (node_at format height before bytes) (λ node. nodes_at format height count node.0.id.0 node.1 >>= λ nodes. Ok (node.0 ∷ nodes.0, nodes.1)) p e in
+    let s = then_ok (node_at format height before bytes) (λ node. nodes_at format height count node.0.id.0 node.1 >>= λ nodes. Ok (node.0 ∷ nodes.0, nodes.1)) p
+    e in
     let t = then_ok (nodes_at format height count s.0.0.id.0 s.0.1) (λ nodes. Ok (s.0.0 ∷ nodes.0, nodes.1)) p s.2 in
     let first = node_read format height before bytes s.0 are s.1 in
     let others = nodes_read format height count s.0.0.id.0 s.0.1 t.0 first.begins.are_bytes t.1 in
@@ -191,7 +195,8 @@ edges_read format ids zero before bytes p are e =
     let here : EdgesRead format ids zero before bytes [] bytes = record { begins = record { spelled = refl; are_bytes = are }; are = tt; long = refl } in
     same_edges format ids zero before bytes ([], bytes) p (ok_same ([], bytes) p e) here
 edges_read format ids (suc count) before bytes p are e =
-    let s = then_ok (edge_at format ids before bytes) (λ edge. edges_at format ids count (ends_of edge.0) edge.1 >>= λ edges. Ok (edge.0 ∷ edges.0, edges.1)) p e in
+    let s = then_ok (edge_at format ids before bytes) (λ edge. edges_at format ids count (ends_of edge.0) edge.1 >>= λ edges. Ok (edge.0 ∷ edges.0, edges.1)) p
+    e in
     let t = then_ok (edges_at format ids count (ends_of s.0.0) s.0.1) (λ edges. Ok (s.0.0 ∷ edges.0, edges.1)) p s.2 in
     let first = edge_read format ids before bytes s.0 are s.1 in
     let others = edges_read format ids count (ends_of s.0.0) s.0.1 t.0 first.begins.are_bytes t.1 in
@@ -209,7 +214,8 @@ same_topology bytes p q same is = subst (λ (z : Topology × List ℕ). Topology
 
 abbrev with_edges : Front → List NodeKey → ℕ × List ℕ → Result (Topology × List ℕ) TopologyRefused
 with_edges f nodes count =
-    edges_at f.format (ids_of nodes) count.0 (0, 0) count.1 >>= λ edges. Ok (record { format = f.format; version = f.version; height = f.height; nodes = nodes; edges = edges.0 }, edges.1)
+    edges_at f.format (ids_of nodes) count.0 (0, 0) count.1
+    >>= λ edges. Ok (record { format = f.format; version = f.version; height = f.height; nodes = nodes; edges = edges.0 }, edges.1)
 
 abbrev with_nodes : Front → List NodeKey × List ℕ → Result (Topology × List ℕ) TopologyRefused
 with_nodes f nodes = judged_at 2 (edge_count_fault f.format) nodes.1 >>= λ count. with_edges f nodes.0 count
@@ -227,7 +233,8 @@ all_joined f nodes edges count bytes fronted noded counted rest first second thi
     let is_counted : Begins noded (big_bytes 2 (length edges)) counted = subst
     (λ (n : ℕ). Begins noded (big_bytes 2 n) counted) same_count third.field.begins in
     let is_front : Begins bytes (front_bytes (front_of t)) fronted =
-    subst (λ (n : ℕ). Begins bytes (front_bytes (record { format = f.format; version = f.version; height = f.height; count = n })) fronted) (sym second.long) first.begins in
+    subst (λ (n : ℕ). Begins bytes (front_bytes (record { format = f.format; version = f.version; height = f.height; count = n })) fronted) (sym second.long)
+    first.begins in
     let tail = joined noded (big_bytes 2 (length edges)) counted (flat_map edge_bytes edges) rest is_counted fourth.begins in
     let later = joined fronted (flat_map node_bytes nodes) noded (big_bytes 2 (length edges) ++ flat_map edge_bytes edges) rest second.begins tail in
     let whole = joined bytes (front_bytes (front_of t)) fronted (flat_map node_bytes nodes ++

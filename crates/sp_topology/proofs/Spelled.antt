@@ -1,5 +1,6 @@
 -- A document is read as its topology, whatever comes after it.
-use Rattle.std.proofs.Common.{◌≡◌, ℕ, suc, ◌<◌, ◌≤◌, ◌^◌, ◌==◌, true, inl, inr, List, [], ◌∷◌, ◌++◌, length, append_assoc, Ok, None, refl, sym, ap, ◌∙◌, arith, lit<}
+use Rattle.std.proofs.Common.{◌≡◌, ℕ, suc, ◌<◌, ◌≤◌, ◌^◌, ◌==◌, true, inl, inr, List, [], ◌∷◌, ◌++◌, length, append_assoc, Ok, None, refl, sym, ap, ◌∙◌, arith}
+use Rattle.std.proofs.Common.{lit<}
 use Rattle.std.proofs.lemmas.Bool.{cases_Bool, eqb-true}
 use Rattle.std.specs.Prelude.{Option, flat_map}
 use Rattle.byteorder.specs.Endian.{big_bytes}
@@ -15,7 +16,8 @@ use Rattle.sp_topology.specs.declared.topology.NodeKey.{NodeKey}
 use Rattle.sp_topology.specs.declared.topology.Topology.{Topology}
 use Rattle.sp_topology.specs.declared.refused.TopologyRefused.{TopologyRefused}
 use Rattle.sp_topology.specs.declared.refused.TopologyRefused.TheVariants as refusals
-use Rattle.sp_topology.specs.Documents.{Front, SpelledIsRead, document, edge_at, edge_bytes, edges_at, ends_at, field_at, format_fault, front_at, front_bytes, front_of, height_field_at, judged_at, key_at, name, name_fault, node_at, node_bytes, nodes_at, topology_at}
+use Rattle.sp_topology.specs.Documents.{Front, SpelledIsRead, document, edge_at, edge_bytes, edges_at, ends_at, field_at, format_fault, front_at, front_bytes}
+use Rattle.sp_topology.specs.Documents.{front_of, height_field_at, judged_at, key_at, name, name_fault, node_at, node_bytes, nodes_at, topology_at}
 use Rattle.sp_topology.specs.Faults.{edge_count_fault, id_fault, node_count_fault, weight_fault}
 use Rattle.sp_topology.specs.Heights.{height_number}
 use Rattle.sp_topology.specs.Ranges.{AreEdges, AreEnds, AreNodes, IsId, IsKey, IsWeight, ends_of, has_id, ids_of}
@@ -66,10 +68,12 @@ front_back f rest known small low high =
     rw (front_split f rest)
     (rw (judged_back 4 name name_fault (big_bytes 1 f.format ++ (big_bytes 4 f.version ++
     (big_bytes 1 (height_number f.height) ++ (big_bytes 1 f.count ++ rest)))) (lit< tt) refl)
-    (rw (judged_back 1 f.format format_fault (big_bytes 4 f.version ++ (big_bytes 1 (height_number f.height) ++ (big_bytes 1 f.count ++ rest))) (format_small f.format known) (format_passes f.format known))
+    (rw (judged_back 1 f.format format_fault (big_bytes 4 f.version ++ (big_bytes 1 (height_number f.height) ++ (big_bytes 1 f.count ++ rest)))
+    (format_small f.format known) (format_passes f.format known))
     (rw (field_back 4 f.version (big_bytes 1 (height_number f.height) ++ (big_bytes 1 f.count ++ rest)) small)
     (rw (height_back f.height (big_bytes 1 f.count ++ rest))
-    (rw (judged_back 1 f.count (node_count_fault f.format) rest (omega (arith, few_nodes f.format, high)) (node_count_passes f.format f.count low high)) refl)))))
+    (rw (judged_back 1 f.count (node_count_fault f.format) rest (omega (arith, few_nodes f.format, high)) (node_count_passes f.format f.count low high))
+    refl)))))
 
 -- ---- nodes
 
@@ -160,5 +164,6 @@ spelled_is_read t rest is =
     rw (document_split t rest)
     (rw (front_back (front_of t) (flat_map node_bytes t.nodes ++ (big_bytes 2 (length t.edges) ++ edges)) is.format is.version low high)
     (rw (nodes_back t.format t.height 0 t.nodes (big_bytes 2 (length t.edges) ++ edges) is.nodes)
-    (rw (judged_back 2 (length t.edges) (edge_count_fault t.format) edges (omega (arith, few_edges t.format, is.graph.edge_count)) (edge_count_passes t.format (length t.edges) is.graph.edge_count))
+    (rw (judged_back 2 (length t.edges) (edge_count_fault t.format) edges (omega (arith, few_edges t.format, is.graph.edge_count))
+    (edge_count_passes t.format (length t.edges) is.graph.edge_count))
     (rw (edges_back t.format (ids_of t.nodes) (0, 0) t.edges rest (ids_small t.format t.height 0 t.nodes is.nodes) is.graph.are_edges) refl))))

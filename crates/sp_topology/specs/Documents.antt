@@ -29,9 +29,11 @@ name = 0x4d544d57
 
 -- ---- spelling
 
+-- a node: its id and its public key
 abbrev pub node_bytes : NodeKey → List ℕ
 node_bytes n = big_bytes 1 n.id.0 ++ n.key
 
+-- an edge: its two ends, and its weight
 abbrev pub edge_bytes : Edge → List ℕ
 edge_bytes e = big_bytes 1 e.low.0 ++ (big_bytes 1 e.high.0 ++ big_bytes 4 e.weight)
 
@@ -42,12 +44,15 @@ pub record Front : Type 0 where
   pub height : LmsHeight
   pub count : ℕ
 
+-- what stands before the nodes: the name of the format, its number, the version, the height of trees, and how many nodes follow
 abbrev pub front_bytes : Front → List ℕ
 front_bytes f = big_bytes 4 name ++ (big_bytes 1 f.format ++ (big_bytes 4 f.version ++ (big_bytes 1 (height_number f.height) ++ big_bytes 1 f.count)))
 
+-- the front of a topology's document
 abbrev pub front_of : Topology → Front
 front_of t = record { format = t.format; version = t.version; height = t.height; count = length t.nodes }
 
+-- the bytes of a topology
 abbrev pub document : Topology → List ℕ
 document t = front_bytes (front_of t) ++ (flat_map node_bytes t.nodes ++ (big_bytes 2 (length t.edges) ++ flat_map edge_bytes t.edges))
 
@@ -66,9 +71,11 @@ unless (Some fault) x = Err fault
 unfoldable pub judged_at : ℕ → (ℕ → Option TopologyRefused) → List ℕ → Result (ℕ × List ℕ) TopologyRefused
 judged_at n fault bytes = field_at n bytes >>= λ x. unless (fault x.0) x
 
+-- what is wrong with a name: it isn't that of these documents
 abbrev pub name_fault : ℕ → Option TopologyRefused
 name_fault number = if number == name then None else Some refusals.Magic
 
+-- what is wrong with the number of a format: there is no such format
 abbrev pub format_fault : ℕ → Option TopologyRefused
 format_fault number = if (number == FORMAT_1) || (number == FORMAT_2) then None else Some refusals.Format
 
@@ -77,9 +84,11 @@ abbrev pub height_or_refusal : Option LmsHeight → List ℕ → Result (LmsHeig
 height_or_refusal (Some height) bytes = Ok (height, bytes)
 height_or_refusal None bytes = Err refusals.Height
 
+-- the height at the front of these bytes, and what follows it
 unfoldable pub height_field_at : List ℕ → Result (LmsHeight × List ℕ) TopologyRefused
 height_field_at bytes = field_at 1 bytes >>= λ x. height_or_refusal (height_at x.0) x.1
 
+-- the front of a document at the front of these bytes, and what follows it
 unfoldable pub front_at : List ℕ → Result (Front × List ℕ) TopologyRefused
 front_at bytes = do
   begins ← judged_at 4 name_fault bytes

@@ -47,18 +47,22 @@ ends_fault are_nodes before ends =
 abbrev pub are_nodes : List ℕ → ℕ × ℕ → Bool
 are_nodes ids ends = has_id ends.0 ids && has_id ends.1 ids
 
+-- what is wrong with a weight: it is out of the range of its format
 abbrev pub weight_fault : (format : ℕ) → ℕ → Option TopologyRefused
 weight_fault format weight = if nat_le (least_weight format) weight && nat_le weight MAX_WEIGHT then None else Some refusals.Weight
 
 -- ---- without keys, as a draft has it
 
+-- what is wrong first with ids that follow this one
 abbrev pub ids_fault : (format : ℕ) → ℕ → List ℕ → Option TopologyRefused
 ids_fault format before [] = None
 ids_fault format before (id ∷ ids) = or_else (id_fault format before id) (ids_fault format id ids)
 
+-- what is wrong with an edge that follows one with these ends: its own ends first
 abbrev pub edge_fault : (format : ℕ) → List ℕ → ℕ × ℕ → Edge → Option TopologyRefused
 edge_fault format ids before e = or_else (ends_fault (are_nodes ids (ends_of e)) before (ends_of e)) (weight_fault format e.weight)
 
+-- what is wrong first with edges that follow one with these ends
 abbrev pub edges_fault : (format : ℕ) → List ℕ → ℕ × ℕ → List Edge → Option TopologyRefused
 edges_fault format ids before [] = None
 edges_fault format ids before (e ∷ edges) = or_else (edge_fault format ids before e) (edges_fault format ids (ends_of e) edges)

@@ -11,6 +11,7 @@ abbrev pub height_number : LmsHeight → ℕ
 height_number Five = 5
 height_number Ten = 10
 
+-- the number of a height in key and signature
 abbrev pub typecode_of : LmsHeight → ℕ
 typecode_of Five = 5
 typecode_of Ten = 6

@@ -12,6 +12,7 @@ joins a b e = ((e.low.0 == a) && (e.high.0 == b)) || ((e.low.0 == b) && (e.high.
 abbrev pub other_end : ℕ → Edge → Option NodeId
 other_end node e = if e.low.0 == node then Some e.high else (if e.high.0 == node then Some e.low else None)
 
+-- the edge at this place as one to the other node, where it has one
 abbrev pub neighbour : ℕ → Option NodeId → List (NodeId × EdgeId)
 neighbour place None = []
 neighbour place (Some other) = (other, record { 0 = place }) ∷ []

@@ -27,19 +27,23 @@ pub record IsKey (height : LmsHeight) (key : List ℕ) : Type 0 where
 abbrev pub IsId : (format : ℕ) → ℕ → ℕ → Type 0
 IsId format before id = (before < id) × (id ≤ max_nodes format)
 
+-- ids that ascend from above this one, each in the range of its format
 abbrev pub AreIds : (format : ℕ) → ℕ → List ℕ → Type 0
 AreIds format before [] = Unit {0}
 AreIds format before (id ∷ ids) = IsId format before id × AreIds format id ids
 
+-- nodes whose ids ascend from above this one, each with a public key of this height
 abbrev pub AreNodes : (format : ℕ) → LmsHeight → ℕ → List NodeKey → Type 0
 AreNodes format height before [] = Unit {0}
 AreNodes format height before (n ∷ nodes) = IsId format before n.id.0 × IsKey height n.key × AreNodes format height n.id.0 nodes
 
+-- the ids of nodes
 abbrev pub ids_of : List NodeKey → List ℕ
 ids_of nodes = map (λ n. n.id.0) nodes
 
 -- ---- edges
 
+-- the ids of an edge's two ends, the lower one first
 abbrev pub ends_of : Edge → ℕ × ℕ
 ends_of e = (e.low.0, e.high.0)
 
@@ -62,9 +66,11 @@ pub record AreEnds (ids : List ℕ) (before ends : ℕ × ℕ) : Type 0 where
 abbrev pub least_weight : ℕ → ℕ
 least_weight format = by_format format 1 0
 
+-- a weight in the range of its format
 abbrev pub IsWeight : (format : ℕ) → ℕ → Type 0
 IsWeight format weight = (least_weight format ≤ weight) × (weight ≤ MAX_WEIGHT)
 
+-- edges between these nodes that ascend from above these ends, each with a weight in its range
 abbrev pub AreEdges : (format : ℕ) → List ℕ → ℕ × ℕ → List Edge → Type 0
 AreEdges format ids before [] = Unit {0}
 AreEdges format ids before (e ∷ edges) = AreEnds ids before (ends_of e) × IsWeight format e.weight × AreEdges format ids (ends_of e) edges
@@ -77,6 +83,7 @@ pub record IsGraph (format : ℕ) (ids : List ℕ) (edges : List Edge) : Type 0 
   pub edge_count : length edges ≤ max_edges format
   pub are_edges : AreEdges format ids (0, 0) edges
 
+-- a topology whose fields are in the ranges of its format
 pub record IsTopology (t : Topology) : Type 0 where
   pub format : IsFormat t.format
   pub version : t.version < 2 ^ 32

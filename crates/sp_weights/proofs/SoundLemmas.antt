@@ -1,5 +1,6 @@
 -- The rows of the weights stay sound: at the start, where an update is put into one, and under other minima.
-use Rattle.std.proofs.Common.{◌≡◌, ℕ, ◌*◌, ◌<◌, ◌≤◌, zero, suc, Bool, true, false, List, ◌∷◌, length, map, set, replicate, Option, Some, None, refl, sym, ap, ◌∙◌, arith}
+use Rattle.std.proofs.Common.{◌≡◌, ℕ, ◌*◌, ◌<◌, ◌≤◌, zero, suc, Bool, true, false, List, ◌∷◌, length, map, set, replicate, Option, Some, None, refl, sym, ap}
+use Rattle.std.proofs.Common.{◌∙◌, arith}
 use Rattle.std.specs.Prelude.{is_some, slice_index_or}
 use Rattle.std.proofs.lemmas.List.{length-map, length-replicate, length-set, map-set}
 use Rattle.std.proofs.lemmas.List.Elements.{All-replicate, All-set}
@@ -59,7 +60,8 @@ sound_with edges least rows active weights edge row weight kept good has is soun
 }
 
 -- the minima are others
-pub sound_under : (edges : ℕ) (old least : List ℕ) (rows : List (Option Kept)) (active : List Bool) (before weights : List ℕ) → IsSound edges old rows active before
+pub sound_under : (edges : ℕ) (old least : List ℕ) (rows : List (Option Kept)) (active : List Bool) (before weights : List ℕ)
+    → IsSound edges old rows active before
     → length least ≡ edges → length weights ≡ edges
     → ((edge : ℕ) → edge < edges → slice_index_or weights edge 0 ≡ effective_by least rows edge) → IsSound edges least rows active weights
 sound_under edges old least rows active before weights sound minima many each = record {

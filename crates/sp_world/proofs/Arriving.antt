@@ -27,7 +27,8 @@ use Rattle.sp_world_steps.proofs.Without.{without_is_same}
 use Rattle.sp_world_steps.specs.Gave.{Tells, taken}
 use Rattle.sp_world_steps.specs.Members.{HeardAmong}
 
-module _ (s : Scenario) (es : List Event) (js : List Entry) (nodes after : List NodeState) (ds : List Direction) (u v : NodeId) (bytes : List ℕ) (step : Step Taken) (len : ℕ) where
+module _ (s : Scenario) (es : List Event) (js : List Entry) (nodes after : List NodeState) (ds : List Direction) (u v : NodeId) (bytes : List ℕ)
+    (step : Step Taken) (len : ℕ) where
   -- what is judged of any state that took it so
   abbrev pub IsJudged : Option What → Type 0
   IsJudged what = (n new : NodeState) (w : World) → n.fixed.me ≡ v → n.fixed.signature_len ≡ len
@@ -54,8 +55,10 @@ module _ (s : Scenario) (es : List Event) (js : List Entry) (nodes after : List 
       (subst (λ (n : NodeState). n.fixed.epochs ≡ s.epochs) same can.epochs)
       (subst (λ (n : NodeState). call_refusal n u ≡ None) same can.call.answers) (took can h)
 
-  judged_is : (keys : List Numbers) (crafted : List Crafted) (last : Published) (what : Option What) → (can : CanHear s len nodes v u) → (h : HeardAmong nodes u v bytes step after) → IsJudged what
-      → what ≡ forged (arts_of (setting_of s)) (setting_of s) es js (world_of keys nodes ds crafted last) h.old (Datagram u bytes) (answered s.format h.old u bytes step)
+  judged_is : (keys : List Numbers) (crafted : List Crafted) (last : Published) (what : Option What) → (can : CanHear s len nodes v u)
+      → (h : HeardAmong nodes u v bytes step after) → IsJudged what
+      → what ≡ forged (arts_of (setting_of s)) (setting_of s) es js (world_of keys nodes ds crafted last) h.old (Datagram u bytes)
+      (answered s.format h.old u bytes step)
   judged_is keys crafted last what can h judged =
       let same = same_old can h in
       judged h.old h.new (world_of keys nodes ds crafted last)

@@ -65,7 +65,8 @@ in_place frames before bytes at = go (slice_get frames before) at
     go (Some None) e = absurd cc
     go (Some (Some x)) e = ap Some e
 
-pub frame_is_long : (s : Scenario) (es : List Event) (js : List Entry) (w : World) (e : Event) → Stands s es js w e → (u v : NodeId) (number : ℕ) (bytes : List ℕ)
+pub frame_is_long : (s : Scenario) (es : List Event) (js : List Entry) (w : World) (e : Event) → Stands s es js w e
+    → (u v : NodeId) (number : ℕ) (bytes : List ℕ)
     → frame_in w.directions u v number ≡ Some bytes → 64 ≤ length bytes
 frame_is_long s es js w e st u v zero bytes at = absurd (cc)
 frame_is_long s es js w e st u v (suc before) bytes at =
@@ -78,17 +79,20 @@ pub pass_comes : (ds : List Direction) (u v : NodeId) (number : ℕ) (bytes : Li
     → option_map (Datagram u) (frame_in ds u v number) ≡ Some (Datagram u bytes)
 pass_comes ds u v number bytes is = ap (option_map (Datagram u)) is
 
-pub flip_comes : (ds : List Direction) (u v : NodeId) (number back bit : ℕ) (bytes : List ℕ) → option_map (flipped back bit) (frame_in ds u v number) ≡ Some bytes
+pub flip_comes : (ds : List Direction) (u v : NodeId) (number back bit : ℕ) (bytes : List ℕ)
+    → option_map (flipped back bit) (frame_in ds u v number) ≡ Some bytes
     → option_map (λ bytes. Datagram u (flipped back bit bytes)) (frame_in ds u v number) ≡ Some (Datagram u bytes)
 flip_comes ds u v number back bit bytes is = go (frame_in ds u v number) is
   where
-    go : (frame : Option (List ℕ)) → option_map (flipped back bit) frame ≡ Some bytes → option_map (λ bytes. Datagram u (flipped back bit bytes)) frame ≡ Some (Datagram u bytes)
+    go : (frame : Option (List ℕ)) → option_map (flipped back bit) frame ≡ Some bytes
+        → option_map (λ bytes. Datagram u (flipped back bit bytes)) frame ≡ Some (Datagram u bytes)
     go None is = absurd (cc)
     go (Some frame) is = ap (option_map (Datagram u)) is
 
 -- ---- an edge between two nodes
 
-edge_there : (s : Scenario) (es : List Event) (js : List Entry) (w : World) (e : Event) → Stands s es js w e → (c v : NodeId) → IsTrue (is_hop (setting_of s) c v) → IsEdgeOf s c v
+edge_there : (s : Scenario) (es : List Event) (js : List Entry) (w : World) (e : Event) → Stands s es js w e → (c v : NodeId)
+    → IsTrue (is_hop (setting_of s) c v) → IsEdgeOf s c v
 edge_there s es js w e st c v hop =
     let place = place_of_any (joins c.0 v.0) s.graph.edges hop in
     record { few = few_edges s st.header; edge = place.0; joined = place.1 }
@@ -102,7 +106,8 @@ can_craft s es js w e comes c v acts hop =
     record {
       first = first;
       edge = edge;
-      keyed = links_have_their_keys (arts_of (setting_of s)) (setting_of s) es js w (fits s es js w e st) (format_carries s.format) st.clean c v first.node edge.edge first.is_there edge.joined;
+      keyed = links_have_their_keys (arts_of (setting_of s)) (setting_of s) es js w (fits s es js w e st) (format_carries s.format) st.clean c v first.node
+          edge.edge first.is_there edge.joined;
     }
 
 pub craft_may : (s : Scenario) (es : List Event) (js : List Entry) (w : World) (e : Event) (c v key : NodeId) (object : CraftedObject)

@@ -1,5 +1,6 @@
 -- What a compromised neighbour crafts is what the rules of runs say: its head, its message with the boots that the node holds, and its signature.
-use Rattle.std.proofs.Common.{◌≡◌, ◌≤◌, ◌+◌, ℕ, zero, suc, List, [], ◌∷◌, length, Option, None, Some, Ok, false, refl, sym, ap, ap₂, ◌∙◌, subst, arith, nat_lt, true}
+use Rattle.std.proofs.Common.{◌≡◌, ◌≤◌, ◌+◌, ℕ, zero, suc, List, [], ◌∷◌, length, Option, None, Some, Ok, false, refl, sym, ap, ap₂, ◌∙◌, subst, arith, nat_lt}
+use Rattle.std.proofs.Common.{true}
 use Rattle.std.specs.Prelude.{◌==◌, IsTrue, is_some, position, unwrap_or}
 use Rattle.std.proofs.lemmas.Bool.Decides.{nat_tests}
 use Rattle.std.proofs.lemmas.Option.{same_Some}
@@ -26,7 +27,8 @@ use Rattle.sp_node_format.specs.Format.{format_in}
 use Rattle.sp_rules.specs.Node.{NodeState, link_in}
 use Rattle.sp_rules.specs.Steps.{Datagram}
 use Rattle.sp_rules.specs.Topologies.{weights_in}
-use Rattle.sp_runs.specs.Inputs.{counter_after, crafted_contents, crafted_document, crafted_frame, crafted_head, dated, input_of, last_weights, may_sign, sealed_frame}
+use Rattle.sp_runs.specs.Inputs.{counter_after, crafted_contents, crafted_document, crafted_frame, crafted_head, dated, input_of, last_weights, may_sign}
+use Rattle.sp_runs.specs.Inputs.{sealed_frame}
 use Rattle.sp_runs.specs.Runs.{crafted_after}
 use Rattle.sp_runs.specs.Scenarios.{document_of, edge_key, setting_of, unsigned_of}
 use Rattle.sp_runs.specs.Worlds.{crafts, node_in, with_craft}
@@ -43,7 +45,8 @@ use Rattle.sp_world.specs.Stands.{CanCraft, IsOfFormat, IsSpent}
 
 -- ---- the message
 
-pub said_is : (nodes : List NodeState) (v : NodeId) (m n : NodeState) (object : CraftedObject) (body : Body) → node_in nodes v ≡ Some m → node_in nodes v ≡ Some n
+pub said_is : (nodes : List NodeState) (v : NodeId) (m n : NodeState) (object : CraftedObject) (body : Body) → node_in nodes v ≡ Some m
+    → node_in nodes v ≡ Some n
     → body ≡ dated_with (held_of m.parts.lives (ends_of (body_of object))) (body_of object) → body ≡ dated n.parts.lives (body_of object)
 said_is nodes v m n object body at there is =
     let same : m ≡ n = same_Some m n (sym at ∙ there) in
@@ -51,7 +54,8 @@ said_is nodes v m n object body at there is =
 
 -- ---- the head and the key of a crafted frame
 
-pub head_is : (format : ℕ) (nodes : List NodeState) (c v : NodeId) (m n : NodeState) (counter echo version : ℕ) (head : Head) → IsOfFormat format nodes v → node_in nodes v ≡ Some m
+pub head_is : (format : ℕ) (nodes : List NodeState) (c v : NodeId) (m n : NodeState) (counter echo version : ℕ) (head : Head) → IsOfFormat format nodes v
+    → node_in nodes v ≡ Some m
     → node_in nodes v ≡ Some n
     → counter ≡ (link_in m c).seen.1 → echo ≡ m.fixed.boot → version ≡ m.live.version
     → head ≡ record { from = c; to = v; boot = 1; echo = echo; counter = counter_after counter; topology = version; format = format }
@@ -73,7 +77,8 @@ pub frame_is : (s : Scenario) (nodes : List NodeState) (c v : NodeId) (n : NodeS
     → bytes ≡ sealed_frame (format_in head.format) head key contents → bytes ≡ crafted_frame (arts_of (setting_of s)) n c contents
 frame_is s nodes c v n head key bytes contents can there head_is key_is is =
     let same : can.first.node ≡ n = same_Some can.first.node n (sym can.first.is_there ∙ there) in
-    let keyed : (link_in n c).key ≡ edge_key s.seed can.edge.edge = subst (λ (m : NodeState). (link_in m c).key ≡ edge_key s.seed can.edge.edge) same can.keyed in
+    let keyed : (link_in n c).key ≡ edge_key s.seed can.edge.edge =
+    subst (λ (m : NodeState). (link_in m c).key ≡ edge_key s.seed can.edge.edge) same can.keyed in
     let mine : key ≡ (link_in n c).key = key_is can.edge.edge can.edge.joined ∙ sym keyed in
     is ∙ ap₂ (λ (h : Head) (k : List ℕ). sealed_frame (arts_of (setting_of s)) h k contents) head_is mine
 
@@ -84,7 +89,8 @@ pub status_is : (s : Scenario) (nodes : List NodeState) (c v : NodeId) (m n : No
     → bytes ≡ sealed_frame (format_in head.format) head key (contents m) → bytes ≡ crafted_frame (arts_of (setting_of s)) n c (contents n)
 status_is s nodes c v m n head key bytes contents can here there head_are key_are is =
     let mine : m ≡ n = same_Some m n (sym here ∙ there) in
-    frame_is s nodes c v n head key bytes (contents n) can there head_are key_are (is ∙ ap (λ (k : NodeState). sealed_frame (format_in head.format) head key (contents k)) mine)
+    frame_is s nodes c v n head key bytes (contents n) can there head_are key_are
+    (is ∙ ap (λ (k : NodeState). sealed_frame (format_in head.format) head key (contents k)) mine)
 
 -- ---- the crafting signers
 
@@ -119,7 +125,8 @@ signed_of s old key body signed new of done =
     let is = (answers_craft s old key body (answers.Signed signed) new of done).2 in
     is ∙ ap (λ (c : Crafters). crafters_of s c.keys) (sym is)
 
-pub signed_comes : (s : Scenario) (old : Scene) (c v key : NodeId) (object : CraftedObject) (body : Body) (signed : Kept) (new : Crafters) (head : Head) (tag_key bytes : List ℕ)
+pub signed_comes : (s : Scenario) (old : Scene) (c v key : NodeId) (object : CraftedObject) (body : Body) (signed : Kept) (new : Crafters) (head : Head)
+    (tag_key bytes : List ℕ)
     → CanCraft s old.nodes c v → IsOf s old → Crafts old.crafters key body (Ok (answers.Signed signed)) new
     → ((n : NodeState) → node_in old.nodes v ≡ Some n → body ≡ dated n.parts.lives (body_of object))
     → ((n : NodeState) → node_in old.nodes v ≡ Some n → head ≡ crafted_head n c)
@@ -132,10 +139,13 @@ signed_comes s old c v key object body signed new head tag_key bytes can of done
     let answer = answers_craft s old key body (answers.Signed signed) new of done in
     let room : nat_lt (crafts old.crafters.keys key) x.total ≡ true = let low = answer.0 in grind (arith, nat_tests, low) in
     let body_is : body ≡ dated n.parts.lives (body_of object) = said n there in
-    let signed_is : signed ≡ (record { body = body; signature = (arts_of x).sign x.topology.height (x.seed key.0) (crafts old.crafters.keys key) ((arts_of x).spell body) }) = answer.1 in
+    let signed_is : signed
+    ≡ (record { body = body; signature = (arts_of x).sign x.topology.height (x.seed key.0) (crafts old.crafters.keys key) ((arts_of x).spell body) }) =
+    answer.1 in
     let contents_are : object_with signed.body signed ≡ crafted_contents (arts_of x) x old.crafters.keys n key (body_of object) =
     ap (λ (o : Kept). object_with o.body o) signed_is
-    ∙ ap (λ (b : Body). object_with b (record { body = b; signature = (arts_of x).sign x.topology.height (x.seed key.0) (crafts old.crafters.keys key) ((arts_of x).spell b) })) body_is
+    ∙ ap (λ (b : Body). object_with b
+    (record { body = b; signature = (arts_of x).sign x.topology.height (x.seed key.0) (crafts old.crafters.keys key) ((arts_of x).spell b) })) body_is
     ∙ section_is n.parts.lives object _ in
     let made = frame_is s old.nodes c v n head tag_key bytes (object_with signed.body signed) can there (heads n there) keys is in
     rw (room, made, contents_are) refl

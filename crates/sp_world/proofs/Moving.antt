@@ -72,7 +72,8 @@ asked_is_no_poll w (events.Publish u weights) document input is = refl
 asked_is_no_poll w (events.Start u) document input is = absurd (cc)
 asked_is_no_poll w (events.Stop u) document input is = absurd (cc)
 
-asked_keeps_frames : (ds : List Direction) (e : Event) (document : List ℕ) (input : Input) (reply : Reply) → asked document e ≡ Some input → directions_after ds e reply ≡ ds
+asked_keeps_frames : (ds : List Direction) (e : Event) (document : List ℕ) (input : Input) (reply : Reply) → asked document e ≡ Some input
+    → directions_after ds e reply ≡ ds
 asked_keeps_frames ds (events.Rel s d payload) document input reply is = refl
 asked_keeps_frames ds (events.Prio s d prio expiry paths payload) document input reply is = refl
 asked_keeps_frames ds (events.Take d s) document input reply is = refl
@@ -108,13 +109,18 @@ asked_crafts_none crafted (events.Start u) document input is = refl
 asked_crafts_none crafted (events.Stop u) document input is = refl
 asked_crafts_none crafted (events.Craft c v key body) document input is = absurd (cc)
 
-no_tag : (x : Setting) (w : World) (n : NodeState) (e : Event) (document : List ℕ) (input : Input) → asked document e ≡ Some input → has_forged_tag (arts_of x) x w n input ≡ false
-no_tag x w n (events.Rel s d payload) document input is = subst (λ (i : Input). has_forged_tag (arts_of x) x w n i ≡ false) (same_Some (SendRel d payload) input is) refl
-no_tag x w n (events.Prio s d prio expiry paths payload) document input is = subst (λ (i : Input). has_forged_tag (arts_of x) x w n i ≡ false) (same_Some (SendPrio (record { dst = d; prio = prio; expiry = expiry; paths = paths; payload = payload })) input is) refl
+no_tag : (x : Setting) (w : World) (n : NodeState) (e : Event) (document : List ℕ) (input : Input) → asked document e ≡ Some input
+    → has_forged_tag (arts_of x) x w n input ≡ false
+no_tag x w n (events.Rel s d payload) document input is =
+    subst (λ (i : Input). has_forged_tag (arts_of x) x w n i ≡ false) (same_Some (SendRel d payload) input is) refl
+no_tag x w n (events.Prio s d prio expiry paths payload) document input is =
+    subst (λ (i : Input). has_forged_tag (arts_of x) x w n i ≡ false)
+    (same_Some (SendPrio (record { dst = d; prio = prio; expiry = expiry; paths = paths; payload = payload })) input is) refl
 no_tag x w n (events.Take d s) document input is = subst (λ (i : Input). has_forged_tag (arts_of x) x w n i ≡ false) (same_Some (TakeRel s) input is) refl
 no_tag x w n (events.TakePrio d) document input is = subst (λ (i : Input). has_forged_tag (arts_of x) x w n i ≡ false) (same_Some TakePrio input is) refl
 no_tag x w n (events.Tick u now) document input is = subst (λ (i : Input). has_forged_tag (arts_of x) x w n i ≡ false) (same_Some (Tick now) input is) refl
-no_tag x w n (events.Weight u v weight) document input is = subst (λ (i : Input). has_forged_tag (arts_of x) x w n i ≡ false) (same_Some (SetWeight v weight) input is) refl
+no_tag x w n (events.Weight u v weight) document input is =
+    subst (λ (i : Input). has_forged_tag (arts_of x) x w n i ≡ false) (same_Some (SetWeight v weight) input is) refl
 no_tag x w n (events.Poll u v) document input is = absurd (cc)
 no_tag x w n (events.Pass u v number) document input is = absurd (cc)
 no_tag x w n (events.Flip u v number back bit) document input is = absurd (cc)
@@ -122,7 +128,8 @@ no_tag x w n (events.Inject u v bytes) document input is = absurd (cc)
 no_tag x w n (events.Craft c v key body) document input is = absurd (cc)
 no_tag x w n (events.CraftStatus c v s d base have) document input is = absurd (cc)
 no_tag x w n (events.CraftDocument c v key version weights) document input is = absurd (cc)
-no_tag x w n (events.Publish u weights) document input is = subst (λ (i : Input). has_forged_tag (arts_of x) x w n i ≡ false) (same_Some (Publish document) input is) refl
+no_tag x w n (events.Publish u weights) document input is =
+    subst (λ (i : Input). has_forged_tag (arts_of x) x w n i ≡ false) (same_Some (Publish document) input is) refl
 no_tag x w n (events.Start u) document input is = absurd (cc)
 no_tag x w n (events.Stop u) document input is = absurd (cc)
 
@@ -132,13 +139,16 @@ nothing_forged x es js w n input output untagged none nothing = rw (untagged, no
 
 -- ---- a move in the world in which the node acts is a turn
 
-pub moved_is_told : (x : Setting) (es : List Event) (js : List Entry) (old new : World) (e : Event) (entry : Entry) → IsMoved x es js (ready x old e) e entry new
+pub moved_is_told : (x : Setting) (es : List Event) (js : List Entry) (old new : World) (e : Event) (entry : Entry)
+    → IsMoved x es js (ready x old e) e entry new
     → IsTold x es js old e entry new
 moved_is_told x es js old new e entry m = record { turn = runs.Moves m.move; unforged = m.unforged }
 
 -- the arts are those of the node's own topology
-stepped_there : (s : Scenario) (es : List Event) (js : List Entry) (w : World) (e : Event) → Stands s es js w e → (u : NodeId) (n after : NodeState) (input : Input) (output : Output)
-    → node_in (ready (setting_of s) w e).nodes u ≡ Some n → NodeStep (format_of n.fixed) n input output after → NodeStep (arts_of (setting_of s)) n input output after
+stepped_there : (s : Scenario) (es : List Event) (js : List Entry) (w : World) (e : Event) → Stands s es js w e
+    → (u : NodeId) (n after : NodeState) (input : Input) (output : Output)
+    → node_in (ready (setting_of s) w e).nodes u ≡ Some n → NodeStep (format_of n.fixed) n input output after
+    → NodeStep (arts_of (setting_of s)) n input output after
 stepped_there s es js w e st u n after input output at step =
     subst (λ (f : Fixed). NodeStep (format_of f) n input output after) (each s es js w e st u n at).fixed step
 
@@ -172,7 +182,8 @@ asked_is_told s es js w after e document entry st handed a =
 
 -- ---- a poll
 
-pub polled_is_told : (s : Scenario) (es : List Event) (js : List Entry) (w : World) (after : List NodeState) (kept : List Direction) (e : Event) (u v : NodeId) (entry : Entry)
+pub polled_is_told : (s : Scenario) (es : List Event) (js : List Entry) (w : World) (after : List NodeState) (kept : List Direction) (e : Event) (u v : NodeId)
+    (entry : Entry)
     → Stands s es js w e → e ≡ events.Poll u v → IsPolled (ready (setting_of s) w e).nodes (ready (setting_of s) w e).directions u v entry after kept
     → IsTold (setting_of s) es js w e entry (record (ready (setting_of s) w e) { nodes = after; directions = kept })
 polled_is_told s es js w after kept e u v entry st is p =
@@ -261,9 +272,11 @@ same_world x w v n e ds crafted published = go e
     go : (f : Event) → input_of (arts_of x) x v n f ≡ input_of (arts_of x) x w n f
     go (events.Pass a b k) = ap (λ (rows : List Direction). option_map (Datagram a) (frame_in rows a b k)) ds
     go (events.Flip a b k back bit) = ap (λ (rows : List Direction). option_map (λ bytes. Datagram a (flipped back bit bytes)) (frame_in rows a b k)) ds
-    go (events.Craft c d key object) = ap (λ (rows : List Crafted). input_of (arts_of x) x (record w { crafted = rows }) n (events.Craft c d key object)) crafted
+    go (events.Craft c d key object) =
+        ap (λ (rows : List Crafted). input_of (arts_of x) x (record w { crafted = rows }) n (events.Craft c d key object)) crafted
     go (events.CraftDocument c d key version weights) =
-        ap (λ (rows : List Crafted). input_of (arts_of x) x (record w { crafted = rows; published = v.published }) n (events.CraftDocument c d key version weights))
+        ap (λ (rows : List Crafted). input_of (arts_of x) x (record w { crafted = rows; published = v.published }) n
+        (events.CraftDocument c d key version weights))
         crafted
         ∙ ap (λ (last : Published). input_of (arts_of x) x (record w { published = last }) n (events.CraftDocument c d key version weights)) published
     go (events.Publish a weights) = ap (λ (last : Published). input_of (arts_of x) x (record w { published = last }) n (events.Publish a weights)) published
@@ -297,11 +310,13 @@ same_input x w b upto (events.Poll a c) = refl
 same_input x w b upto (events.Start a) = refl
 same_input x w b upto (events.Stop a) = refl
 
-comes_there : (x : Setting) (w : World) (e : Event) (bytes : List ℕ) → Comes x w e (cames.Datagram bytes) → (n : NodeState) → node_in (ready x w e).nodes (acting e) ≡ Some n
+comes_there : (x : Setting) (w : World) (e : Event) (bytes : List ℕ) → Comes x w e (cames.Datagram bytes) → (n : NodeState)
+    → node_in (ready x w e).nodes (acting e) ≡ Some n
     → input_of (arts_of x) x (ready x w e) n e ≡ Some (Datagram (sender e) bytes)
 comes_there x w e bytes comes n at =
     let was = was_there x w e (acting e) n at in
-    same_world x w (ready x w e) n e (ready_frames x w e) (ready_crafts x w e) (ready_published x w e) ∙ by was.before was.readied ∙ comes was.before was.is_there
+    same_world x w (ready x w e) n e (ready_frames x w e) (ready_crafts x w e) (ready_published x w e) ∙ by was.before was.readied
+    ∙ comes was.before was.is_there
   where
     by : (b : NodeState) → Readied x w b n → input_of (arts_of x) x w n e ≡ input_of (arts_of x) x w b e
     by b (As_was same) = ap (λ (m : NodeState). input_of (arts_of x) x w m e) same
@@ -312,7 +327,8 @@ comes_there x w e bytes comes n at =
 gone_there : (x : Setting) (w : World) (e : Event) → without_node (ready x w e).nodes (acting e) ≡ without_node w.nodes (acting e)
 gone_there x w e = go x.epochs (node_in w.nodes (acting e)) refl
   where
-    short : (b : NodeState) → node_in w.nodes (acting e) ≡ Some b → (t : Bool) → without_node (cond t (reserved x w b) w).nodes (acting e) ≡ without_node w.nodes (acting e)
+    short : (b : NodeState) → node_in w.nodes (acting e) ≡ Some b → (t : Bool)
+        → without_node (cond t (reserved x w b) w).nodes (acting e) ≡ without_node w.nodes (acting e)
     short b at true =
         let me : b.fixed.me ≡ acting e = node_is w.nodes (acting e) b at in
         let upto = next_bound x.total (numbers_at w.keys b.fixed.me) in
@@ -345,7 +361,8 @@ arrived_comes_to s es js w after e bytes (dones.Told entry) is comes h =
         journal = subst (λ (k : ℕ). Says (setting_of s) k h.output entry) (sym (arrival_is_no_poll v e is)) h.says;
         world = same_parts v.keys after (with_node v.nodes (acting e) h.new) v.directions (directions_after v.directions e h.output.reply)
             (crafted_after w.crafted e) (crafted_after v.crafted e) v.published (with_list v.published (list_in e)) h.nodes_are
-            (sym (arrival_keeps_frames v.directions e h.output.reply is)) (ap (λ (rows : List Crafted). crafted_after rows e) (sym (ready_crafts (setting_of s) w e)))
+            (sym (arrival_keeps_frames v.directions e h.output.reply is))
+            (ap (λ (rows : List Crafted). crafted_after rows e) (sym (ready_crafts (setting_of s) w e)))
             (arrival_publishes v.published e is);
       };
       unforged = h.unforged v.keys v.crafted v.published;
@@ -375,7 +392,8 @@ arrived_comes_to s es js w after e bytes (dones.Forged what told) is comes (h, s
     )
 
 pub spent_is_told : (s : Scenario) (es : List Event) (js : List Entry) (w : World) (e : Event) (count : ℕ) (entry : Entry)
-    → comes_to_nobody w e ≡ false → IsSpent (setting_of s) w e count → entry.reply ≡ replies.Spent count → entry.effects ≡ [] → IsTold (setting_of s) es js w e entry w
+    → comes_to_nobody w e ≡ false → IsSpent (setting_of s) w e count → entry.reply ≡ replies.Spent count → entry.effects ≡ []
+    → IsTold (setting_of s) es js w e entry w
 spent_is_told s es js w e count entry some is reply effects = record {
   turn = runs.Stays (record {
     key = is.key;
@@ -406,7 +424,8 @@ missed_is_told s es js w new e entry st other down =
 
 module _ (s : Scenario) (es : List Event) (js : List Entry) (old : Scene) (e : Event) where
   -- the last version in the scene is that of the world where it acts
-  pub asked_here : (there new : Scene) (document : List ℕ) (entry : Entry) → Stands s es js (world_in old) e → world_in there ≡ ready (setting_of s) (world_in old) e
+  pub asked_here : (there new : Scene) (document : List ℕ) (entry : Entry) → Stands s es js (world_in old) e
+      → world_in there ≡ ready (setting_of s) (world_in old) e
       → IsHanded (setting_of s) there.published e document → AskedAmong there.nodes e document entry new.nodes
       → new.keys ≡ there.keys → new.directions ≡ there.directions → new.crafters ≡ there.crafters → new.published ≡ with_list there.published (list_in e)
       → IsTold (setting_of s) es js (world_in old) e entry (world_in new)
@@ -431,7 +450,8 @@ module _ (s : Scenario) (es : List Event) (js : List Entry) (old : Scene) (e : E
       let keys_are = keys ∙ ap (λ (w : World). w.keys) made in
       let crafts_are = ap (λ (c : Crafters). c.keys) crafters ∙ ap (λ (w : World). w.crafted) made in
       let published_is = published ∙ ap (λ (w : World). w.published) made in
-      rw (keys_are, crafts_are, published_is) (polled_is_told s es js (world_in old) new.nodes new.directions e u v entry st is (rw (v_is, frames_are) at polled))
+      rw (keys_are, crafts_are, published_is)
+      (polled_is_told s es js (world_in old) new.nodes new.directions e u v entry st is (rw (v_is, frames_are) at polled))
 
   -- after want of memory
   pub undone_here : (there new : Scene) → world_in there ≡ ready (setting_of s) (world_in old) e → new.nodes ≡ there.nodes → new.directions ≡ there.directions
@@ -451,7 +471,8 @@ module _ (s : Scenario) (es : List Event) (js : List Entry) (old : Scene) (e : E
       → AreFiled s brought.keys brought.nodes u
   filed_still brought crafted u st came = subst (λ (c : Scene). AreFiled s c.keys c.nodes u) (sym came) (are_filed s es js old e st u)
 
-  pub hears_there : (brought there : Scene) (crafted : List Crafted) (len : ℕ) → ComesToOne s es js (world_in old) e → IsArrival e → brought ≡ with_crafted old crafted
+  pub hears_there : (brought there : Scene) (crafted : List Crafted) (len : ℕ) → ComesToOne s es js (world_in old) e → IsArrival e
+      → brought ≡ with_crafted old crafted
       → world_in there ≡ ready (setting_of s) (world_in brought) e → len ≡ (setting_of s).signature_len
       → CanHear s len there.nodes (acting e) (sender e)
   hears_there brought there crafted len comes is came made long =

@@ -16,7 +16,21 @@ pub ruleset brought = (pass_there, flip_there, frame_is_long, craft_may, status_
 
 pub ruleset crafted = (spent_is, signed_left, signed_of, signed_comes)
 
-pub ruleset crafted_documents = (needs_last, list_is_written, list_is_signed, signed_is_short, unsigned_is_short, crafted_is_short, same_list, administrator_comes, administrator_left, node_comes, node_left, node_of, node_spent)
+pub ruleset crafted_documents = (
+  needs_last,
+  list_is_written,
+  list_is_signed,
+  signed_is_short,
+  unsigned_is_short,
+  crafted_is_short,
+  same_list,
+  administrator_comes,
+  administrator_left,
+  node_comes,
+  node_left,
+  node_of,
+  node_spent,
+)
 
 pub ruleset handed_out = (is_handed, last_signs, last_there)
 

@@ -164,7 +164,8 @@ module _ (s : Scenario) (es : List Event) (js : List Entry) (w : World) (e : Eve
         node = n;
         is_there = at;
         answers = answered_too (setting_of s) w was.before n v was.readied
-            (neighbours_are_answered (arts_of (setting_of s)) (setting_of s) es js w fits (format_carries s.format) st.clean few_calls u v was.before was.is_there hop);
+            (neighbours_are_answered (arts_of (setting_of s)) (setting_of s) es js w fits (format_carries s.format) st.clean few_calls u v was.before
+            was.is_there hop);
         short = is_short u n at;
       }
 
@@ -194,7 +195,8 @@ module _ (s : Scenario) (es : List Event) (js : List Entry) (w : World) (e : Eve
         words = λ input is. record {
           setting = setting_of s;
           words = λ output after step.
-              each_reply_has_words (arts_of (setting_of s)) (setting_of s) es js w fits (format_carries s.format) st.clean few_calls e ready_actor.0 after input output st.range ready_actor.1
+              each_reply_has_words (arts_of (setting_of s)) (setting_of s) es js w fits (format_carries s.format) st.clean few_calls e ready_actor.0 after input
+              output st.range ready_actor.1
               (asked_reaches (setting_of s) es (ready (setting_of s) w e) ready_actor.0 e document input handed is)
               (subst (λ (f : Fixed). NodeStep (format_of f) ready_actor.0 input output after) (each (acting e) ready_actor.0 ready_actor.1).fixed step) 0;
         };
@@ -216,7 +218,8 @@ module _ (s : Scenario) (es : List Event) (js : List Entry) (w : World) (e : Eve
 
     pub of_format : IsOfFormat s.format w.nodes (acting e)
     of_format =
-        let fixed = (only_correct_nodes_run (arts_of (setting_of s)) (setting_of s) es js w fits (format_carries s.format) st.clean (acting e) actor.0 actor.1).1 in
+        let fixed = (only_correct_nodes_run (arts_of (setting_of s)) (setting_of s) es js w fits (format_carries s.format) st.clean (acting e) actor.0
+        actor.1).1 in
         record {
           node = actor.0;
           is_there = actor.1;
@@ -226,7 +229,8 @@ module _ (s : Scenario) (es : List Event) (js : List Entry) (w : World) (e : Eve
 
 -- ---- what starts, stops and reserves ask of key files
 
-few_changes : (s : Scenario) (es : List Event) (js : List Entry) (w : World) (e : Event) → Stands s es js w e → (u : NodeId) → IsOneOf w.keys u → HasFile s w.keys u
+few_changes : (s : Scenario) (es : List Event) (js : List Entry) (w : World) (e : Event) → Stands s es js w e → (u : NodeId) → IsOneOf w.keys u
+    → HasFile s w.keys u
 few_changes s es js w e st u there =
     let n = (keys s es js w e st).numbers u in
     let serial = n.serial in
@@ -234,10 +238,12 @@ few_changes s es js w e st u there =
     let few = st.few in
     record { there = there; serial = omega (arith, serial, few); boot = omega (arith, boot, few); bound = n.bound }
 
-pub are_filed : (s : Scenario) (es : List Event) (js : List Entry) (c : Scene) (e : Event) → Stands s es js (world_in c) e → (u : NodeId) → AreFiled s c.keys c.nodes u
+pub are_filed : (s : Scenario) (es : List Event) (js : List Entry) (c : Scene) (e : Event) → Stands s es js (world_in c) e → (u : NodeId)
+    → AreFiled s c.keys c.nodes u
 are_filed s es js c e st u on n at =
     let file = ((keys s es js (world_in c) e st).files on).nodes u n at in
-    let is = (signs (arts_of (setting_of s)) (setting_of s) es js (world_in c) (fits s es js (world_in c) e st) (format_carries s.format) st.clean).nodes u n at in
+    let is = (signs (arts_of (setting_of s)) (setting_of s) es js (world_in c) (fits s es js (world_in c) e st) (format_carries s.format) st.clean).nodes u n
+    at in
     record { me = ap (λ (f : Fixed). f.me) is.fixed; file = few_changes s es js (world_in c) e st u file.there; bound = file.bound; total = is.total }
 
 pub can_begin : (s : Scenario) (es : List Event) (js : List Entry) (c : Scene) (e : Event) (u : NodeId) → Stands s es js (world_in c) e → e ≡ events.Start u

@@ -1,5 +1,6 @@
 -- What a start, a stop, a reserve and a miss make of the scene is what the rules of runs say.
-use Rattle.std.proofs.Common.{◌≡◌, ℕ, ◌<◌, Bool, true, false, cond, List, [], ◌∷◌, ◌++◌, Option, None, Some, Ok, Err, refl, sym, ap, ap₂, ◌∙◌, subst, arith, inl, inr}
+use Rattle.std.proofs.Common.{◌≡◌, ℕ, ◌<◌, Bool, true, false, cond, List, [], ◌∷◌, ◌++◌, Option, None, Some, Ok, Err, refl, sym, ap, ap₂, ◌∙◌, subst, arith}
+use Rattle.std.proofs.Common.{inl, inr}
 use Rattle.std.specs.Prelude.{◌-◌, ◌&&◌, nat_lt}
 use Rattle.std.proofs.lemmas.Bool.Decides.{nat_tests}
 use Rattle.sp_keystate.specs.declared.starts.TheConstants.{LEAST_LEFT}
@@ -39,7 +40,8 @@ may_start s keys u start next =
 
 pub is_started : (s : Scenario) (old new : Scene) (u : NodeId) (next taken : Started) (n : NodeState) (entry : Entry)
     → IsNext (setting_of s).total u old.keys (Ok next) → Starts (setting_of s).total u old.keys new.keys (Ok taken)
-    → n ≡ node_at_start (arts_of (setting_of s)) (setting_of s) u next → new.nodes ≡ old.nodes ++ n ∷ [] → new.directions ≡ old.directions → new.crafters ≡ old.crafters
+    → n ≡ node_at_start (arts_of (setting_of s)) (setting_of s) u next → new.nodes ≡ old.nodes ++ n ∷ [] → new.directions ≡ old.directions
+    → new.crafters ≡ old.crafters
     → new.published ≡ old.published
     → entry.reply ≡ replies.Started taken.boot taken.index
     → entry.effects ≡ start_effects (arts_of (setting_of s)) (fixed_at (setting_of s) u next.boot)
@@ -186,7 +188,8 @@ module _ (s : Scenario) (keys : List Numbers) (nodes : List NodeState) (ds : Lis
   some_left n filed few =
       let bound = filed.bound in
       let total = filed.total in
-      let below : n.signer.bound < n.signer.total = grind (arith, nat_tests, right_true (nat_lt (n.signer.bound - n.signer.index) LEAST_LEFT) (nat_lt n.signer.bound n.signer.total) few) in
+      let below : n.signer.bound < n.signer.total =
+      grind (arith, nat_tests, right_true (nat_lt (n.signer.bound - n.signer.index) LEAST_LEFT) (nat_lt n.signer.bound n.signer.total) few) in
       omega (arith, bound, total, below)
     where
       right_true : (a b : Bool) → (a && b) ≡ true → b ≡ true

@@ -54,6 +54,7 @@ pub record IsFound (s : Scenario) (es : List Event) (js : List Entry) (nodes : L
       → forged (arts_of (setting_of s)) (setting_of s) es js (world_of keys nodes directions crafted last) old (Datagram u bytes) output ≡ Some what
   pub nodes_are : after ≡ without_node nodes v
 
+-- what becomes of a datagram that arrives
 abbrev pub Arrives : Scenario → List Event → List Entry → List NodeState → List Direction → (u v : NodeId) → List ℕ → Done → List NodeState → Type 0
 Arrives s es js nodes directions u v bytes (dones.Told entry) after = IsHeard s es js nodes directions u v bytes entry after
 Arrives s es js nodes directions u v bytes (dones.Forged what told) after = IsFound s es js nodes directions u v bytes what after × (told ≡ what)

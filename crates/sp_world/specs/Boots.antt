@@ -21,6 +21,7 @@ use Rattle.sp_topology.specs.Neighbours.{neighbours_from}
 abbrev pub seed_key : Scenario → ℕ → SeedKey
 seed_key s u = record { height = param_of s.height; seed = node_seed s.seed u }
 
+-- what all starts of a run share
 pub record Home : Type 0 where
   pub seeds : List SeedKey
   pub administrator : Administrator

@@ -44,7 +44,8 @@ IsLeft x (Some refusals.Memory) last now = (event : Event) × IsUndone x last ev
 IsLeft x (Some (refusals.Forged number what)) last now = (u : NodeId) × IsWithout last u now
 
 -- The events are a run in which nothing is forged, and the entries are its journal. The nodes and frames are those at the end of the run, also
--- where the world has stopped for want of memory, but that the node of the event that wasn't done may have reserved indexes. Where something of the next event is forged, the node that acted in it is gone.
+-- where the world has stopped for want of memory, but that the node of the event that wasn't done may have reserved indexes. Where something of the next event
+-- is forged, the node that acted in it is gone.
 pub record IsPast (p : Past) : Type 0 where
   pub header : IsHeader p.scenario
   pub last : World

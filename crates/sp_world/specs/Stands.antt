@@ -124,12 +124,14 @@ pub record IsMoved (x : Setting) (es : List Event) (js : List Entry) (w : World)
   pub move : Move (arts_of x) x w event entry new
   pub unforged : forged (arts_of x) x es js w move.node move.input move.output ≡ None
 
+-- an event that is forged: what its move would be, and what of it is forged
 pub record IsMovedBy (x : Setting) (es : List Event) (js : List Entry) (w : World) (event : Event) (what : What) : Type 0 where
   pub entry : Entry
   pub new : World
   pub move : Move (arts_of x) x w event entry new
   pub found : forged (arts_of x) x es js w move.node move.input move.output ≡ Some what
 
+-- what becomes of a run by one more event
 abbrev pub MovesTo : Setting → List Event → List Entry → World → Event → Done → World → Type 0
 MovesTo x es js w event (dones.Told entry) new = IsMoved x es js w event entry new
 MovesTo x es js w event (dones.Forged what told) new = IsMovedBy x es js w event what × ((told ≡ what) × IsWithout w (acting event) new)

@@ -32,6 +32,7 @@ before_end test (y ∷ xs) some = go (test y) refl (before_end test xs) some
     go true is more some = rw is (omega arith)
     go false is more some = let rest = more (rw is at some) in rw is (omega (arith, rest))
 
+-- where some item passes there is its place
 pub place_of_any : {X : Type 0} (test : X → Bool) (xs : List X) → list_any test xs ≡ true → (place : ℕ) × (position test xs ≡ Some place)
 place_of_any test xs some =
     let within = before_end test xs some in
@@ -68,7 +69,8 @@ pub found_at : (nodes : List NodeState) (u : NodeId) (place : ℕ) (old : NodeSt
     → node_in nodes u ≡ Some old
 found_at nodes u place old at is = rw (find-position (is_me u) old nodes place at) (ap Some (sym is))
 
-pub set_at : (nodes : List NodeState) (u : NodeId) (place : ℕ) (new : NodeState) → position (is_me u) nodes ≡ Some place → set nodes place new ≡ with_node nodes u new
+pub set_at : (nodes : List NodeState) (u : NodeId) (place : ℕ) (new : NodeState) → position (is_me u) nodes ≡ Some place
+    → set nodes place new ≡ with_node nodes u new
 set_at nodes u place new at = sym (replace_where-position (is_me u) new nodes place at)
 
 -- where the node in a place stays as it is, so do all

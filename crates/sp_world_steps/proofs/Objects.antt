@@ -181,6 +181,7 @@ where_are format pieces (replies.OtherTopology theirs) h = none_are format
 where_are format pieces (replies.Section refused) h = none_are format
 where_are format pieces replies.Withdrawn h = none_are format
 
+-- the objects that a datagram brings are in the ranges of their format
 pub handled_are : (format : ℕ) (n : NodeState) (u : NodeId) (bytes : List ℕ) → AreBytes bytes
     → AreObjects format (map (λ a. a.0) (handled (format_in format) n u bytes).answered)
 handled_are format n u bytes are =
@@ -199,7 +200,8 @@ items_in _ = []
 items_are : (n new : NodeState) (u : NodeId) (bytes : List ℕ) (step : Step Taken) → call_refusal n u ≡ None → GaveTaken n u bytes step new
     → step.reply.items ≡ map (λ a. a.1) (handled (format_of n.fixed) n u bytes).answered
     ++ document_items (format_of n.fixed) (before_document (format_of n.fixed) n u bytes) (document_at (format_of n.fixed) n u bytes)
-items_are n new u bytes step called gave = ap (λ (o : Output). items_in o.reply) (gave.0 ∙ ap (λ r. refused_call r (arrived (format_of n.fixed) n u bytes)) called)
+items_are n new u bytes step called gave =
+    ap (λ (o : Output). items_in o.reply) (gave.0 ∙ ap (λ r. refused_call r (arrived (format_of n.fixed) n u bytes)) called)
 
 pub few_items : (n new : NodeState) (u : NodeId) (bytes : List ℕ) (step : Step Taken) → AreBytes bytes → call_refusal n u ≡ None → GaveTaken n u bytes step new
     → length step.reply.items ≤ MOST_OBJECTS

@@ -23,7 +23,8 @@ use Rattle.sp_runs.specs.Journals.{body_word, replaced_word}
 use Rattle.sp_world_steps.specs.Gave.{Gave, HasWords}
 
 -- after want of memory a node is as before
-pub memory_by_send : (input : Input) (refusal : Option SendRefused) (old new : NodeState) (done : Result (Step ℕ) SendRefused) → Sends input refusal old done new
+pub memory_by_send : (input : Input) (refusal : Option SendRefused) (old new : NodeState) (done : Result (Step ℕ) SendRefused)
+    → Sends input refusal old done new
     → done ≡ Err sends.Memory → new ≡ old
 memory_by_send input refusal old new done gave is = (subst (λ (d : Result (Step ℕ) SendRefused). Sends input refusal old d new) is gave).1
 
@@ -40,7 +41,8 @@ words_by_send input refusal old new (Err (sends.Spent index)) has gave = λ othe
 words_by_send input refusal old new (Err (sends.NotReserved bound)) has gave = λ other. has.words (replied (Refused (sends.NotReserved bound))) new gave
 
 -- a send that is refused, with the word of its refusal
-refused_gave : (input : Input) (old new : NodeState) (refused : SendRefused) (entry : Entry) → NodeStep (format_of old.fixed) old input (replied (Refused refused)) new
+refused_gave : (input : Input) (old new : NodeState) (refused : SendRefused) (entry : Entry)
+    → NodeStep (format_of old.fixed) old input (replied (Refused refused)) new
     → refused_word refused ≡ Some entry.reply → entry.effects ≡ [] → Gave old input entry new
 refused_gave input old new refused entry step word effects = record {
   output = replied (Refused refused);
@@ -59,10 +61,12 @@ gave_by_send input refusal old new (sends.Expired now) entry word effects gave =
 gave_by_send input refusal old new (sends.NoPaths found) entry word effects gave = refused_gave input old new (sends.NoPaths found) entry gave word effects
 gave_by_send input refusal old new (sends.Low least) entry word effects gave = refused_gave input old new (sends.Low least) entry gave word effects
 gave_by_send input refusal old new (sends.Spent index) entry word effects gave = refused_gave input old new (sends.Spent index) entry gave word effects
-gave_by_send input refusal old new (sends.NotReserved bound) entry word effects gave = refused_gave input old new (sends.NotReserved bound) entry gave word effects
+gave_by_send input refusal old new (sends.NotReserved bound) entry word effects gave =
+    refused_gave input old new (sends.NotReserved bound) entry gave word effects
 
 -- a call that is answered is refused for want of memory alone
-pub memory_by_poll : (old : NodeState) (v : NodeId) (new : NodeState) (refused : NodeRefused) → call_refusal old v ≡ None → Polls old v (Err refused) new → new ≡ old
+pub memory_by_poll : (old : NodeState) (v : NodeId) (new : NodeState) (refused : NodeRefused) → call_refusal old v ≡ None → Polls old v (Err refused) new
+    → new ≡ old
 memory_by_poll old v new calls.NotNeighbour called gave =
     let e = ap (λ (o : Output). o.reply) (gave.0 ∙ ap (λ r. refused_call r (replied (Frame (frame_to (format_of old.fixed) old v)))) called) in absurd (cc)
 memory_by_poll old v new calls.Worn called gave =

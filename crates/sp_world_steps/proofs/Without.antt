@@ -9,7 +9,8 @@ use Rattle.sp_rules.specs.Node.{NodeState}
 use Rattle.sp_runs.specs.Worlds.{is_me, with_node, without_node}
 use Rattle.sp_world_steps.proofs.Among.{place_of_any}
 
-removed_first : (nodes : List NodeState) (u : NodeId) (place : ℕ) (d : NodeState) → IsFirstAt (is_me u) nodes place d → remove nodes place ≡ without_node nodes u
+removed_first : (nodes : List NodeState) (u : NodeId) (place : ℕ) (d : NodeState) → IsFirstAt (is_me u) nodes place d
+    → remove nodes place ≡ without_node nodes u
 removed_first [] u place d first = absurd (omega (arith, first.within))
 removed_first (n ∷ nodes) u zero d first = rw first.passes refl
 removed_first (n ∷ nodes) u (suc place) d first =
@@ -19,7 +20,8 @@ removed_first (n ∷ nodes) u (suc place) d first =
       before = λ k below. first.before (suc k) (omega arith);
     })))
 
-pub removed_at : (nodes : List NodeState) (u : NodeId) (place : ℕ) (d : NodeState) → position (is_me u) nodes ≡ Some place → remove nodes place ≡ without_node nodes u
+pub removed_at : (nodes : List NodeState) (u : NodeId) (place : ℕ) (d : NodeState) → position (is_me u) nodes ≡ Some place
+    → remove nodes place ≡ without_node nodes u
 removed_at nodes u place d at = removed_first nodes u place d (is_first (is_me u) nodes place d at)
 
 none_there : (nodes : List NodeState) (u : NodeId) → list_any (is_me u) nodes ≡ false → without_node nodes u ≡ nodes
@@ -39,7 +41,8 @@ none_removed nodes u none = go (list_any (is_me u) nodes) refl
     go false no_one = none_there nodes u no_one
 
 -- they don't know what became of it
-pub without_is_same : (nodes : List NodeState) (u : NodeId) (new : NodeState) → is_me u new ≡ true → without_node (with_node nodes u new) u ≡ without_node nodes u
+pub without_is_same : (nodes : List NodeState) (u : NodeId) (new : NodeState) → is_me u new ≡ true
+    → without_node (with_node nodes u new) u ≡ without_node nodes u
 without_is_same [] u new me = refl
 without_is_same (n ∷ nodes) u new me = go (is_me u n) refl (without_is_same nodes u new me)
   where

@@ -29,9 +29,11 @@ ended_of left past status before after said claims = record {
   only_usage = claims.only_usage;
 }
 
-pub ended : (words : List (List ℕ)) (left l : Option (List ℕ)) (past : Option Past) (status : Status) (w0 w1 : Option (List Call)) (k0 k1 : Option (List ℕ)) (f0 f1 : KeptFile)
+pub ended : (words : List (List ℕ)) (left l : Option (List ℕ)) (past : Option Past) (status : Status) (w0 w1 : Option (List Call)) (k0 k1 : Option (List ℕ))
+    (f0 f1 : KeptFile)
     (b0 b1 t0 t1 : Option (List ℕ)) → l ≡ left → t0 ≡ b0 → t1 ≡ b1
-    → BySaid words (λ said. SaidClaims said l past status (record { wire = w0; clock = k0; text = t0; file = f0 }) (record { wire = w1; clock = k1; text = t1; file = f1 }))
+    → BySaid words
+    (λ said. SaidClaims said l past status (record { wire = w0; clock = k0; text = t0; file = f0 }) (record { wire = w1; clock = k1; text = t1; file = f1 }))
     → BySaid words (λ said. SaidEnded said left past status b0 b1)
 ended words left l past status w0 w1 k0 k1 f0 f1 b0 b1 t0 t1 read before after is =
     let o0 : Outside = record { wire = w0; clock = k0; text = t0; file = f0 } in
@@ -44,7 +46,8 @@ ended words left l past status w0 w1 k0 k1 f0 f1 b0 b1 t0 t1 read before after i
     subst R after (subst Q before (subst P read told))
 
 -- a source that failed is a reader that failed
-pub broken : (words : List (List ℕ)) (left l rest m : Option (List ℕ)) (past : Option Past) (status : Status) (b0 b1 t0 t1 : Option (List ℕ)) → l ≡ left → m ≡ rest
+pub broken : (words : List (List ℕ)) (left l rest m : Option (List ℕ)) (past : Option Past) (status : Status) (b0 b1 t0 t1 : Option (List ℕ)) → l ≡ left
+    → m ≡ rest
     → t0 ≡ b0 → t1 ≡ b1 → BySaid words (λ said. said ≡ Some commands.Replay → status ≡ statuses.Source → IsBrokenOff l m past t0 t1)
     → BySaid words (λ said. said ≡ Some commands.Replay → status ≡ statuses.Source → IsBrokenOff left rest past b0 b1)
 broken words left l rest m past status b0 b1 t0 t1 read left_over before after is = rw (← read, ← left_over, ← before, ← after) is

@@ -10,11 +10,13 @@ returns-then-is_end c = End_line (c.is_end.ensures.0 c.if-is_end.true)
 
 pub returns-in_default : goal.returns-in_default
 returns-in_default c =
-    No_form (λ form. elim form [ inl edge ↦ c.in_default.ensures.none edge.0 edge.1 edge.2 edge.3 | inr end ↦ iff_false c.is_end.ensures c.if-is_end.false end ])
+    No_form (λ form. elim form
+    [ inl edge ↦ c.in_default.ensures.none edge.0 edge.1 edge.2 edge.3 | inr end ↦ iff_false c.is_end.ensures c.if-is_end.false end ])
 
 pub returns-in_err-edge : goal.returns-in_err-edge
 returns-in_err-edge c =
-    bad_edge c.args.format c.args.graph _ _ c.in-Some.low.now c.in-Some.high.now c.in-Some.weight.now c.from_residual.result c.in_err-edge.field-0.0 c.from_residual.ensures.1
+    bad_edge c.args.format c.args.graph _ _ c.in-Some.low.now c.in-Some.high.now c.in-Some.weight.now c.from_residual.result c.in_err-edge.field-0.0
+    c.from_residual.ensures.1
     c.in-Some.ensures.found c.in_err-edge.ensures.fields
 
 pub returns-then-not-is_next : goal.returns-then-not-is_next

@@ -11,7 +11,8 @@ returns-in_default c = No_form (λ form. c.in_default.ensures.none form.0 form.1
 
 pub returns-in_err-nodes : goal.returns-in_err-nodes
 returns-in_err-nodes c =
-    bad_nodes c.args.format _ _ c.in-Some.word.now c.from_residual.result c.in_err-nodes.field-0.0 c.from_residual.ensures.1 c.in-Some.ensures.found c.in_err-nodes.ensures.field
+    bad_nodes c.args.format _ _ c.in-Some.word.now c.from_residual.result c.in_err-nodes.field-0.0 c.from_residual.ensures.1 c.in-Some.ensures.found
+    c.in_err-nodes.ensures.field
 
 pub returns : goal.returns
 returns c =

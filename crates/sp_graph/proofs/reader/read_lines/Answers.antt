@@ -12,19 +12,24 @@ words-requires c =
 
 pub returns-in_err-line : goal.returns-in_err-line
 returns-in_err-line c =
-    line_refused c.args.text.now c.lines.stage c.lines.count c.lines.lines c.next.new.self c.from_residual.result c.in_err-line.field-0.0 c.lines.invariant.goes_on c.lines.invariant.given
+    line_refused c.args.text.now c.lines.stage c.lines.count c.lines.lines c.next.new.self c.from_residual.result c.in_err-line.field-0.0
+    c.lines.invariant.goes_on c.lines.invariant.given
     c.in_err-line.ensures c.from_residual.ensures.1
 
 pub returns-in_err-words : goal.returns-in_err-words
 returns-in_err-words c =
-    words_refused (λ (ws : List Word). ws) c.args.text.now c.lines.stage c.lines.count c.lines.lines c.next.new.self c.in-Some.line c.from_residual-in_err-words.result c.in_err-words.field-0.0
+    words_refused (λ (ws : List Word). ws) c.args.text.now c.lines.stage c.lines.count c.lines.lines c.next.new.self c.in-Some.line
+    c.from_residual-in_err-words.result c.in_err-words.field-0.0
     c.lines.invariant.goes_on c.lines.invariant.given (rw c.in-Some.is at c.in_ok-line.ensures) c.in_err-words.ensures c.from_residual-in_err-words.ensures.1
 
 pub returns-in_err-stage : goal.returns-in_err-stage
 returns-in_err-stage c =
-    stage_refused c.args.text.now c.lines.stage c.lines.count c.lines.lines c.next.new.self c.in-Some.line (map (λ w. w.now) c.as_slice.result.now) c.from_residual-in_err-stage.result
-    c.in_err-stage.field-0.0 c.lines.invariant.goes_on c.lines.invariant.given (rw c.in-Some.is at c.in_ok-line.ensures) (rw c.as_slice.ensures.value c.in_ok-words.ensures)
-    (subst (λ (f : ℕ). UnlessMemory (Says f (c.lines.count + 1) (map (λ w. w.now) c.as_slice.result.now) c.lines.stage) (Err c.in_err-stage.field-0.0)) c.requires.format
+    stage_refused c.args.text.now c.lines.stage c.lines.count c.lines.lines c.next.new.self c.in-Some.line (map (λ w. w.now) c.as_slice.result.now)
+    c.from_residual-in_err-stage.result
+    c.in_err-stage.field-0.0 c.lines.invariant.goes_on c.lines.invariant.given (rw c.in-Some.is at c.in_ok-line.ensures)
+    (rw c.as_slice.ensures.value c.in_ok-words.ensures)
+    (subst (λ (f : ℕ). UnlessMemory (Says f (c.lines.count + 1) (map (λ w. w.now) c.as_slice.result.now) c.lines.stage) (Err c.in_err-stage.field-0.0))
+    c.requires.format
     c.in_err-stage.ensures) c.from_residual-in_err-stage.ensures.1
 
 pub lines-smaller : goal.lines-smaller
@@ -39,7 +44,8 @@ lines-preserved c =
     record {
       given = takes.1 ∙ ap (λ (n : ℕ). n + 1) c.lines.invariant.given;
       fits = omega (arith, line.less, c.lines.invariant.fits);
-      goes_on = goes_on c.args.text.now c.lines.stage c.in_ok-stage.stage c.lines.count c.lines.lines c.next.new.self c.in-Some.line (map (λ w. w.now) c.as_slice.result.now)
+      goes_on = goes_on c.args.text.now c.lines.stage c.in_ok-stage.stage c.lines.count c.lines.lines c.next.new.self c.in-Some.line
+          (map (λ w. w.now) c.as_slice.result.now)
           c.lines.invariant.goes_on c.lines.invariant.given takes (rw c.as_slice.ensures.value c.in_ok-words.ensures)
           (rw c.requires.format at c.in_ok-stage.ensures);
     }

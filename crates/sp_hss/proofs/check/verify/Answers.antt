@@ -41,7 +41,8 @@ returns-in-2-eq1 c =
     let sig = c.args.sig.now in
     let key = take (length public - 4) (drop 4 public) in
     let rest = take (length sig - 4) (drop 4 sig) in
-    let told : (IsTrue c.verify_below.result → IsSignedBelow key msg rest) × (IsSignedBelow key msg rest → IsTrue c.verify_below.result) = c.verify_below.ensures in
+    let told : (IsTrue c.verify_below.result → IsSignedBelow key msg rest) × (IsSignedBelow key msg rest → IsTrue c.verify_below.result) =
+    c.verify_below.ensures in
     let ways = rw (take_rest public 4, take_rest sig 4) at told in (
       λ right. inr record { levels = sym c.u32_at.ensures ∙ c.in-2-eq1.is-0; levels_below = sym c.u32_at-2.ensures ∙ c.in-2-eq1.is-1; signed = ways.0 right },
       λ valid. elim valid [

@@ -27,7 +27,8 @@ returns-in_default-read c =
     let none = c.in_default-read.ensures in (
       λ right. cc,
       λ signed.
-          let at = signed_at key.lms key.ots signed.0 signed.1 signed.2 c.args.upper_key.now c.args.msg.now c.args.sig.now c.in-Some.ensures.some.types signed.3 in
+          let at = signed_at key.lms key.ots signed.0 signed.1 signed.2 c.args.upper_key.now c.args.msg.now c.args.sig.now c.in-Some.ensures.some.types
+          signed.3 in
           let valid : tree.IsValid (take (place + 56 - place) (drop place c.args.sig.now)) c.args.msg.now (drop (place + 56) c.args.sig.now) =
           rw (size, c.sig_len-place.ensures) at.lower_valid in
           absurd (none.none refl valid.0 valid.1 valid.2),

@@ -16,4 +16,5 @@ returns-clause-front c =
     ∙ ap (λ (v : Growing). keys.public_key v.lms v.ots v.id v.seed) c.requires.next in
     c.write_front.ensures.front
     ∙ ap (λ (k : List ℕ). u32str 1 ++ keys.signature upper.lms upper.ots upper.id upper.seed upper.used k ++ k) key
-    ∙ ap (λ (v : Key). (let k = tree_key upper.lms c.args.seed.now (Lower upper.used) in u32str 1 ++ keys.signature v.lms v.ots v.id v.seed v.used k ++ k)) c.requires.upper
+    ∙ ap (λ (v : Key). (let k = tree_key upper.lms c.args.seed.now (Lower upper.used) in u32str 1 ++ keys.signature v.lms v.ots v.id v.seed v.used k ++ k))
+    c.requires.upper

@@ -8,4 +8,5 @@ unfolding u32str
 returns c =
     let code = c.copy_from_slice.ensures.after ∙ c.to_be_bytes.ensures in
     let first : length c.copy_from_slice.new.self ≡ 4 = ap length code in
-    last_written c.copy_from_slice.new.self c.copy_from_slice-2.new.self (replicate 56 0) 4 56 first (omega arith) ∙ rw (code, c.copy_from_slice-2.ensures.after) refl
+    last_written c.copy_from_slice.new.self c.copy_from_slice-2.new.self (replicate 56 0) 4 56 first (omega arith)
+    ∙ rw (code, c.copy_from_slice-2.ensures.after) refl

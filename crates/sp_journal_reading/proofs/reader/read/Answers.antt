@@ -31,6 +31,7 @@ lines-preserved c =
     record {
       given = takes.0 ∙ ap (λ (n : ℕ). n + 1) c.lines.invariant.given;
       fits = omega (arith, takes.1, c.lines.invariant.fits);
-      goes_on = leads_on_from c.args.text.now c.lines.stage c.in-Ok.next c.lines.count c.lines.lines.rest c.next_words.new.lines.rest _ c.lines.invariant.goes_on
+      goes_on = leads_on_from c.args.text.now c.lines.stage c.in-Ok.next c.lines.count c.lines.lines.rest c.next_words.new.lines.rest _
+          c.lines.invariant.goes_on
           (rw c.lines.invariant.given at takes.2) (rw c.as_slice.ensures.value at c.in-Ok.ensures);
     }

@@ -13,7 +13,8 @@ returns-clause-file g c = formats _ _ _ c.in-Ok.found c.in-Ok.ensures.found (sym
 
 pub returns-clause-stands : goal.returns-clause-stands
 returns-clause-stands g c =
-    format_stands _ _ c.found.result (formats _ _ _ c.in-Ok.found c.in-Ok.ensures.found (sym c.is_some.ensures ∙ c.if-is_some.false) c.in-Ok-change.ensures.done)
+    format_stands _ _ c.found.result
+    (formats _ _ _ c.in-Ok.found c.in-Ok.ensures.found (sym c.is_some.ensures ∙ c.if-is_some.false) c.in-Ok-change.ensures.done)
     c.found.ensures.state c.found.ensures.current
 
 pub returns-in_default-change-clause-moments : goal.returns-in_default-change-clause-moments
@@ -21,4 +22,5 @@ returns-in_default-change-clause-moments g c = format_changing _ _ _ _ _ _ c.in-
 
 pub returns-clause-safe : goal.returns-clause-safe
 returns-clause-safe g c =
-    formats_safely _ _ c.found.result (formats _ _ _ c.in-Ok.found c.in-Ok.ensures.found (sym c.is_some.ensures ∙ c.if-is_some.false) c.in-Ok-change.ensures.done) c.found.ensures.state
+    formats_safely _ _ c.found.result
+    (formats _ _ _ c.in-Ok.found c.in-Ok.ensures.found (sym c.is_some.ensures ∙ c.if-is_some.false) c.in-Ok-change.ensures.done) c.found.ensures.state

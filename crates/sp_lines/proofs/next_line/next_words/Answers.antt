@@ -3,7 +3,9 @@ use Rattle.sp_lines.proofs.NextLemmas.{line_refused, taken, words_refused, words
 use Rattle.sp_lines.proofs.next_line.next_words.Goals as goal
 
 pub returns-in_err-line : goal.returns-in_err-line
-returns-in_err-line c = line_refused _ c.args.lines.now c.next.new.self c.next.new.self c.in_err-line.field-0.0 c.from_residual.result c.in_err-line.ensures c.from_residual.ensures.1
+returns-in_err-line c =
+    line_refused _ c.args.lines.now c.next.new.self c.next.new.self c.in_err-line.field-0.0 c.from_residual.result c.in_err-line.ensures
+    c.from_residual.ensures.1
 
 pub words-requires : goal.words-requires
 words-requires c =
@@ -12,7 +14,8 @@ words-requires c =
 
 pub returns-in_err-words : goal.returns-in_err-words
 returns-in_err-words c =
-    words_refused _ c.args.lines.now c.next.new.self c.next.new.self c.in-Some.line c.in_err-words.field-0.0 c.from_residual-in_err-words.result (rw c.in-Some.is at c.in_ok-line.ensures)
+    words_refused _ c.args.lines.now c.next.new.self c.next.new.self c.in-Some.line c.in_err-words.field-0.0 c.from_residual-in_err-words.result
+    (rw c.in-Some.is at c.in_ok-line.ensures)
     c.in_err-words.ensures c.from_residual-in_err-words.ensures.1
 
 pub returns : goal.returns

@@ -7,4 +7,5 @@ use Rattle.sp_lines.proofs.number_list.pieces.Goals as goal
 pub returns : goal.returns
 returns c =
     IfOk-at_ok _ c.in_ok-collect.was (map_from_collect _ c.collect.ensures.ran
-    (YieldsList-from_slice_split _ (λ b. b == 44) c.args.word.now c.split.ensures.rest c.split.ensures.done c.split.ensures.closure (λ x r q k. search (rules, tests))))
+    (YieldsList-from_slice_split _ (λ b. b == 44) c.args.word.now c.split.ensures.rest c.split.ensures.done c.split.ensures.closure
+    (λ x r q k. search (rules, tests))))

@@ -31,10 +31,12 @@ returns-then-is_above c =
     let b = c.in-Some-Some.ensures' in
     let by_first = valid_within first.key.now.lms first.key.now.ots first.key.now.id first.key.now.root first.msg.now first.sig.now
     one.param one.id.now one.q one.msg.now one.sig.now c.in-Some.keys.0
-    (record { form_is = a.form; param_is = a.key.0; id_is = a.key.1; leaf_is = a.leaf; message_is = a.signature.0; part_is = a.signature.1 }) c.in-Some.ensures.first in
+    (record { form_is = a.form; param_is = a.key.0; id_is = a.key.1; leaf_is = a.leaf; message_is = a.signature.0; part_is = a.signature.1 })
+    c.in-Some.ensures.first in
     let by_second = valid_within second.key.now.lms second.key.now.ots second.key.now.id second.key.now.root second.msg.now second.sig.now
     other.param other.id.now other.q other.msg.now other.sig.now c.in-Some.keys.1
-    (record { form_is = b.form; param_is = b.key.0; id_is = b.key.1; leaf_is = b.leaf; message_is = b.signature.0; part_is = b.signature.1 }) c.in-Some.ensures.second in (
+    (record { form_is = b.form; param_is = b.key.0; id_is = b.key.1; leaf_is = b.leaf; message_is = b.signature.0; part_is = b.signature.1 })
+    c.in-Some.ensures.second in (
       λ right. (by_first.0 (c.is_above.ensures.0 c.if-is_above.true), by_second.0 (c.is_above-then-is_above.ensures.0 right)),
       λ valid. c.is_above-then-is_above.ensures.1 (by_second.1 valid.1),
     )
@@ -46,7 +48,8 @@ returns-else-is_above c =
     let a = c.in-Some-Some.ensures in
     let by_first = valid_within first.key.now.lms first.key.now.ots first.key.now.id first.key.now.root first.msg.now first.sig.now
     one.param one.id.now one.q one.msg.now one.sig.now c.in-Some.keys.0
-    (record { form_is = a.form; param_is = a.key.0; id_is = a.key.1; leaf_is = a.leaf; message_is = a.signature.0; part_is = a.signature.1 }) c.in-Some.ensures.first in (
+    (record { form_is = a.form; param_is = a.key.0; id_is = a.key.1; leaf_is = a.leaf; message_is = a.signature.0; part_is = a.signature.1 })
+    c.in-Some.ensures.first in (
       λ right. cc,
       λ valid. c.is_above.ensures.1 (by_first.1 valid.0),
     )

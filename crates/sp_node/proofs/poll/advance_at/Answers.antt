@@ -9,4 +9,5 @@ pub returns : goal.returns
 returns c = λ (none : Link).
     let links = c.args.links.now.items in
     let read = first_where-read (is_link c.args.v) none links c.args.place c.index_mut-link.result.now c.requires.place c.index_mut-link.ensures.value in
-    ap (slice_set links c.args.place) (c.advance.ensures ∙ ap advanced (sym read)) ∙ sym (replace_where-position (is_link c.args.v) _ links c.args.place c.requires.place)
+    ap (slice_set links c.args.place) (c.advance.ensures ∙ ap advanced (sym read))
+    ∙ sym (replace_where-position (is_link c.args.v) _ links c.args.place c.requires.place)

@@ -40,6 +40,7 @@ returns c =
     ∙ ap (pointwise is_same_node t.nodes) c.as_slice.ensures)
     (c.have_same_ends.ensures ∙ ap (λ (es : List Edge). pointwise has_same_ends es c.as_slice-2.result.now) c.as_slice-edges.ensures
     ∙ ap (pointwise has_same_ends t.edges) c.as_slice-2.ensures)
-    (c.one_returns.ensures ∙ ap (λ (es : List Edge). list_any (comes_back es (under c.as_slice-4.result.now c.as_slice-5.result.now)) c.as_slice-nodes.result.now) now
+    (c.one_returns.ensures
+    ∙ ap (λ (es : List Edge). list_any (comes_back es (under c.as_slice-4.result.now c.as_slice-5.result.now)) c.as_slice-nodes.result.now) now
     ∙ ap (λ (es : List Edge). list_any (comes_back (under t.edges l.weights) es) c.as_slice-nodes.result.now) later
     ∙ ap (list_any (comes_back (under t.edges l.weights) u.edges)) c.as_slice-nodes.ensures)

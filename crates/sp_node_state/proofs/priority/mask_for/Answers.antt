@@ -26,7 +26,8 @@ choose-requires-clause-small c =
     let n = c.args.state.now in
     subst (λ (n : NodeState). (edge : ℕ) → effective n.parts.weights edge ≤ MAX_WEIGHT) (sym c.state.view_is)
     (effective_small (sizes n) n.signer.index n.parts.weights
-    (subst (λ (least : List ℕ). All (λ weight. weight ≤ MAX_WEIGHT) least) (sym c.requires.obeys.least) c.requires.kept.live.weights) c.requires.kept.parts.weights)
+    (subst (λ (least : List ℕ). All (λ weight. weight ≤ MAX_WEIGHT) least) (sym c.requires.obeys.least) c.requires.kept.live.weights)
+    c.requires.kept.parts.weights)
 
 pub choose-requires-clause-from : goal.choose-requires-clause-from
 choose-requires-clause-from c =

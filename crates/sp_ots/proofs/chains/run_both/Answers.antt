@@ -9,13 +9,17 @@ pub rounds-init : goal.rounds-init
 rounds-init c =
     let elements = c.args.elements.now in
     record {
-      under_way = c.fill.ensures.under_way elements (c.idle-lanes.ensures (front_in c.args.leaves.now) c.args.from.now c.args.to.now elements (λ i within. c.greatest.ensures i (omega (arith, c.requires.to))));
+      under_way = c.fill.ensures.under_way elements
+          (c.idle-lanes.ensures (front_in c.args.leaves.now) c.args.from.now c.args.to.now elements
+          (λ i within. c.greatest.ensures i (omega (arith, c.requires.to))));
       full = c.fill.ensures.full;
     }
 
 pub rounds-preserved : goal.rounds-preserved
 rounds-preserved c =
-    let stepped = c.step.ensures.under_way (front_in c.args.leaves.now) c.args.from.now c.args.elements.now (length-front_in c.args.leaves.now (omega arith) (omega arith)) c.rounds.invariant.under_way in
+    let stepped =
+    c.step.ensures.under_way (front_in c.args.leaves.now) c.args.from.now c.args.elements.now
+    (length-front_in c.args.leaves.now (omega arith) (omega arith)) c.rounds.invariant.under_way in
     record {
       under_way = c.fill-in-rounds.ensures.under_way c.args.elements.now stepped;
       full = c.fill-in-rounds.ensures.full;

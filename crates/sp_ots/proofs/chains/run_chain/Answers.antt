@@ -7,7 +7,8 @@ use Rattle.sp_ots.proofs.chains.run_chain.Goals as goal
 
 pub steps-init : goal.steps-init
 steps-init c =
-    let laid = begun c.args.id.now c.args.q c.args.i c.args.from c.args.element.now c.element_message-message.result c.told-id c.element_message-message.ensures in
+    let laid = begun c.args.id.now c.args.q c.args.i c.args.from c.args.element.now c.element_message-message.result c.told-id
+    c.element_message-message.ensures in
     record {
       long = omega arith;
       front = laid.0;

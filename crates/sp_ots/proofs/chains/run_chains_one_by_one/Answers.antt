@@ -6,7 +6,8 @@ use Rattle.sp_ots.proofs.chains.run_chains_one_by_one.Goals as goal
 
 pub chains-preserved : goal.chains-preserved
 chains-preserved c =
-    let f : ℕ → List ℕ = λ i. chain_end c.args.id.now c.args.q i (slice_index c.args.from.now i) (slice_index c.args.to.now i) (slice_index_or c.args.elements.now i []) in
+    let f : ℕ → List ℕ =
+    λ i. chain_end c.args.id.now c.args.q i (slice_index c.args.from.now i) (slice_index c.args.to.now i) (slice_index_or c.args.elements.now i []) in
     let i = c.chains.i in
     let was = c.args.elements.now in
     let now = c.chains.elements in
@@ -21,5 +22,6 @@ chains-preserved c =
 pub returns : goal.returns
 unfolding chain_ends
 returns c =
-    let f : ℕ → List ℕ = λ i. chain_end c.args.id.now c.args.q i (slice_index c.args.from.now i) (slice_index c.args.to.now i) (slice_index_or c.args.elements.now i []) in
+    let f : ℕ → List ℕ =
+    λ i. chain_end c.args.id.now c.args.q i (slice_index c.args.from.now i) (slice_index c.args.to.now i) (slice_index_or c.args.elements.now i []) in
     filled_all f c.chains.elements c.chains.i (length c.args.elements.now) (omega arith) (omega arith) (omega arith) c.chains.invariant.run

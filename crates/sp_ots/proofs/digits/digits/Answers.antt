@@ -14,6 +14,7 @@ pub chains-preserved : goal.chains-preserved
 unfolding digit
 chains-preserved c = record {
   long = omega (arith, length-set c.chains.digits c.chains.i c.coef.result);
-  made = filled_more (digit c.args.param c.args.hash.now) c.chains.digits c.chains.i c.coef.result (omega (arith, few_chains c.args.param)) c.chains.invariant.made
+  made = filled_more (digit c.args.param c.args.hash.now) c.chains.digits c.chains.i c.coef.result (omega (arith, few_chains c.args.param))
+      c.chains.invariant.made
       (c.coef.ensures.value ∙ ap (λ (string : List ℕ). coef string c.chains.i (width c.args.param)) c.with_checksum-string.ensures);
 }

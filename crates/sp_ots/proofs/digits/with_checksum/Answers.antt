@@ -9,4 +9,5 @@ unfolding u16str
 returns c =
     checksum_behind c.copy_from_slice.new.self c.copy_from_slice-2.new.self c.copy_from_slice.ensures.len
     ∙ ap (λ (hash : List ℕ). hash ++ c.copy_from_slice-2.new.self) c.copy_from_slice.ensures.after
-    ∙ ap (λ (check : List ℕ). c.args.hash.now ++ check) (c.copy_from_slice-2.ensures.after ∙ c.to_be_bytes.ensures ∙ ap (λ (n : ℕ). to_be_bytes w16 n) c.checksum.ensures)
+    ∙ ap (λ (check : List ℕ). c.args.hash.now ++ check)
+    (c.copy_from_slice-2.ensures.after ∙ c.to_be_bytes.ensures ∙ ap (λ (n : ℕ). to_be_bytes w16 n) c.checksum.ensures)

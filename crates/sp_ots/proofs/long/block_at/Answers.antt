@@ -20,9 +20,11 @@ returns c =
     ap length c.copy_from_slice.ensures.after ∙ length-take-le (end - start) (drop start m) (omega (arith, lo, hi, past, whole, length-drop start m)) in
     let long_second : length second ≡ 64 - (end - start) =
     ap length c.copy_from_slice-2.ensures.after
-    ∙ length-take-le (from + 64 - (end - start) - from) (drop from p) (omega (arith, lo, hi, past, whole, length-drop from p)) ∙ omega (arith, lo, hi, past, whole) in
+    ∙ length-take-le (from + 64 - (end - start) - from) (drop from p) (omega (arith, lo, hi, past, whole, length-drop from p))
+    ∙ omega (arith, lo, hi, past, whole) in
     let parts = block_of_parts m p first second c.args.n start end from
-    (λ l. omega (arith, lo, hi, past, whole, l)) (λ l. omega (arith, lo, hi, past, whole, l)) (λ l. omega (arith, lo, hi, past, whole, l)) (λ l. omega (arith, lo, hi, past, whole, l)) (omega (arith, lo, hi, past, whole))
+    (λ l. omega (arith, lo, hi, past, whole, l)) (λ l. omega (arith, lo, hi, past, whole, l)) (λ l. omega (arith, lo, hi, past, whole, l))
+    (λ l. omega (arith, lo, hi, past, whole, l)) (omega (arith, lo, hi, past, whole))
     c.copy_from_slice.ensures.after c.copy_from_slice-2.ensures.after in
     written_behind first second (end - start) long_first (omega (arith, lo, hi, past, whole)) long_second
     ∙ parts ∙ ap (λ (ps : List ℕ). take 64 (drop (c.args.n * 64) (m ++ ps))) c.requires.behind

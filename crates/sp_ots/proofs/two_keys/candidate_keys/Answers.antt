@@ -26,14 +26,17 @@ returns-clause-first c =
     let laid : AreLaid one.param one.id.now one.q one.msg.now one.sig.now (front_in leaves) from to elements 0 = record {
       room = omega (arith, c.requires.room, c.lay.ensures.long, c.lay-2.ensures.long);
       fronts = λ i within. let place : 0 + i ≡ i = omega arith in front_first leaves (0 + i) (before i within) ∙ ap (front_of one.id.now one.q) place;
-      digits = λ i within. get_or-take count c.lay-2.new.from (0 + i) 0 (omega (arith, c.requires.room)) ∙ c.lay-2.ensures.from_before (0 + i) (before i within) ∙ c.lay.ensures.from i within;
-      last = λ i within. get_or-take count c.lay-2.new.to (0 + i) 0 (omega (arith, c.requires.room)) ∙ c.lay-2.ensures.to_before (0 + i) (before i within) ∙ c.lay.ensures.to i within;
+      digits = λ i within. get_or-take count c.lay-2.new.from (0 + i) 0 (omega (arith, c.requires.room)) ∙ c.lay-2.ensures.from_before (0 + i) (before i within)
+          ∙ c.lay.ensures.from i within;
+      last = λ i within. get_or-take count c.lay-2.new.to (0 + i) 0 (omega (arith, c.requires.room)) ∙ c.lay-2.ensures.to_before (0 + i) (before i within)
+          ∙ c.lay.ensures.to i within;
       signed = λ i within. c.lay-2.ensures.elements_before (0 + i) (before i within) ∙ c.lay.ensures.elements i within;
     } in
     c.key_of_ends.ensures
     ∙ key_of_part one.param one.id.now one.q one.msg.now one.sig.now (front_in leaves) from to elements ends 0 _ laid c.run_both.ensures
     (length-take-le split ends (omega arith) ∙ c.chain_count-split.ensures)
-    (λ i within. get_or-take split ends i [] (omega (arith, c.chain_count-split.ensures)) ∙ (let place : i ≡ 0 + i = omega arith in ap (λ (n : ℕ). get_or ends n []) place))
+    (λ i within. get_or-take split ends i [] (omega (arith, c.chain_count-split.ensures))
+    ∙ (let place : i ≡ 0 + i = omega arith in ap (λ (n : ℕ). get_or ends n []) place))
 
 pub returns-clause-second : goal.returns-clause-second
 returns-clause-second c =

@@ -11,7 +11,9 @@ back-preserved-then-head-here c =
     let some = some_left c.args.lanes.now c.args.tree.now c.args.s c.back.here c.back.k c.back.invariant.place apart in
     let more : c.back.k ≡ suc (c.back.k - 1) = omega (arith, some) in
     let back = subst (λ (k : ℕ). Back c.args.lanes.now c.args.tree.now c.args.s c.args.t c.back.here k c.back.lanes) more c.back.invariant in
-    rw (c.flipped.ensures, c.tail-here.ensures) (back_turned c.args.lanes.now c.args.tree.now c.args.s c.args.t c.back.here (c.back.k - 1) c.back.lanes back c.requires.tree (sym c.head.ensures ∙ at_here))
+    rw (c.flipped.ensures, c.tail-here.ensures)
+    (back_turned c.args.lanes.now c.args.tree.now c.args.s c.args.t c.back.here (c.back.k - 1) c.back.lanes back c.requires.tree
+    (sym c.head.ensures ∙ at_here))
 
 pub returns-clause-flow : goal.returns-clause-flow
 returns-clause-flow c =

@@ -7,7 +7,9 @@ use Rattle.sp_paths.proofs.certified.is_certificate.Goals as goal
 pub returns-then-as_slice-graph : goal.returns-then-as_slice-graph
 returns-then-as_slice-graph c = (
   λ e. absurd (let x = e in cc),
-  λ good. absurd (c.if-as_slice-graph.true (ap (λ (ps : List ℤ). length ps) c.as_slice.ensures ∙ count_when c.args.graph.now c.args.s c.args.t c.args.paths.now c.requires.ends good)),
+  λ good. absurd
+      (c.if-as_slice-graph.true
+      (ap (λ (ps : List ℤ). length ps) c.as_slice.ensures ∙ count_when c.args.graph.now c.args.s c.args.t c.args.paths.now c.requires.ends good)),
 )
 
 pub returns-then-not-nodes_fit : goal.returns-then-not-nodes_fit
@@ -19,6 +21,8 @@ returns-then-not-nodes_fit c = (
 pub returns : goal.returns
 returns c = (
   λ e.
-      certificate_when c.args.graph.now c.args.s c.args.t c.args.paths.now c.requires.ends (ap (λ (ps : List ℤ). length ps) (sym c.as_slice.ensures) ∙ c.if-as_slice-graph.false) (c.nodes_fit.ensures.0 c.if-not-nodes_fit.false) (c.edges_fit.ensures.0 e),
+      certificate_when c.args.graph.now c.args.s c.args.t c.args.paths.now c.requires.ends
+      (ap (λ (ps : List ℤ). length ps) (sym c.as_slice.ensures) ∙ c.if-as_slice-graph.false) (c.nodes_fit.ensures.0 c.if-not-nodes_fit.false)
+      (c.edges_fit.ensures.0 e),
   λ good. c.edges_fit.ensures.1 (edges_when c.args.graph.now c.args.s c.args.t c.args.paths.now good),
 )

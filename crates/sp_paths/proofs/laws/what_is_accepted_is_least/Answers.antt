@@ -5,4 +5,5 @@ use Rattle.laws_paths.proofs.Duality.{certified_is_least}
 use Rattle.sp_paths.proofs.laws.what_is_accepted_is_least.Goals as goal
 
 pub returns : goal.returns
-returns c = λ g s t p right good. certified_is_least g s t (length p.paths) p.paths (number_of (parts_of g s t) p.potentials) right good.disjoint good.certificate.optimal
+returns c = λ g s t p right good. certified_is_least g s t (length p.paths) p.paths (number_of (parts_of g s t) p.potentials) right good.disjoint
+    good.certificate.optimal

@@ -8,7 +8,8 @@ use Rattle.sp_paths.proofs.walk.walk.Goals as goal
 pub unwrap-place-requires : goal.unwrap-place-requires
 unwrap-place-requires c =
     let apart : c.on.here ≢ c.args.t = grind (arith, common_steps) in
-    goes_on c.args.s c.args.t c.requires.flow.0 c.on.here c.on.lanes c.next.result (c.on.invariant.flow c.requires.flow.0 c.requires.flow.1) apart c.next.ensures
+    goes_on c.args.s c.args.t c.requires.flow.0 c.on.here c.on.lanes c.next.result (c.on.invariant.flow c.requires.flow.0 c.requires.flow.1) apart
+    c.next.ensures
 
 pub on-preserved : goal.on-preserved
 on-preserved c =

@@ -8,7 +8,8 @@ use Rattle.sp_prio.proofs.place.leave_all.Given as goal
 abbrev pub invariant-entries : goal.invariant-entries
 invariant-entries l = record {
   store : less_leavers (leaves l.leaving) l.store ≡ less_leavers (leaves l.leaving) l.fn.store;
-  told : told l.out (gone_effects l.place l.why (leavers (leaves l.leaving) l.store)) ≡ told l.fn.out (gone_effects l.place l.why (leavers (leaves l.leaving) l.fn.store));
+  told : told l.out (gone_effects l.place l.why (leavers (leaves l.leaving) l.store))
+      ≡ told l.fn.out (gone_effects l.place l.why (leavers (leaves l.leaving) l.fn.store));
   room : length (leavers (leaves l.leaving) l.store) ≤ l.out.room;
 }
 

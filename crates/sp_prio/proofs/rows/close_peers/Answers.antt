@@ -25,7 +25,8 @@ peers-preserved c =
     let weights = c.args.weights.now in
     let removed = c.args.removed.now in
     let q = c.index_mut.result.now in
-    let old = mapped_read (closed weights removed) c.peers.place c.args.peers.now.items c.peers.peers.items q c.peers.invariant.peers c.index_mut.ensures.value in
+    let old = mapped_read (closed weights removed) c.peers.place c.args.peers.now.items c.peers.peers.items q c.peers.invariant.peers
+    c.index_mut.ensures.value in
     let going = leaves (is_shut weights q.edge) removed in
     record {
       peers = mapped_set (closed weights removed) c.peers.place c.args.peers.now.items c.peers.peers.items q c.close.new.self c.peers.invariant.peers

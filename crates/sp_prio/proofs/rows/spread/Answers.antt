@@ -12,7 +12,8 @@ pub give-requires-clause-enough : goal.give-requires-clause-enough
 give-requires-clause-enough c =
     let old = mapped_read (given c.args.kept c.args.came) c.peers.place c.args.peers.now.items c.peers.peers.items c.index_mut.result.now
     c.peers.invariant.peers c.index_mut.ensures.value in
-    let along : ◌≡◌ {A = ℕ} (cond (goes_along (bits c.mask_of-mask.result) c.args.came c.index_mut.result.now) 1 0) (cond (goes_to c.args.kept.body c.args.came c.index_mut.result.now) 1 0) =
+    let along : ◌≡◌ {A = ℕ} (cond (goes_along (bits c.mask_of-mask.result) c.args.came c.index_mut.result.now) 1 0)
+    (cond (goes_to c.args.kept.body c.args.came c.index_mut.result.now) 1 0) =
     ap (λ (m : ℕ). cond (goes_along m c.args.came c.index_mut.result.now) 1 0) c.mask_of-mask.ensures in
     omega (
       arith,
@@ -32,7 +33,8 @@ pub peers-preserved : goal.peers-preserved
 peers-preserved c =
     let old = mapped_read (given c.args.kept c.args.came) c.peers.place c.args.peers.now.items c.peers.peers.items c.index_mut.result.now
     c.peers.invariant.peers c.index_mut.ensures.value in
-    let along : ◌≡◌ {A = ℕ} (cond (goes_along (bits c.mask_of-mask.result) c.args.came c.index_mut.result.now) 1 0) (cond (goes_to c.args.kept.body c.args.came c.index_mut.result.now) 1 0) =
+    let along : ◌≡◌ {A = ℕ} (cond (goes_along (bits c.mask_of-mask.result) c.args.came c.index_mut.result.now) 1 0)
+    (cond (goes_to c.args.kept.body c.args.came c.index_mut.result.now) 1 0) =
     ap (λ (m : ℕ). cond (goes_along m c.args.came c.index_mut.result.now) 1 0) c.mask_of-mask.ensures in
     let done = c.give.ensures.given c.args.kept c.mask_of-mask.ensures c.peers.invariant.alike in
     record {

@@ -1,7 +1,8 @@
 use Rattle.std.proofs.Common.{ap}
 use Rattle.sp_schedule.specs.Feeds.{is_ready}
 use Rattle.sp_replay.proofs.Begun.{whole_begins}
-use Rattle.sp_replay.proofs.Lines.{forgotten_there, in_any_case, next_in_range, no_event_without_world, plays_begun, plays_event, so_far_begun, so_far_end, so_far_event, so_far_header}
+use Rattle.sp_replay.proofs.Lines.{forgotten_there, in_any_case, next_in_range, no_event_without_world, plays_begun, plays_event, so_far_begun, so_far_end}
+use Rattle.sp_replay.proofs.Lines.{so_far_event, so_far_header}
 use Rattle.sp_replay.proofs.line.play_line.Goals as goal
 
 pub play_event-requires-clause-range : goal.play_event-requires-clause-range
@@ -23,12 +24,14 @@ returns-in-Ok-Ended-clause-so_far g c =
 pub returns-in-Ok-Began-clause-so_far : goal.returns-in-Ok-Began-clause-so_far
 returns-in-Ok-Began-clause-so_far g c =
     let line = rw c.in-Ok-Began.field-0-is at c.in-Ok-Began.ensures.line in
-    so_far_begun c.args.feed.now c.line.new.self c.args.world.now c.begin.new.world c.in-Ok-Began.scenario _ _ c.begin.result c.requires.so_far line.0 c.in-Ok-Began.ensures.good_stage c.begin.ensures.begins
+    so_far_begun c.args.feed.now c.line.new.self c.args.world.now c.begin.new.world c.in-Ok-Began.scenario _ _ c.begin.result c.requires.so_far line.0
+    c.in-Ok-Began.ensures.good_stage c.begin.ensures.begins
 
 pub returns-in-Ok-Began-clause-plays : goal.returns-in-Ok-Began-clause-plays
 returns-in-Ok-Began-clause-plays g c =
     let line = rw c.in-Ok-Began.field-0-is at c.in-Ok-Began.ensures.line in
-    plays_begun c.args.feed.now c.line.new.self c.args.world.now c.begin.new.world c.in-Ok-Began.scenario _ _ c.begin.result c.requires.so_far line.0 c.in-Ok-Began.ensures.good_stage line.1
+    plays_begun c.args.feed.now c.line.new.self c.args.world.now c.begin.new.world c.in-Ok-Began.scenario _ _ c.begin.result c.requires.so_far line.0
+    c.in-Ok-Began.ensures.good_stage line.1
     c.reads_on.ensures.more c.reads_on-in-Ok-Began.ensures.more c.begin.ensures.begins
 
 pub returns-in-Err-Memory-clause-plays : goal.returns-in-Err-Memory-clause-plays
@@ -38,7 +41,8 @@ returns-in-Err-Memory-clause-plays g c = λ start written.
 pub returns-in-Some-clause-so_far : goal.returns-in-Some-clause-so_far
 returns-in-Some-clause-so_far g c =
     let line = rw c.in-Ok-Event.field-0-is at c.in-Ok-Event.ensures.line in
-    so_far_event c.args.feed.now c.line.new.self c.in-Some.world c.play_event.new.world c.in-Ok-Event.event _ _ c.play_event.result (rw c.in-Some.is at c.requires.so_far) line.0
+    so_far_event c.args.feed.now c.line.new.self c.in-Some.world c.play_event.new.world c.in-Ok-Event.event _ _ c.play_event.result
+    (rw c.in-Some.is at c.requires.so_far) line.0
     c.in-Ok-Event.ensures.good_stage c.play_event.ensures.notes
 
 pub returns-in-Some-clause-plays : goal.returns-in-Some-clause-plays
@@ -46,7 +50,8 @@ returns-in-Some-clause-plays g c =
     let line = rw c.in-Ok-Event.field-0-is at c.in-Ok-Event.ensures.line in
     rw c.in-Some.is
     (plays_event c.args.feed.now c.line.new.self c.in-Some.world c.play_event.new.world c.in-Ok-Event.event _ _ (rw c.in-Some.is at c.requires.so_far) line.0
-    c.in-Ok-Event.ensures.good_stage line.1 c.reads_on.ensures.more c.reads_on-in-Ok-Event.ensures.more (rw c.in-Some.is at c.are_runs.ensures) c.play_event.ensures.run c.play_event.result
+    c.in-Ok-Event.ensures.good_stage line.1 c.reads_on.ensures.more c.reads_on-in-Ok-Event.ensures.more (rw c.in-Some.is at c.are_runs.ensures)
+    c.play_event.ensures.run c.play_event.result
     c.play_event.ensures.notes)
 
 pub returns-in-Ok-Header-clause-next : goal.returns-in-Ok-Header-clause-next

@@ -11,7 +11,8 @@ invariant-lines g l = record {
   text : text_of l.feed ≡ text_of l.fn.feed ++ take l.done l.piece;
   next : is_ready l.feed.waiting ≡ false;
   so_far : SoFar l.feed l.world;
-  written : (start : Option (List ℕ)) → Appends start (g.K.Sink.contents l.fn.sink) (lines_before l.fn.world) → Appends start (g.K.Sink.contents l.sink) (lines_before l.world);
+  written : (start : Option (List ℕ)) → Appends start (g.K.Sink.contents l.fn.sink) (lines_before l.fn.world)
+      → Appends start (g.K.Sink.contents l.sink) (lines_before l.world);
   counts : g.K.Sink.faults l.sink ≡ g.K.Sink.faults l.fn.sink;
 }
 

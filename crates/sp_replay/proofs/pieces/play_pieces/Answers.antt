@@ -23,7 +23,8 @@ pieces-init g c =
 pub returns-in_default-clause-halts : goal.returns-in_default-clause-halts
 returns-in_default-clause-halts g c =
     let i = c.pieces.invariant in
-    broken_off _ _ _ c.pieces.feed c.pieces.world _ _ i.taken c.in_default.ensures.bytes (omega (arith, i.total, i.within)) i.so_far i.next i.written c.reads_on.ensures.more c.are_runs.ensures
+    broken_off _ _ _ c.pieces.feed c.pieces.world _ _ i.taken c.in_default.ensures.bytes (omega (arith, i.total, i.within)) i.so_far i.next i.written
+    c.reads_on.ensures.more c.are_runs.ensures
 
 pub returns-then-count-eq0-clause-halts : goal.returns-then-count-eq0-clause-halts
 returns-then-count-eq0-clause-halts g c =
@@ -48,7 +49,8 @@ returns-then-taken-count-clause-halts g c =
     let text = c.in_default-play_piece.ensures.text in
     let cut = piece_cut _ _ _ (text_of c.pieces.feed) c.read.new.buf c.in-Ok.count c.min-taken.result c.pieces.total i.taken c.in-Ok.ensures.bytes.0 i.total
     i.within c.in-Ok.ensures.bound.0 c.min-taken.ensures c.if-taken-count.true in
-    read_to _ c.play_piece.new.feed true c.play_piece.new.world _ _ c.finish-then-taken-count.result (rw text cut) c.in_default-play_piece.ensures.so_far c.finish-then-taken-count.ensures
+    read_to _ c.play_piece.new.feed true c.play_piece.new.world _ _ c.finish-then-taken-count.result (rw text cut) c.in_default-play_piece.ensures.so_far
+    c.finish-then-taken-count.ensures
     (c.in_default-play_piece.ensures.plays _ i.written)
 
 pub pieces-preserved : goal.pieces-preserved

@@ -10,7 +10,8 @@ use Rattle.sp_routes.proofs.chosen.mask_to.Goals as goal
 
 pub returns-then-paths-eq0-clause-mask : goal.returns-then-paths-eq0-clause-mask
 returns-then-paths-eq0-clause-mask c =
-    all_chosen c.args.weights.now (graph_of c.args.topology.now c.args.weights.now) c.args.from c.args.to c.args.paths (bits c.open_edges.result) c.if-paths-eq0.true c.open_edges.ensures
+    all_chosen c.args.weights.now (graph_of c.args.topology.now c.args.weights.now) c.args.from c.args.to c.args.paths (bits c.open_edges.result)
+    c.if-paths-eq0.true c.open_edges.ensures
 
 pub cheapest_mask-requires-clause-graph : goal.cheapest_mask-requires-clause-graph
 cheapest_mask-requires-clause-graph c = rw c.in_ok-graph.ensures (graph_good c.args.topology.now c.args.weights.now c.requires.topology c.requires.small)

@@ -12,7 +12,9 @@ edges-preserved c =
     let inside = c.edges-place-end.ensures.minima in
     elim c.if-not-is_withdrawn.branch [
       | then-not-is_withdrawn w ↦ subst (IsOpenTo least (n + 1)) (sym (ap bits w.mask-is ∙ w.with-mask.ensures ∙ ap (bit_or (bits c.edges.mask)) w.of.ensures))
-          (edge_open least n (bits c.edges.mask) (omega (arith, c.edges-test.true, inside)) c.edges.invariant (sym c.is_withdrawn.ensures ∙ w.if-not-is_withdrawn.true))
+          (edge_open least n (bits c.edges.mask) (omega (arith, c.edges-test.true, inside)) c.edges.invariant
+          (sym c.is_withdrawn.ensures ∙ w.if-not-is_withdrawn.true))
       | else-not-is_withdrawn w ↦ subst (IsOpenTo least (n + 1)) (sym (ap bits w.mask-is))
-          (edge_shut least n (bits c.edges.mask) (omega (arith, c.edges-test.true, inside)) c.edges.invariant (sym c.is_withdrawn.ensures ∙ w.if-not-is_withdrawn.false))
+          (edge_shut least n (bits c.edges.mask) (omega (arith, c.edges-test.true, inside)) c.edges.invariant
+          (sym c.is_withdrawn.ensures ∙ w.if-not-is_withdrawn.false))
     ]

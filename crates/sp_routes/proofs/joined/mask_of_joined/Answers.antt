@@ -12,9 +12,11 @@ edges-preserved c =
     let n = c.edges.place in
     elim c.if-joins.branch [
       | then-joins w ↦ subst (IsMaskTo flags edges (n + 1)) (sym (ap bits w.mask-is ∙ w.with-mask.ensures ∙ ap (bit_or (bits c.edges.mask)) w.bit.ensures))
-          (edge_in flags edges n (bits c.edges.mask) c.edges.invariant (joins_here flags edges n _ true (omega (arith, c.edges-test.true)) (sym c.joins.ensures ∙ w.if-joins.true)))
+          (edge_in flags edges n (bits c.edges.mask) c.edges.invariant
+          (joins_here flags edges n _ true (omega (arith, c.edges-test.true)) (sym c.joins.ensures ∙ w.if-joins.true)))
       | else-joins w ↦ subst (IsMaskTo flags edges (n + 1)) (sym (ap bits w.mask-is))
-          (edge_out flags edges n (bits c.edges.mask) c.edges.invariant (joins_here flags edges n _ false (omega (arith, c.edges-test.true)) (sym c.joins.ensures ∙ w.if-joins.false)))
+          (edge_out flags edges n (bits c.edges.mask) c.edges.invariant
+          (joins_here flags edges n _ false (omega (arith, c.edges-test.true)) (sym c.joins.ensures ∙ w.if-joins.false)))
     ]
 
 pub returns : goal.returns

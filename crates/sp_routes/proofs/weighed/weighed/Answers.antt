@@ -24,7 +24,8 @@ edges-preserved c =
           record {
             place = next;
             so_far = ap (λ (xs : List Edge). xs ++ far) made
-                ∙ put_in weights place edges c.edges.made.items (weighed weights 0 edges) k none inside (sym c.is_withdrawn.ensures ∙ w.if-not-is_withdrawn.true) c.edges.invariant.so_far;
+                ∙ put_in weights place edges c.edges.made.items (weighed weights 0 edges) k none inside
+                (sym c.is_withdrawn.ensures ∙ w.if-not-is_withdrawn.true) c.edges.invariant.so_far;
           }
       | else-not-is_withdrawn w ↦ record {
         place = next;

@@ -7,9 +7,11 @@ returns-in_default c = (refl, is_long c.args.number c.args.waiting.now c.args.st
 
 pub returns-in-Ok : goal.returns-in-Ok
 returns-in-Ok c =
-    words_lead c.args.number c.args.waiting.now c.in-Some.bytes.now c.args.stage _ c.follow.result c.requires.front c.in-Some.ensures.found c.in-Ok.ensures (rw c.as_slice.ensures.value at c.follow.ensures)
+    words_lead c.args.number c.args.waiting.now c.in-Some.bytes.now c.args.stage _ c.follow.result c.requires.front c.in-Some.ensures.found c.in-Ok.ensures
+    (rw c.as_slice.ensures.value at c.follow.ensures)
 
 pub returns-in-Err : goal.returns-in-Err
 returns-in-Err c =
-    no_words_lead (λ (ws : Vec (Bor (List ℕ)) Global). map (λ (w : Bor (List ℕ)). w.now) ws.items) c.args.number c.args.waiting.now c.in-Some.bytes.now c.args.stage c.in-Err.refused c.refused_lead.result c.requires.front c.in-Some.ensures.found c.in-Err.ensures
+    no_words_lead (λ (ws : Vec (Bor (List ℕ)) Global). map (λ (w : Bor (List ℕ)). w.now) ws.items) c.args.number c.args.waiting.now c.in-Some.bytes.now
+    c.args.stage c.in-Err.refused c.refused_lead.result c.requires.front c.in-Some.ensures.found c.in-Err.ensures
     c.refused_lead.ensures

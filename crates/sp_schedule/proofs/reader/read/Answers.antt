@@ -21,7 +21,8 @@ returns-in-Err c =
     let is =
     IfOk-weaker c.broken_off.result _ _
     (λ reading is. subst (IsReading c.args.text.now c.args.is_cut) (sym is.1)
-    (ends_at_line c.args.text.now c.args.is_cut c.lines.stage c.lines.count c.lines.lines c.in-Err.refused (no_words c.args.is_cut (c.lines.count + 1) c.in-Err.refused)
+    (ends_at_line c.args.text.now c.args.is_cut c.lines.stage c.lines.count c.lines.lines c.in-Err.refused
+    (no_words c.args.is_cut (c.lines.count + 1) c.in-Err.refused)
     c.lines.invariant.goes_on c.lines.invariant.given c.in-Err.ensures (is.0, refl)))
     c.broken_off.ensures in
     record { reading = is; good_stage = good_answer c.args.text.now c.args.is_cut c.broken_off.result is }
@@ -30,7 +31,8 @@ pub returns-in-Bad : goal.returns-in-Bad
 returns-in-Bad c =
     let takes = rw c.in-Ok-Some.field-0-is at c.in-Ok-Some.ensures in
     let is =
-    ends_at_words c.args.text.now c.args.is_cut c.lines.stage c.in-Bad.stage c.in-Bad.kind c.lines.count c.lines.lines.rest c.next_words.new.lines.rest _ c.follow.result
+    ends_at_words c.args.text.now c.args.is_cut c.lines.stage c.in-Bad.stage c.in-Bad.kind c.lines.count c.lines.lines.rest c.next_words.new.lines.rest _
+    c.follow.result
     c.lines.invariant.goes_on (rw c.lines.invariant.given at takes.2) (rw c.as_slice.ensures.value at c.follow.ensures) c.in-Bad.is in
     record { reading = is; good_stage = good c.args.text.now c.args.is_cut is }
 
@@ -40,6 +42,7 @@ lines-preserved c =
     record {
       given = takes.0 ∙ ap (λ (n : ℕ). n + 1) c.lines.invariant.given;
       fits = omega (arith, takes.1, c.lines.invariant.fits);
-      goes_on = leads_on_from c.args.text.now c.lines.stage c.in-To.next c.lines.count c.lines.lines.rest c.next_words.new.lines.rest _ c.follow.result _ c.lines.invariant.goes_on
+      goes_on = leads_on_from c.args.text.now c.lines.stage c.in-To.next c.lines.count c.lines.lines.rest c.next_words.new.lines.rest _ c.follow.result _
+          c.lines.invariant.goes_on
           (rw c.lines.invariant.given at takes.2) (rw c.as_slice.ensures.value at c.follow.ensures) c.in-To.is;
     }

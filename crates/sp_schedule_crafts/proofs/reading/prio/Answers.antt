@@ -18,4 +18,12 @@ returns c =
       payload = c.in_ok-payload.payload;
     })))
     c.args.fields.now (record { ref_ptr = (0, 0); now = [] }) c.in-len7.len_at_least c.in-len7.len_below
-    (rw (c.in_ok-src.ensures, c.in_ok-dst.ensures, c.in_ok-seq.ensures.read, rw c.from.ensures at c.in_ok-prio.ensures.read, c.in_ok-expiry.ensures.read, c.in_ok-high.ensures, c.in_ok-payload.ensures.read) refl)
+    (rw (
+      c.in_ok-src.ensures,
+      c.in_ok-dst.ensures,
+      c.in_ok-seq.ensures.read,
+      rw c.from.ensures at c.in_ok-prio.ensures.read,
+      c.in_ok-expiry.ensures.read,
+      c.in_ok-high.ensures,
+      c.in_ok-payload.ensures.read,
+    ) refl)

@@ -8,6 +8,7 @@ use Rattle.sp_schedule_crafts.proofs.reading.rel.Goals as goal
 pub returns : goal.returns
 unfolding read_form
 returns c =
-    four (λ (ws : List (List ℕ)). line_for c.args.format forms.Rel (codes "rel" ∷ ws) ≡ Ok (crafted.Rel (record { src = c.in_ok-src.src; dst = c.in_ok-dst.dst; seq = c.in_ok-seq.seq; payload = c.in_ok-payload.payload })))
+    four (λ (ws : List (List ℕ)). line_for c.args.format forms.Rel (codes "rel" ∷ ws)
+    ≡ Ok (crafted.Rel (record { src = c.in_ok-src.src; dst = c.in_ok-dst.dst; seq = c.in_ok-seq.seq; payload = c.in_ok-payload.payload })))
     c.args.fields.now (record { ref_ptr = (0, 0); now = [] }) c.in-len4.len_at_least c.in-len4.len_below
     (rw (c.in_ok-src.ensures, c.in_ok-dst.ensures, c.in_ok-seq.ensures.read, c.in_ok-payload.ensures.read) refl)

@@ -77,7 +77,8 @@ pub returns-in-Publish : goal.returns-in-Publish
 returns-in-Publish c =
     subst (λ (x : List ℕ). Reads c.publish.result (read_event c.args.line.now.scenario.now c.args.line.now.before.now (x ∷ map (λ w. w.now) c.args.words.now)))
     (sym (is_named c.args.name.now lines.Publish (sym c.line_named.ensures ∙ c.in-Some.is ∙ ap Some c.in-Publish.is)))
-    (subst (Reads c.publish.result) (sym (handed c.args.line.now.scenario.now c.args.line.now.before.now (map (λ w. w.now) c.args.words.now))) c.publish.ensures)
+    (subst (Reads c.publish.result) (sym (handed c.args.line.now.scenario.now c.args.line.now.before.now (map (λ w. w.now) c.args.words.now)))
+    c.publish.ensures)
 
 pub returns-in_default : goal.returns-in_default
 returns-in_default c =

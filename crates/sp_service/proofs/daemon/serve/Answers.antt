@@ -10,7 +10,8 @@ serve-requires-clause-held g c = let begun = c.in-Ok.ensures.begins None in begu
 
 pub returns-in-Ok-clause-ends : goal.returns-in-Ok-clause-ends
 returns-in-Ok-clause-ends g c =
-    served c.args.text.now c.args.is_cut c.args.turns _ _ _ c.in-Ok.daemon c.serve.result (c.in-Ok.ensures.begins (g.C.Clock.told c.args.clock.now)) c.serve.ensures.ends
+    served c.args.text.now c.args.is_cut c.args.turns _ _ _ c.in-Ok.daemon c.serve.result (c.in-Ok.ensures.begins (g.C.Clock.told c.args.clock.now))
+    c.serve.ensures.ends
 
 pub returns-in-Ok-clause-kept : goal.returns-in-Ok-clause-kept
 returns-in-Ok-clause-kept g c =

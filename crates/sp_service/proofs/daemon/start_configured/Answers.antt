@@ -10,7 +10,8 @@ pub start_node-requires-clause-opening : goal.start_node-requires-clause-opening
 start_node-requires-clause-opening g c =
     let opened = c.in-Ok-open.ensures.opened None in
     is_opening c.args.fitted.topology (g.P.Keeper.disk c.args.keeper.now) (g.P.Keeper.disk c.open.new.keeper) c.in-Ok-open.started
-    (subst (λ (n : ℕ). Starts (g.P.Keeper.disk c.args.keeper.now) (g.P.Keeper.disk c.open.new.keeper) RESERVED n c.in-Ok-open.started) c.total.ensures opened.starts)
+    (subst (λ (n : ℕ). Starts (g.P.Keeper.disk c.args.keeper.now) (g.P.Keeper.disk c.open.new.keeper) RESERVED n c.in-Ok-open.started) c.total.ensures
+    opened.starts)
 
 pub returns-in-Ok-open-clause-begins : goal.returns-in-Ok-open-clause-begins
 returns-in-Ok-open-clause-begins g c = λ clock.

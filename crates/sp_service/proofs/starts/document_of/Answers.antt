@@ -5,5 +5,6 @@ use Rattle.sp_service.proofs.starts.document_of.Goals as goal
 
 pub returns-clause-short : goal.returns-clause-short
 returns-clause-short c =
-    signed_is_short c.args.admin.now c.args.document.now c.requires.0 (AreBytes-from_places c.args.document.now (λ i. (c.type_inv.document i).fits)) c.requires.1
+    signed_is_short c.args.admin.now c.args.document.now c.requires.0 (AreBytes-from_places c.args.document.now (λ i. (c.type_inv.document i).fits))
+    c.requires.1
     c.requires.2

@@ -4,7 +4,8 @@ use Rattle.sp_service.proofs.verifying.verify_text.Goals as goal
 
 pub verify_opened-requires-clause-opening : goal.verify_opened-requires-clause-opening
 verify_opened-requires-clause-opening c =
-    may_open c.args.fitted.topology c.deref.result.now c.in_ok-reading.reading.stage c.in-Some.opening (rw (c.total.ensures) at c.in_ok-reading.ensures.good_stage)
+    may_open c.args.fitted.topology c.deref.result.now c.in_ok-reading.reading.stage c.in-Some.opening
+    (rw (c.total.ensures) at c.in_ok-reading.ensures.good_stage)
     (sym c.opening_in.ensures ∙ c.in-Some.is) (c.can_announce.ensures.0 c.if-not-can_announce.false)
 
 pub returns-then-not-can_announce : goal.returns-then-not-can_announce

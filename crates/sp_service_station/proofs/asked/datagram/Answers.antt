@@ -13,4 +13,5 @@ pub returns-in-Ok-clause-uses : goal.returns-in-Ok-clause-uses
 returns-in-Ok-clause-uses c =
     let old = c.args.node.now.state in
     whatever _ c.arrived_text.result
-    (uses_one old (Datagram c.args.from c.args.bytes.now) (taken_in old c.args.from c.args.bytes.now c.in-Ok.step) c.datagram.new.self.state c.in-Ok.ensures.step)
+    (uses_one old (Datagram c.args.from c.args.bytes.now) (taken_in old c.args.from c.args.bytes.now c.in-Ok.step) c.datagram.new.self.state
+    c.in-Ok.ensures.step)

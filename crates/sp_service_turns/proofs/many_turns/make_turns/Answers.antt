@@ -28,7 +28,8 @@ returns-in_err-turn-clause-kept g c = kept_on _ _ _ _ _ _ _ c.turns.invariant.on
 
 pub turns-preserved : goal.turns-preserved
 turns-preserved g c = record {
-  made = made_more g.N.Core.steps g.N.Core.indexes c.turns._made c.args.daemon.now c.turns.daemon c.turn.new.self _ _ _ c.turns.invariant.made c.in_ok-turn.ensures.made c.in_ok-turn.ensures.held;
+  made = made_more g.N.Core.steps g.N.Core.indexes c.turns._made c.args.daemon.now c.turns.daemon c.turn.new.self _ _ _ c.turns.invariant.made
+      c.in_ok-turn.ensures.made c.in_ok-turn.ensures.held;
   counted = (let made = c.in_ok-turn.ensures.made in omega (arith, made.counted, c.turns.invariant.counted));
   held = c.in_ok-turn.ensures.held;
   later = omega (arith, c.turns.invariant.later, c.in_ok-turn.ensures.later);

@@ -7,7 +7,9 @@ use Rattle.sp_store.proofs.FreeLemmas.{either_more, flying_more, free_more}
 use Rattle.sp_store.proofs.PlaceLemmas.{live_more, live_same}
 use Rattle.sp_store.specs.Places.{live}
 use Rattle.sp_store.proofs.choice.active.Goals as goal
-use Rattle.sp_store.proofs.choice.active.Goals.{in-Some+then-not-active-src+then-not-is_flying, in-Some+else-not-active-src, else-not-active-src-via-then-not-active-src+else-not-is_flying, else-not-active-src-via-else-not-active-src, in_default}
+use Rattle.sp_store.proofs.choice.active.Goals.{in-Some+then-not-active-src+then-not-is_flying, in-Some+else-not-active-src}
+use Rattle.sp_store.proofs.choice.active.Goals.{else-not-active-src-via-then-not-active-src+else-not-is_flying, else-not-active-src-via-else-not-active-src}
+use Rattle.sp_store.proofs.choice.active.Goals.{in_default}
 
 pub slots-init : goal.slots-init
 slots-init c = none_flagged
@@ -42,4 +44,5 @@ slots-preserved c =
 pub returns : goal.returns
 returns c =
     all_flagged (free c.args.flight.now (live (take c.slots.slot-index c.args.slots.now))) c.slots.active c.slots.invariant
-    ∙ ap (λ (slots : List (Option Entry)). map (has_entries (free c.args.flight.now (live slots))) ids) (take_all c.slots.slot-index c.args.slots.now (omega arith))
+    ∙ ap (λ (slots : List (Option Entry)). map (has_entries (free c.args.flight.now (live slots))) ids)
+    (take_all c.slots.slot-index c.args.slots.now (omega arith))

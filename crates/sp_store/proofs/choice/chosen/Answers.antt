@@ -9,7 +9,9 @@ use Rattle.sp_store.proofs.PlaceLemmas.{live_more, live_same}
 use Rattle.sp_store.specs.Places.{live}
 use Rattle.sp_store.specs.Wanted.{choice}
 use Rattle.sp_store.proofs.choice.chosen.Goals as goal
-use Rattle.sp_store.proofs.choice.chosen.Goals.{in-Some+then-source-src+then-is_better+then-not-is_flying, in-Some+else-source-src, else-source-src-via-then-source-src+then-is_better+else-not-is_flying, else-source-src-via-then-source-src+else-is_better, else-source-src-via-else-source-src, in_default}
+use Rattle.sp_store.proofs.choice.chosen.Goals.{in-Some+then-source-src+then-is_better+then-not-is_flying, in-Some+else-source-src}
+use Rattle.sp_store.proofs.choice.chosen.Goals.{else-source-src-via-then-source-src+then-is_better+else-not-is_flying}
+use Rattle.sp_store.proofs.choice.chosen.Goals.{else-source-src-via-then-source-src+else-is_better, else-source-src-via-else-source-src, in_default}
 
 pub slots-preserved : goal.slots-preserved
 slots-preserved c =

@@ -31,5 +31,6 @@ pub returns-clause-source : goal.returns-clause-source
 returns-clause-source c = fullest_of_all (live c.args.slots.now) c.ids.id c.ids.most (omega arith) c.ids.invariant.first
 
 pub returns-clause-some : goal.returns-clause-some
-returns-clause-some c = fullest_has (live c.args.slots.now) c.args.counts.now c.ids.id c.ids.most (omega arith) c.requires.counted.each c.requires.counted.all (omega
+returns-clause-some c =
+    fullest_has (live c.args.slots.now) c.args.counts.now c.ids.id c.ids.most (omega arith) c.requires.counted.each c.requires.counted.all (omega
     arith) c.ids.invariant.first

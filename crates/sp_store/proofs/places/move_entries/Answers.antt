@@ -13,7 +13,8 @@ add-requires-clause-room c =
     ∙ full_first c.in-Some.id c.in-Some.slot (drain_rest c.next.new.self) (sym c.is_some.ensures ∙ c.if-is_some.true) in
     let moved = ap (λ (ps : List (ℕ × Option Entry)). c.places.into.entries ++ ps) (sym first) ∙ c.places.invariant.moved in
     let whole : index_map_len c.places.into + (length to_come + 1) ≡ length (live_of c.args.from.now.entries) =
-    (let n = length-append c.places.into.entries ((c.in-Some.id, c.in-Some.slot) ∷ to_come) in omega (arith, n, ap length moved, moved_length c.args.from.now.entries)) in
+    (let n = length-append c.places.into.entries ((c.in-Some.id, c.in-Some.slot) ∷ to_come) in
+    omega (arith, n, ap length moved, moved_length c.args.from.now.entries)) in
     omega (arith, whole, c.places.invariant.room, c.requires.room)
 
 pub add-requires-clause-fresh : goal.add-requires-clause-fresh
@@ -27,7 +28,8 @@ places-preserved c =
     record {
       can = tt;
       finite = tt;
-      stand = next_left 0 c.in-Some.id c.in-Some.slot c.places.into.entries (drain_rest c.next.new.self) (rw c.in-Some.ensures.steps.0 at c.places.invariant.stand);
+      stand = next_left 0 c.in-Some.id c.in-Some.slot c.places.into.entries (drain_rest c.next.new.self)
+          (rw c.in-Some.ensures.steps.0 at c.places.invariant.stand);
       moved = ap (λ (ps : List (ℕ × Option Entry)). c.places.into.entries ++ ps) (sym first) ∙ c.places.invariant.moved;
       room = c.places.invariant.room;
     }

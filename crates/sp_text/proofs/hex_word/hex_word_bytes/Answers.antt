@@ -2,7 +2,8 @@ use Rattle.std.proofs.Common.{◌≢◌, refl, sym, ◌∙◌}
 use Rattle.std.specs.Prelude.{codes}
 use Rattle.std.proofs.lemmas.Bool.{both_ways, eqb-false, eqb-true}
 use Rattle.sp_text.proofs.HexWordLemmas.{empty_spells_none, odd_spells_none, other_spells_none, pairs_spelled}
-use Rattle.sp_text.proofs.hex_word.hex_word_bytes.Goals.{then-is_empty-via-then-is_empty, then-is_empty-via-else-is_empty+then-word-ne0, then-is_empty-via-else-is_empty+else-word-ne0+then-not-are_digits}
+use Rattle.sp_text.proofs.hex_word.hex_word_bytes.Goals.{then-is_empty-via-then-is_empty, then-is_empty-via-else-is_empty+then-word-ne0}
+use Rattle.sp_text.proofs.hex_word.hex_word_bytes.Goals.{then-is_empty-via-else-is_empty+else-word-ne0+then-not-are_digits}
 use Rattle.sp_text.proofs.hex_word.hex_word_bytes.Goals as goal
 
 pub returns-then-is_empty-clause-none : goal.returns-then-is_empty-clause-none

@@ -6,7 +6,8 @@ use Rattle.sp_top.proofs.daemon.daemon.Goals as goal
 
 pub returns-clause-ends : goal.returns-clause-ends
 returns-clause-ends g c =
-    served _ _ c.in-Ok.input.bytes.items c.in-Ok.input.is_cut c.serve-served.result _ _ _ c.in-Ok.ensures.bytes (ap (λ (o : Outcome). o.status) c.ended-2.ensures ∙ c.status_of.ensures)
+    served _ _ c.in-Ok.input.bytes.items c.in-Ok.input.is_cut c.serve-served.result _ _ _ c.in-Ok.ensures.bytes
+    (ap (λ (o : Outcome). o.status) c.ended-2.ensures ∙ c.status_of.ensures)
     (rw c.as_slice.ensures.value at c.serve-served.ensures.ends)
 
 pub returns-clause-sunk : goal.returns-clause-sunk

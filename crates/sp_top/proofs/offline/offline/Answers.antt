@@ -4,7 +4,9 @@ use Rattle.sp_top.proofs.offline.offline.Goals as goal
 
 pub returns-in-Ok-write_all-clause-wrote : goal.returns-in-Ok-write_all-clause-wrote
 returns-in-Ok-write_all-clause-wrote g c =
-    let answers = answers_of c.args.command.now (g.S.Source.left c.args.source.now) c.in-Ok-answer.answered.verdict c.in-Ok-answer.answered.text c.in-Ok.input.bytes.items c.in-Ok.input.is_cut
+    let answers =
+    answers_of c.args.command.now (g.S.Source.left c.args.source.now) c.in-Ok-answer.answered.verdict c.in-Ok-answer.answered.text c.in-Ok.input.bytes.items
+    c.in-Ok.input.is_cut
     c.in-Ok.ensures.bytes (rw c.as_slice.ensures.value at c.in-Ok-answer.ensures) in
     rw (c.ended-in-Ok-write_all.ensures, c.status_of.ensures)
     (offline_written _ c.args.command.now c.in-Ok-answer.answered.verdict c.in-Ok-answer.answered.text _ _ answers
@@ -12,7 +14,9 @@ returns-in-Ok-write_all-clause-wrote g c =
 
 pub returns-clause-wrote : goal.returns-clause-wrote
 returns-clause-wrote g c =
-    let answers = answers_of c.args.command.now (g.S.Source.left c.args.source.now) c.in-Ok-answer.answered.verdict c.in-Ok-answer.answered.text c.in-Ok.input.bytes.items c.in-Ok.input.is_cut
+    let answers =
+    answers_of c.args.command.now (g.S.Source.left c.args.source.now) c.in-Ok-answer.answered.verdict c.in-Ok-answer.answered.text c.in-Ok.input.bytes.items
+    c.in-Ok.input.is_cut
     c.in-Ok.ensures.bytes (rw c.as_slice.ensures.value at c.in-Ok-answer.ensures) in
     rw c.ended-in-Err.ensures
     (offline_begun _ c.args.command.now c.in-Ok-answer.answered.verdict c.in-Ok-answer.answered.text _ _ answers

@@ -8,12 +8,14 @@ returns-in-Ok-clause-ends g c = λ clock file.
 
 pub returns-in-Err-Unanswered-clause-ends : goal.returns-in-Err-Unanswered-clause-ends
 returns-in-Err-Unanswered-clause-ends g c = λ clock file.
-    unanswered c.args.asked c.as_bytes.result _ _ _ clock file _ _ c.as_bytes.ensures.value (c.in-Err-Unanswered.ensures.unanswered (ap Err c.in-Err-Unanswered.field-0-is))
+    unanswered c.args.asked c.as_bytes.result _ _ _ clock file _ _ c.as_bytes.ensures.value
+    (c.in-Err-Unanswered.ensures.unanswered (ap Err c.in-Err-Unanswered.field-0-is))
     c.tell_silence.ensures.told
 
 pub returns-in-Err-Unopened-clause-ends : goal.returns-in-Err-Unopened-clause-ends
 returns-in-Err-Unopened-clause-ends g c = λ clock file.
-    unopened c.args.asked c.as_bytes.result _ _ _ clock file _ _ c.as_bytes.ensures.value (c.in-Err-Unopened.ensures.unopened (ap Err c.in-Err-Unopened.field-0-is))
+    unopened c.args.asked c.as_bytes.result _ _ _ clock file _ _ c.as_bytes.ensures.value
+    (c.in-Err-Unopened.ensures.unopened (ap Err c.in-Err-Unopened.field-0-is))
     c.tell.ensures.told
 
 pub returns-in-Err-Unopened-clause-opens : goal.returns-in-Err-Unopened-clause-opens

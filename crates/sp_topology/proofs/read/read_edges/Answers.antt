@@ -17,5 +17,6 @@ edges-preserved c =
     c.edges.invariant
     ∙ edges_go c.args.format ids c.args.count c.edges._done c.edges.before c.edges.reader c.read_edge.new.reader c.edges.edges.items c.in_ok-edge.edge
     c.edges-test.true c.in_ok-edge.ensures
-    ∙ ap (λ (items : List Edge). onto items (edges_at c.args.format ids (c.args.count - (c.edges._done + 1)) (ends_of c.in_ok-edge.edge) c.read_edge.new.reader))
+    ∙ ap (λ (items : List Edge). onto items
+    (edges_at c.args.format ids (c.args.count - (c.edges._done + 1)) (ends_of c.in_ok-edge.edge) c.read_edge.new.reader))
     (sym c.in_ok-push.ensures.items)

@@ -38,7 +38,8 @@ status-requires c =
     record {
       can =
           subst (λ (ns : List NodeState). CanCraft k.scenario.now ns r.c r.v) (sym nodes_are)
-          (status_may k.scenario.now k.events.now k.journal.now (world_in c.args.scene.now) c.args.event.now r.c r.v r.s r.d r.base r.have c.requires.comes r.is);
+          (status_may k.scenario.now k.events.now k.journal.now (world_in c.args.scene.now) c.args.event.now r.c r.v r.s r.d r.base r.have c.requires.comes
+          r.is);
     }
 
 pub document-requires-clause-can : goal.document-requires-clause-can

@@ -14,5 +14,7 @@ craft-requires c =
     let format_is : c.scene.inside.crafters.format ≡ c.args.scenario.now.format =
     ap (λ (v : Scene). v.crafters.format) c.scene.view_is ∙ ap (λ (k : Crafters). k.format) c.requires.crafters in
     let body_is : c.in_ok-body.body ≡ dated first.node.parts.lives (body_of c.args.object.now) =
-    c.in_ok-body.ensures first.node (ap (λ (ns : List NodeState). node_in ns c.args.v) c.deref-2.ensures.value ∙ ap (λ (v : Scene). node_in v.nodes c.args.v) c.scene.view_is ∙ first.is_there) in
+    c.in_ok-body.ensures first.node
+    (ap (λ (ns : List NodeState). node_in ns c.args.v) c.deref-2.ensures.value ∙ ap (λ (v : Scene). node_in v.nodes c.args.v) c.scene.view_is
+    ∙ first.is_there) in
     rw (body_is, format_is) (c.requires.fields first.node first.is_there)

@@ -8,9 +8,11 @@ returns-clause-ended g c =
       status = c.run-outcome.result.status;
       code_is = search rules;
       world = c.run-outcome.result.world;
-      said = ended _ _ _ _ _ _ _ _ _ _ _ _ _ _ _ (ap g.R.Read.remaining (ap (λ s. s.reader) c.new-source.ensures)) (ap g.W.Write.contents (ap (λ s. s.writer) c.new-sink.ensures))
+      said = ended _ _ _ _ _ _ _ _ _ _ _ _ _ _ _ (ap g.R.Read.remaining (ap (λ s. s.reader) c.new-source.ensures))
+          (ap g.W.Write.contents (ap (λ s. s.writer) c.new-sink.ensures))
           (sym (ap g.W.Write.contents c.into_writer.ensures)) (rw c.as_slice.ensures.value at c.run-outcome.ensures.said);
-      broken = broken _ _ _ _ _ _ _ _ _ _ _ (ap g.R.Read.remaining (ap (λ s. s.reader) c.new-source.ensures)) (sym (ap g.R.Read.remaining c.into_reader.ensures))
+      broken = broken _ _ _ _ _ _ _ _ _ _ _ (ap g.R.Read.remaining (ap (λ s. s.reader) c.new-source.ensures))
+          (sym (ap g.R.Read.remaining c.into_reader.ensures))
           (ap g.W.Write.contents (ap (λ s. s.writer) c.new-sink.ensures)) (sym (ap g.W.Write.contents c.into_writer.ensures))
           (rw c.as_slice.ensures.value at c.run-outcome.ensures.broken);
       claims = search rules;

@@ -30,14 +30,16 @@ invariant_of-result c =
     let t_is : t ≡ min (from / n) (n - 1) = c.min-tree.ensures ∙ rw leaves refl in
     let start = starts_at n from t (pow_pos (height h)) (omega (arith, c.requires.ordered, within)) t_is in
     let before : c.skip_to.new.self ≡ tree_with h seed Upper t = c.skip_to.ensures ∙ ap (λ (v : Key). record v { used = t }) c.key.invariant in
-    let upper : c.write_front.new.upper ≡ tree_with h seed Upper (t + 1) = c.write_front.ensures.upper ∙ ap (λ (v : Key). record v { used = v.used + 1 }) before in
+    let upper : c.write_front.new.upper ≡ tree_with h seed Upper (t + 1) =
+    c.write_front.ensures.upper ∙ ap (λ (v : Key). record v { used = v.used + 1 }) before in
     let tree : c.write_front.new.upper.used - 1 ≡ t = ap (λ (v : Key). v.used - 1) upper ∙ omega arith in
     let key : c.public.result ≡ tree_key h seed (Lower t) = c.public.ensures ∙ ap (λ (v : Key). keys.public_key v.lms v.ots v.id v.seed) c.in-Ok.ensures.ok in
     let front : c.write_front.new.front ≡ front_of h seed t =
     c.write_front.ensures.front
     ∙ ap (λ (k : List ℕ). (let v = c.skip_to.new.self in u32str 1 ++ keys.signature v.lms v.ots v.id v.seed v.used k ++ k)) key
     ∙ ap (λ (v : Key). (let k = tree_key h seed (Lower t) in u32str 1 ++ keys.signature v.lms v.ots v.id v.seed v.used k ++ k)) before in
-    let long : length c.write_front.new.front ≡ c.in-Ok-vec.front.len = ap length front ∙ length-front_of h seed t ∙ sym c.front_len.ensures ∙ sym c.in-Ok-vec.ensures.len in
+    let long : length c.write_front.new.front ≡ c.in-Ok-vec.front.len =
+    ap length front ∙ length-front_of h seed t ∙ sym c.front_len.ensures ∙ sym c.in-Ok-vec.ensures.len in
     let place : c.from.result * c.from-leaves.result ≡ t * n = rw (c.from.ensures, leaves) refl in
     let lower : c.skip_to-2.new.self ≡ tree_with h seed (Lower t) (from - t * n) =
     c.skip_to-2.ensures ∙ ap (λ (v : Key). record v { used = from - c.from.result * c.from-leaves.result }) c.in-Ok.ensures.ok
@@ -45,7 +47,8 @@ invariant_of-result c =
     let used : c.skip_to-2.new.self.used ≡ from - t * n = ap (λ (v : Key). v.used) lower in
     let ahead = c.in-Ok-growing.ensures.ok in
     let grown : c.in-Ok-growing.next.grown ≡ c.if-from-leaves.grown = ap (λ (v : Growing). v.grown) ahead in
-    let at : AreAt h seed t from c.write_front.new.upper c.skip_to-2.new.self c.in-Ok-growing.next (with_items c.in-Ok-vec.front c.write_front.new.front).items = record {
+    let at : AreAt h seed t from c.write_front.new.upper c.skip_to-2.new.self c.in-Ok-growing.next
+    (with_items c.in-Ok-vec.front c.write_front.new.front).items = record {
       tree = start.tree;
       upper_is = upper;
       lower_is = lower ∙ ap (tree_with h seed (Lower t)) (sym used);

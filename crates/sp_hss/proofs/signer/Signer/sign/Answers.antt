@@ -22,7 +22,8 @@ split_at_mut-front-requires c =
     let k = c.self.inside in
     let room : length c.deref_mut.result.now ≡ front_len k.height =
     ap length c.deref_mut.ensures.value ∙ ap length c.self.invariant.at.front_is ∙ length-front_of k.height k.seed (k.upper.used - 1) in
-    let out : length c.args.out.now ≡ front_len k.height + lms.signature_len k.height W4 = c.requires ∙ sym (ap (λ (v : Signer). signature_len v.height) c.self.view_is) in
+    let out : length c.args.out.now ≡ front_len k.height + lms.signature_len k.height W4 =
+    c.requires ∙ sym (ap (λ (v : Signer). signature_len v.height) c.self.view_is) in
     omega (arith, c.len.ensures, c.deref_mut.ensures.len, room, out)
 
 pub sign_next-requires-clause-room : goal.sign_next-requires-clause-room
@@ -30,8 +31,10 @@ sign_next-requires-clause-room c =
     let k = c.self.inside in
     let room : length c.deref_mut.result.now ≡ front_len k.height =
     ap length c.deref_mut.ensures.value ∙ ap length c.self.invariant.at.front_is ∙ length-front_of k.height k.seed (k.upper.used - 1) in
-    let out : length c.args.out.now ≡ front_len k.height + lms.signature_len k.height W4 = c.requires ∙ sym (ap (λ (v : Signer). signature_len v.height) c.self.view_is) in
-    let own : lms.signature_len c.go_to.new.lower.lms c.go_to.new.lower.ots ≡ lms.signature_len k.height W4 = ap (λ (v : Key). lms.signature_len v.lms v.ots) c.go_to.ensures.lower_is in
+    let out : length c.args.out.now ≡ front_len k.height + lms.signature_len k.height W4 =
+    c.requires ∙ sym (ap (λ (v : Signer). signature_len v.height) c.self.view_is) in
+    let own : lms.signature_len c.go_to.new.lower.lms c.go_to.new.lower.ots ≡ lms.signature_len k.height W4 =
+    ap (λ (v : Key). lms.signature_len v.lms v.ots) c.go_to.ensures.lower_is in
     omega (arith, c.len.ensures, c.deref_mut.ensures.len, room, out, own, c.split_at_mut-front.ensures.back_len)
 
 pub returns-clause-signature : goal.returns-clause-signature
@@ -41,7 +44,8 @@ returns-clause-signature c =
     let n = leaf_count k.height in
     let t = k.index / n in
     let long : length c.go_to.new.front ≡ k.front.len =
-    ap length c.go_to.ensures.front_is ∙ length-front_of k.height k.seed t ∙ sym (length-front_of k.height k.seed (k.upper.used - 1)) ∙ sym (ap length c.self.invariant.at.front_is)
+    ap length c.go_to.ensures.front_is ∙ length-front_of k.height k.seed t ∙ sym (length-front_of k.height k.seed (k.upper.used - 1))
+    ∙ sym (ap length c.self.invariant.at.front_is)
     ∙ sym (ap length c.deref_mut.ensures.value) ∙ c.deref_mut.ensures.len in
     let front : c.copy_from_slice.new.self ≡ front_of k.height k.seed t =
     c.copy_from_slice.ensures.after ∙ c.deref.ensures.value ∙ with_items_is k.front c.go_to.new.front long ∙ c.go_to.ensures.front_is in

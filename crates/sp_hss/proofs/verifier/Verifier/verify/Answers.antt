@@ -15,7 +15,8 @@ returns-in-Some-clause-answer c =
     let known : IsFrontUnder k.public.items k.front.items = c.self.invariant.known c.if-self.true in
     let whole : c.args.sig.now ≡ k.front.items ++ lower = c.in-Some.ensures ∙ ap (λ (xs : List ℕ). xs ++ lower) c.deref.ensures.value in
     let key : c.lower_key.result.now ≡ lower_key_of k.front.items = c.lower_key.ensures ∙ ap lower_key_of c.deref-in-Some.ensures.value in
-    let told : (IsTrue c.verify.result → tree.IsValid c.lower_key.result.now msg lower) × (tree.IsValid c.lower_key.result.now msg lower → IsTrue c.verify.result) =
+    let told : (IsTrue c.verify.result → tree.IsValid c.lower_key.result.now msg lower)
+    × (tree.IsValid c.lower_key.result.now msg lower → IsTrue c.verify.result) =
     c.verify.ensures in
     let ways = rw key at told in
     rw (← c.self.view_is, whole) (

@@ -20,7 +20,8 @@ returns-in-Some c =
     let rows = c.self.inside.rows.items in
     let place : position (is_life c.origin_said-node.result) rows ≡ Some c.in-Some.place =
     ap (position (is_life c.origin_said-node.result)) (sym c.as_slice.ensures.value) ∙ sym c.life_of.ensures ∙ c.in-Some.is in
-    sym (replace_where-position (is_life c.origin_said-node.result) (record { node = c.origin_said-node.result; object = Some c.args.object }) rows c.in-Some.place place)
+    sym (replace_where-position (is_life c.origin_said-node.result) (record { node = c.origin_said-node.result; object = Some c.args.object }) rows
+    c.in-Some.place place)
     ∙ ap (λ (v : NodeId). replace_where (is_life v) (record { node = v; object = Some c.args.object }) rows) said
     ∙ ap (λ (ls : List Life). held ls c.args.object) c.self.view_is
 

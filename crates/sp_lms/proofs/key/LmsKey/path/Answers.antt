@@ -20,7 +20,8 @@ levels-preserved c =
       number_is = ap (λ (n : ℕ). n / 2) c.levels.invariant.number_is ∙ half_more c.args.r c.levels.level;
       made =
           filled_more _ c.levels.path c.levels.level c.index.result.now (omega arith) c.levels.invariant.made
-          (sibling_read (height k.lms) k.id (seed_leaf k.lms k.ots k.id k.seed) k.nodes.items c.levels.level c.args.r c.levels.number c.sibling.result c.index.result.now
+          (sibling_read (height k.lms) k.id (seed_leaf k.lms k.ots k.id k.seed) k.nodes.items c.levels.level c.args.r c.levels.number c.sibling.result
+          c.index.result.now
           c.self.invariant.tree (omega (arith, c.height-level-end.ensures.value)) low high c.levels.invariant.number_is c.sibling.ensures c.index.ensures);
     }
 

@@ -17,9 +17,11 @@ returns c =
     let leaf = c.copy_from_slice.ensures.after ∙ c.to_be_bytes.ensures in
     let code = c.copy_from_slice-2.ensures.after ∙ c.to_be_bytes-2.ensures ∙ ap (λ (n : ℕ). to_be_bytes w32 n) c.typecode.ensures in
     let leaf_tree = seed_leaf k.lms k.ots k.id k.seed in
-    let way : take (height k.lms) c.path-path.result ≡ path k.id leaf_tree (height k.lms) (c.leaf_count.result + c.args.q) = rw (← c.self.view_is) at c.path-path.ensures in
+    let way : take (height k.lms) c.path-path.result ≡ path k.id leaf_tree (height k.lms) (c.leaf_count.result + c.args.q) =
+    rw (← c.self.view_is) at c.path-path.ensures in
     let siblings : take c.height.result c.path-path.result ≡ path k.id leaf_tree (height k.lms) (leaf_count k.lms + c.args.q) =
-    ap (λ (i : ℕ). take i c.path-path.result) c.height.ensures.value ∙ way ∙ ap (λ (i : ℕ). path k.id leaf_tree (height k.lms) (i + c.args.q)) c.leaf_count.ensures.value in
+    ap (λ (i : ℕ). take i c.path-path.result) c.height.ensures.value ∙ way
+    ∙ ap (λ (i : ℕ). path k.id leaf_tree (height k.lms) (i + c.args.q)) c.leaf_count.ensures.value in
     let joined : c.copy_from_slice-3.new.self ≡ concat (path k.id leaf_tree (height k.lms) (leaf_count k.lms + c.args.q)) =
     c.copy_from_slice-3.ensures.after ∙ c.as_flattened.ensures.value ∙ sym (concat_is (take c.height.result c.path-path.result)) ∙ ap concat siblings in
     let first : length c.copy_from_slice.new.self ≡ 4 = ap length leaf in

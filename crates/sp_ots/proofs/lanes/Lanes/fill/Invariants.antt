@@ -5,7 +5,8 @@ use Rattle.sp_ots.proofs.lanes.Lanes.fill.Given as goal
 
 abbrev pub invariant-lanes : goal.invariant-lanes
 invariant-lanes l = record {
-  under_way : (old : List (List ℕ)) → AreUnderWay (front_in l.leaves) l.from l.to old l.elements l.fn.self → AreUnderWay (front_in l.leaves) l.from l.to old l.elements l.self;
+  under_way : (old : List (List ℕ)) → AreUnderWay (front_in l.leaves) l.from l.to old l.elements l.fn.self
+      → AreUnderWay (front_in l.leaves) l.from l.to old l.elements l.self;
   full : (m : ℕ) → m < l.k → slice_index l.self.left m ≡ 0 → l.self.most ≡ 0;
   work : work_left (length l.elements) l.self ≤ work_left (length l.elements) l.fn.self;
 }

@@ -21,7 +21,9 @@ lanes-preserved c =
       | then-self-k-gt0 w ↦ rw (w.self-is, w.elements-is) (record {
         under_way = λ front from old long u.
             let read = get_or-map sha256 was.messages k [] [] (omega (arith, u.messages)) in
-            let digest = ap (λ (ds : List (List ℕ)). get_or ds k []) c.digests-next.ensures ∙ read ∙ ap sha256 (sym (rest_first was.messages now.messages k [] held.messages)) in
+            let digest =
+            ap (λ (ds : List (List ℕ)). get_or ds k []) c.digests-next.ensures ∙ read
+            ∙ ap sha256 (sym (rest_first was.messages now.messages k [] held.messages)) in
             w.advance.ensures.under_way front from old long digest (held.under_way front from old long u);
         whole = omega arith;
         sound = w.advance.ensures.sound;

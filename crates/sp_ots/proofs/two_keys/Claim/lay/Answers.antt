@@ -28,7 +28,8 @@ returns-clause-to c = λ i within.
     let k = place + c.chain_count-count.result - place in
     put_within place k c.args.to.now c.copy_from_slice-2.new.self i 0 (omega arith) (omega (arith, c.chain_count-count.ensures))
     ∙ ap (λ (xs : List ℕ). get_or xs i 0) c.copy_from_slice-2.ensures.after
-    ∙ same_for_all c.chain_count-count.result 265 c.last_step.result i (omega (arith, few_chains c.args.self.now.param, c.chain_count-count.ensures)) (omega (arith, c.chain_count-count.ensures))
+    ∙ same_for_all c.chain_count-count.result 265 c.last_step.result i (omega (arith, few_chains c.args.self.now.param, c.chain_count-count.ensures))
+    (omega (arith, c.chain_count-count.ensures))
     ∙ c.last_step.ensures
 
 pub returns-clause-elements : goal.returns-clause-elements
@@ -39,5 +40,6 @@ returns-clause-elements c = λ i within.
     let lt : i < n = omega (arith, c.chain_count-count.ensures) in
     let laid = c.copy_from_slice-3.ensures.after ∙ c.as_chunks.ensures.front
     ∙ chunks_are c.args.self.now.param sig (take (length sig - 36) (drop 36 sig)) n c.chain_count-count.ensures c.requires.whole (take_rest sig 36) in
-    put_within place (place + n - place) c.args.elements.now c.copy_from_slice-3.new.self i [] (omega arith) (omega (arith, ap length laid, length-chunks n (drop 36 sig)))
+    put_within place (place + n - place) c.args.elements.now c.copy_from_slice-3.new.self i [] (omega arith)
+    (omega (arith, ap length laid, length-chunks n (drop 36 sig)))
     ∙ ap (λ (xs : List (List ℕ)). get_or xs i []) laid ∙ element_at sig n i lt

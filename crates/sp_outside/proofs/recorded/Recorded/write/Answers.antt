@@ -9,5 +9,8 @@ use Rattle.sp_outside.proofs.recorded.Recorded.write.Goals as goal
 pub invariant_of-self : goal.invariant_of-self
 invariant_of-self c =
     c.write.ensures
-    ∙ wrote_bytes (is_ok c.push.result) (still c.self.inside.first.now) c.self.inside.calls.items c.push.new.self.items (Written c.args.at c.in-Ok.bytes c.args.is_done) c.args.at c.args.piece.now c.self.inside.file (sym c.is_ok-is_kept.ensures.value ∙ c.if-is_kept.true) c.push.ensures.items
-    (ap (λ (bs : List ℕ). after_write (after_calls (still c.self.inside.first.now) c.self.inside.calls.items) c.args.at bs) c.in-Ok.ensures.items) c.self.invariant
+    ∙ wrote_bytes (is_ok c.push.result) (still c.self.inside.first.now) c.self.inside.calls.items c.push.new.self.items
+    (Written c.args.at c.in-Ok.bytes c.args.is_done) c.args.at c.args.piece.now c.self.inside.file (sym c.is_ok-is_kept.ensures.value ∙ c.if-is_kept.true)
+    c.push.ensures.items
+    (ap (λ (bs : List ℕ). after_write (after_calls (still c.self.inside.first.now) c.self.inside.calls.items) c.args.at bs) c.in-Ok.ensures.items)
+    c.self.invariant

@@ -13,7 +13,8 @@ invariant_of-self c =
     let f = c.self.inside in
     let at = row_at f.me f.bound f.rows.items f.active.items f.due.items c.args.place.flow c.in-Some.at c.index_mut-row.result.now c.self.invariant
     (ap (λ v. position (is_flow c.args.place.flow) v.flows) c.self.view_is ∙ sym c.requires.place ∙ c.in-Some.is) c.index_mut-row.ensures.value in
-    sound_taken f.me f.bound f.rows.items f.active.items f.due.items c.args.place.flow c.in-Some.at c.index_mut-row.result.now c.take.new.self c.self.invariant at
+    sound_taken f.me f.bound f.rows.items f.active.items f.due.items c.args.place.flow c.in-Some.at c.index_mut-row.result.now c.take.new.self c.self.invariant
+    at
     c.index_mut-row.ensures.value c.take.ensures.rest
 
 pub returns-in-Some-clause-taken : goal.returns-in-Some-clause-taken

@@ -73,7 +73,8 @@ changed_is r flow message payload to own same is =
     ∙ ap (λ (p : List ℕ). with_flow r (flow_said message.body)
     (cond to (received (flow_in r.flows (flow_said message.body)) p) (pushed (flow_in r.flows (flow_said message.body)) message))) same
     ∙ ap (λ (t : Bool). with_flow r (flow_said message.body)
-    (cond t (received (flow_in r.flows (flow_said message.body)) (payload_of message.body)) (pushed (flow_in r.flows (flow_said message.body)) message))) (sym is)
+    (cond t (received (flow_in r.flows (flow_said message.body)) (payload_of message.body)) (pushed (flow_in r.flows (flow_said message.body)) message)))
+    (sym is)
 
 pub returns-then-me-place-clause-table : goal.returns-then-me-place-clause-table
 returns-then-me-place-clause-table c =

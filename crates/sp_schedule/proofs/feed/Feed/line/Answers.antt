@@ -10,7 +10,8 @@ abbrev after : goal.After-clear → Fed
 after c = record { stage = c.in-To.next; count = c.self.inside.count + 1; waiting = c.clear.new.self.items }
 
 read : (c : goal.After-clear) → WasRead (before c) (after c) c.in-To.parsed
-read c = was_read (before c) (after c) c.in-To.parsed c.lead_of.result c.self.invariant.0 (rw (c.deref.ensures.value, c.replace-stage.ensures.value) at c.lead_of.ensures) c.in-To.is refl c.clear.ensures.items
+read c = was_read (before c) (after c) c.in-To.parsed c.lead_of.result c.self.invariant.0
+    (rw (c.deref.ensures.value, c.replace-stage.ensures.value) at c.lead_of.ensures) c.in-To.is refl c.clear.ensures.items
 
 pub invariant_of-self : goal.invariant_of-self
 invariant_of-self c = rw c.put.ensures ((read c).feed, omega (arith, c.self.invariant.1, c.clear.ensures.capacity))

@@ -16,6 +16,8 @@ gives_step old new node bytes (Err refused) gives same = tt
 
 pub returns-clause-step : goal.returns-clause-step
 returns-clause-step c =
-    gives_step c.args.self.now (record { clients = c.self.inside.clients; local = record c.self.inside.local { node = c.datagram.new.node } }) c.args.node c.args.bytes.now c.datagram.result
-    (subst (λ (s : Station). IfOk c.datagram.result (λ answer. Gives answer_text (node_of s) (steps.Datagram c.args.node c.args.bytes.now) answer c.datagram.new.node.state))
+    gives_step c.args.self.now (record { clients = c.self.inside.clients; local = record c.self.inside.local { node = c.datagram.new.node } }) c.args.node
+    c.args.bytes.now c.datagram.result
+    (subst (λ (s : Station). IfOk c.datagram.result
+    (λ answer. Gives answer_text (node_of s) (steps.Datagram c.args.node c.args.bytes.now) answer c.datagram.new.node.state))
     c.self.view_is c.datagram.ensures.gives) (ap (λ (s : Station). s.clients) c.self.view_is)

@@ -30,5 +30,6 @@ invariant_of-self-clause-room g c =
 pub returns-in-Err-clause-ended : goal.returns-in-Err-clause-ended
 returns-in-Err-clause-ended g c =
     let early = rw (c.polled_by-polled.ensures, c.deref.ensures.value, c.deref-2.ensures.value) at c.in-Err.ensures.early in
-    ended_by ℕ g.N.Core.steps g.N.Core.indexes c.args.self.now.peers.items _ c.args.self.now.node _ c.args.self.now.keys c.in-Err.ended c.stopped.result _ _ _ _ _ _ _ _ _ early
+    ended_by ℕ g.N.Core.steps g.N.Core.indexes c.args.self.now.peers.items _ c.args.self.now.node _ c.args.self.now.keys c.in-Err.ended c.stopped.result _ _ _ _
+    _ _ _ _ _ early
     c.in-Err.ensures.unmoved c.in-Err.ensures.spent c.stopped.ensures.stops

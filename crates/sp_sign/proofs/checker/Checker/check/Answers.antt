@@ -14,6 +14,8 @@ returns-clause-ok c =
     let at : key ≡ slice_index_or c.deref.result.now c.in-Some.place key =
     c.index_mut.ensures.value ∙ ap (λ (ns : List NodeVerifier). slice_index_or ns c.in-Some.place key) (sym c.deref.ensures.value) in
     let known : key_of (signer_of (as_body c.args.body.now)).0 c.args.self.now.nodes ≡ Some key.key =
-    ap (λ (id : NodeId). key_of id.0 c.args.self.now.nodes) (sym c.signer.ensures) ∙ ap (λ (checking : Checking). key_of c.signer.result.0 checking.nodes) (sym c.self.view_is)
-    ∙ ap (λ (ns : List NodeVerifier). key_of c.signer.result.0 (map as_key ns)) (sym c.deref.ensures.value) ∙ c.in-Some.ensures.some.key key ∙ sym (ap (λ (n : NodeVerifier). Some n.key) at) in
+    ap (λ (id : NodeId). key_of id.0 c.args.self.now.nodes) (sym c.signer.ensures)
+    ∙ ap (λ (checking : Checking). key_of c.signer.result.0 checking.nodes) (sym c.self.view_is)
+    ∙ ap (λ (ns : List NodeVerifier). key_of c.signer.result.0 (map as_key ns)) (sym c.deref.ensures.value) ∙ c.in-Some.ensures.some.key key
+    ∙ sym (ap (λ (n : NodeVerifier). Some n.key) at) in
     rw known (λ _. valid, λ _. refl)

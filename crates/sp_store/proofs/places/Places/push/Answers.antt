@@ -8,7 +8,8 @@ use Rattle.sp_store.proofs.places.Places.push.Goals as goal
 
 pub add-requires-clause-fresh : goal.add-requires-clause-fresh
 add-requires-clause-fresh c =
-    new_id (c.self.inside.last + 1) c.self.inside.last c.make_room.new.map.entries (c.make_room.ensures.below c.self.inside.last c.self.invariant.below) (omega arith)
+    new_id (c.self.inside.last + 1) c.self.inside.last c.make_room.new.map.entries (c.make_room.ensures.below c.self.inside.last c.self.invariant.below)
+    (omega arith)
 
 pub invariant_of-self : goal.invariant_of-self
 invariant_of-self c =
@@ -23,7 +24,8 @@ invariant_of-self c =
       enough = c.self.invariant.enough;
       counted = omega (arith, longer, c.self.invariant.counted);
       few = omega (arith, few, c.self.invariant.counted);
-      stand = rw c.add.ensures.places (stands_push 0 c.self.inside.last key c.make_room.new.map.entries new c.make_room.ensures.stand below (omega arith) (omega arith) refl);
+      stand = rw c.add.ensures.places
+          (stands_push 0 c.self.inside.last key c.make_room.new.map.entries new c.make_room.ensures.stand below (omega arith) (omega arith) refl);
       below = rw c.add.ensures.places (below_push c.self.inside.last key c.make_room.new.map.entries (Some new) below (omega arith));
       roomy = omega (arith, c.add.ensures.room, c.make_room.ensures.room);
       empty = c.make_room.ensures.empty;

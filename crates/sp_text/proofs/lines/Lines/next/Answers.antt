@@ -7,7 +7,9 @@ pub returns-in_default : goal.returns-in_default
 returns-in_default c =
     let text = c.self.inside.rest.now in
     let full = is_not_empty text c.if-is_empty.ensures in
-    let missing = line_missing (c.self.inside.given + 1) text _ c.endless.result c.min-searched.ensures (sym c.newline.ensures ∙ c.in_default.is) c.endless.ensures.long c.endless.ensures.cut in
+    let missing =
+    line_missing (c.self.inside.given + 1) text _ c.endless.result c.min-searched.ensures (sym c.newline.ensures ∙ c.in_default.is) c.endless.ensures.long
+    c.endless.ensures.cut in
     rw (← c.self.view_is) (full, missing, refl)
 
 pub returns : goal.returns

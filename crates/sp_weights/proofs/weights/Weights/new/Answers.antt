@@ -12,7 +12,8 @@ invariant_of-result c =
     let few = few_edges c.args.topology.now.format in
     let least : c.in_ok-least.least.items ≡ weights_in edges = rw c.as_slice-3.ensures.value at c.in_ok-least.ensures in
     let weights : c.in_ok-in_effect.in_effect.items ≡ weights_in edges = rw c.as_slice-4.ensures.value at c.in_ok-in_effect.ensures in
-    sound_at_start edges c.in_ok-least.least.items c.in_ok-rows.rows.items c.in_ok-active.active.items c.in_ok-in_effect.in_effect.items (2 * c.len-count.result)
+    sound_at_start edges c.in_ok-least.least.items c.in_ok-rows.rows.items c.in_ok-active.active.items c.in_ok-in_effect.in_effect.items
+    (2 * c.len-count.result)
     (omega (arith, ap (λ (es : List Edge). length es) same, c.requires.graph.edge_count, few))
     (omega (arith, c.len-count.ensures, c.in_ok-edges.ensures.len, ap length c.in_ok-edges.ensures.items))
     c.in_ok-rows.ensures c.in_ok-active.ensures least (weights ∙ sym least)

@@ -10,7 +10,8 @@ pub invariant_of-self : goal.invariant_of-self
 invariant_of-self c =
     let i = c.self.inside in
     kept_undone i.scenario i.events.items c.make_room.new.events.items i.journal.items c.make_room.new.journal.items (world_in i.scene) (world_in i.scene)
-    c.args.event i.signature_len i.scene.crafters i.scene.crafters i.home i.stopped c.self.invariant c.in_default.is (record { nodes = inl refl; frames = refl })
+    c.args.event i.signature_len i.scene.crafters i.scene.crafters i.home i.stopped c.self.invariant c.in_default.is
+    (record { nodes = inl refl; frames = refl })
     c.self.invariant.crafters c.make_room.ensures.events c.make_room.ensures.journal
 
 -- src/world.rt:117:17
