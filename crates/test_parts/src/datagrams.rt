@@ -12,7 +12,7 @@ use std::process::Abort;
 use std::test::Fail;
 
 /// The key of the edge between 1 and 2.
-const KEY: &str = "281af100d4b1e63cad7c11897b0440500bef02a76c14e9b589b3c99d2d28e221";
+pub(crate) const KEY: &str = "281af100d4b1e63cad7c11897b0440500bef02a76c14e9b589b3c99d2d28e221";
 
 /// The length of a signature at height 5.
 const SIGNATURE_LEN: usize = 4756;
