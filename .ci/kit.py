@@ -107,10 +107,7 @@ def explains(kit):
     kit.equal("explain the last line of an output", kit.run("spinesd-explain", given=b"journal 1\n1 empty\nrefused 10 Event\n")[1].split("\n")[0],
               "replay, status 3, `refused LINE Event`")
     rows = rows_of(read(os.path.join(KIT, "endings.md")).decode())
-    formats = read(os.path.join(ROOT, "docs", "FORMATS.md")).decode()
-    in_formats = rows_of(formats[formats.index("## Endings, and what to do"):formats.index("## Messages\n")])
     kit.holds("the table has all statuses", {row[1] for row in rows} == {*map(str, [0, *range(2, 14)]), "129 to 159"}, sorted({row[1] for row in rows}))
-    kit.equal("FORMATS has the same table", in_formats, rows)
     told = [row for row in rows if row[2] != "nothing"]
     samples = [" ".join(SAMPLE.get(word, "7" if word.isupper() else word) for word in row[2].strip("`").split(" ")) for row in told]
     for row, sample, (status, said, _) in zip(told, samples, explained(kit, [(row[0].split(", ")[0], sample) for row, sample in zip(told, samples)])):

@@ -10,17 +10,19 @@ import time
 ROOT = os.path.dirname(os.path.dirname(os.path.abspath(__file__)))
 KIT = os.path.join(ROOT, "kit")
 SCRIPTS = ("spinesd-keys", "spinesd-status", "spinesd-sessions", "spinesd-client", "spinesd-explain", "spinesd-view", "spinesd-node")
-PAGES = ["spinesd-client.1", "spinesd-recording.5", "spinesd-schedule.5", "spinesd.1", "spinesd.conf.5"]
+PAGES = ["spinesd-audit.1", "spinesd-client.1", "spinesd-recording.5", "spinesd-schedule.5", "spinesd.1", "spinesd.conf.5"]
 EXPOSURE = 2.0
 COMPLETED = [
     ("_spinesd", ["spinesd", "v"], ["verify"]), ("_spinesd", ["spinesd", "ask", "--p"], ["--port"]), ("_spinesd", ["spinesd", "daemon", "--turns", ""], []),
     ("_spinesd", ["spinesd", "paths", ""], ["--from", "--to", "--paths"]), ("_spinesd_kit", ["spinesd-status", "--pr"], ["--prometheus"]),
+    ("_spinesd_audit", ["spinesd-audit", "ro"], ["rounds"]), ("_spinesd_audit", ["spinesd-audit", "rounds", "x", "--p"], ["--path"]),
+    ("_spinesd_audit", ["spinesd-audit", "run", KIT + "/endi"], [KIT + "/endings.md"]), ("_spinesd_audit", ["spinesd-audit", "rounds", "--path", ""], []),
     ("_spinesd_kit", ["spinesd-node", "v"], ["verify"]), ("_spinesd_kit", ["spinesd-view", "--li"], ["--lives"]),
     ("_spinesd_kit", ["spinesd-keys", "--fo"], ["--format"]), ("_spinesd_kit", ["spinesd-client", "li"], ["listen"]),
     ("_spinesd_kit", ["spinesd-client", "bench", "--si"], ["--size"]), ("_spinesd_kit", ["spinesd-client", "close", "--p"], []),
 ]
 INSTALLED = sorted([
-    "bin/spinesd", *("bin/" + name for name in SCRIPTS), *("lib/spinesd/kit/" + name for name in SCRIPTS), "lib/spinesd/kit/endings.md",
+    "bin/spinesd", "bin/spinesd-audit", *("bin/" + name for name in SCRIPTS), *("lib/spinesd/kit/" + name for name in SCRIPTS), "lib/spinesd/kit/endings.md",
     "lib/spinesd/kit/page.html", *(f"lib/spinesd/kit/lib/{name}.py" for name in (
         "answers", "clients", "configurations", "dialogues", "endings", "films", "frames", "holders", "journals", "ledgers", "lives", "metrics", "overlays", "paths",
         "pruning", "readings", "recordings", "renewals", "scripts", "sessions", "stores", "tables", "tellings", "versions", "watching")),
@@ -42,11 +44,13 @@ def tool(*words, **more):
 def man_pages(kit):
     pages = sorted(glob.glob(KIT + "/man/*"))
     kit.equal("man pages", [os.path.basename(page) for page in pages], PAGES)
-    text = open(pages[3], encoding="utf-8").read()
+    text = open(pages[4], encoding="utf-8").read()
     kit.equal("spinesd(1): the statuses", re.findall(r"^\.It (\d+)$", text, re.MULTILINE), ["0", *map(str, range(2, 14))])
-    keys = re.findall(r"^\.It Ic (\w+)$", open(pages[4], encoding="utf-8").read(), re.MULTILINE)
+    audits = re.findall(r"^\.It (\d+)$", open(pages[0], encoding="utf-8").read(), re.MULTILINE)
+    kit.equal("spinesd-audit(1): the statuses", audits, ["0", "2", "3", "5", "6", "9", "14"])
+    keys = re.findall(r"^\.It Ic (\w+)$", open(pages[5], encoding="utf-8").read(), re.MULTILINE)
     kit.equal("spinesd.conf(5): the keys", keys, ["node", "seed", "admin", "topology", "port", "client_port", "buffer", "store", "peer"])
-    statuses = re.findall(r"^\.It (\d+)$", open(pages[0], encoding="utf-8").read(), re.MULTILINE)
+    statuses = re.findall(r"^\.It (\d+)$", open(pages[1], encoding="utf-8").read(), re.MULTILINE)
     said = tool(os.path.join(KIT, "spinesd-client"), "--help")[1].partition("Exit status: ")[2]
     kit.equal("spinesd-client(1): the statuses", statuses, re.findall(r"(?:^|, )(\d+)\s", said.replace("\n", " ")))
     if not kit.missing("mandoc"):
@@ -77,6 +81,8 @@ def installs(kit):
     kit.equal("install", tool(install, "--prefix", prefix, "--program", kit.program), (0, f"installed under {prefix}\n"))
     kit.equal("install: the files", files_in(prefix), INSTALLED)
     kit.equal("install: the program", open(prefix + "/bin/spinesd", "rb").read(), open(kit.program, "rb").read())
+    auditor = os.path.join(ROOT, "crates", "spinesd_audit", "out", "spinesd_audit")
+    kit.equal("install: the auditor's program", open(prefix + "/bin/spinesd-audit", "rb").read(), open(auditor, "rb").read())
     kit.equal("install: a script runs there", tool(prefix + "/bin/spinesd-explain", "2")[1].split("\n")[0], "any command, status 2, `usage`")
     units(kit, prefix + "/lib/systemd/system/spinesd@.service", prefix)
     kit.equal("install into a staging folder", tool(install, "--prefix", "/opt/x", "--program", kit.program, env={**os.environ, "DESTDIR": staged})[0], 0)
@@ -89,6 +95,7 @@ def installs(kit):
     kit.holds("uninstall takes its folder", not os.path.exists(prefix + "/lib/spinesd"), files_in(prefix))
     none = kit.path("none")
     kit.equal("install of no program", tool(install, "--prefix", prefix, "--program", none), (1, f"install: {none} is no program\n"))
+    kit.equal("install of no auditor", tool(install, "--prefix", prefix, "--program", kit.program, "--auditor", none), (1, f"install: {none} is no program\n"))
 
 
 def wide(kit):

@@ -41,7 +41,7 @@ BOUNDS = 64, 256
 RESERVED = 32
 # how many messages are signed in a schedule that is timed
 SIGNED = 2_000
-# a check takes so much of a signature's time, where the front of its signer is remembered (docs/SPEED.md, height 10)
+# a check takes so much of a signature's time, where the front of its signer is remembered (docs/MEASURES.md, "Hashes, tags and signatures")
 CHECK = 0.377
 TICKS = os.sysconf("SC_CLK_TCK")
 

@@ -22,6 +22,19 @@ _spinesd() {
     fi
 }
 
+_spinesd_audit() {
+    local now=${COMP_WORDS[COMP_CWORD]} before=${COMP_WORDS[COMP_CWORD - 1]}
+    if [ "$COMP_CWORD" -eq 1 ]; then
+        mapfile -t COMPREPLY < <(compgen -W "run rounds schedule journal" -- "$now")
+    elif [[ $before == --* ]]; then
+        COMPREPLY=()
+    elif [[ ${COMP_WORDS[1]} == rounds && $now == --* ]]; then
+        mapfile -t COMPREPLY < <(compgen -W "--path --from" -- "$now")
+    else
+        mapfile -t COMPREPLY < <(compgen -f -- "$now")
+    fi
+}
+
 _spinesd_client() {
     local always="--session --wait --help"
     case ${COMP_WORDS[1]} in
@@ -50,4 +63,5 @@ _spinesd_kit() {
 }
 
 complete -F _spinesd spinesd
+complete -F _spinesd_audit -o filenames spinesd-audit
 complete -F _spinesd_kit -o filenames spinesd-keys spinesd-status spinesd-sessions spinesd-client spinesd-explain spinesd-view spinesd-node

@@ -1,4 +1,4 @@
-"""Builds the program of this checkout by `rt run`, which proves each crate first: a line for each crate that is done, and all that is said in a file."""
+"""Builds a program of this checkout by `rt run`, which proves each crate first: a line for each crate that is done, and all that is said in a file."""
 
 import os
 import re
@@ -12,6 +12,8 @@ VERDICT = re.compile(r"^logic=proved functions=(\d+)")
 SHOWN = 20
 NO_HELP = re.compile(r"^(?:fn|struct|enum|trait|impl|const) .*: proved$|^statements |^by-macro")
 SECONDS_A_LINE = 60
+# a short run of the auditor's program, and of each other one
+SHORT_AUDIT, SHORT = ["schedule", "examples/first_message.schedule"], ["generate", "--seed", "7"]
 
 
 def crates_below(root, program):
@@ -59,7 +61,8 @@ def build(root, program):
     path, last = os.path.join(folder, "out", "build.log"), []
     progress = Progress(crates_below(root, program))
     print(f"The program isn't built yet. `rt run` proves and builds it, once; what the prover says goes to {path}.", flush=True)
-    words = ["rt", "run", "--", "generate", "--seed", "7"]
+    short = [SHORT_AUDIT[0], os.path.join(root, SHORT_AUDIT[1])] if program == "spinesd_audit" else SHORT
+    words = ["rt", "run", "--", *short]
     with open(path, "w", encoding="utf-8") as log:
         child = subprocess.Popen(words, cwd=folder, stdin=subprocess.DEVNULL, stdout=subprocess.PIPE, stderr=subprocess.STDOUT, text=True, errors="replace")
         for line in child.stdout:
@@ -73,4 +76,4 @@ def build(root, program):
 
 
 if __name__ == "__main__":
-    build(os.path.dirname(os.path.dirname(os.path.dirname(os.path.abspath(__file__)))), "spinesd")
+    build(os.path.dirname(os.path.dirname(os.path.dirname(os.path.abspath(__file__)))), *(sys.argv[1:2] or ["spinesd"]))

@@ -60,7 +60,7 @@ def told_twice(lives):
     for before, after in zip(true, true[1:]):
         if before.boot == after.boot or after.first < before.bound:
             yield (f"{os.path.basename(after.path)} begins with boot {after.boot} and index {after.first}, and {os.path.basename(before.path)} had boot "
-                   f"{before.boot} and the indexes below {before.bound}: an older key file was put back (docs/KEYS.md)")
+                   f"{before.boot} and the indexes below {before.bound}: an older key file was put back (docs/GUIDE.md)")
 
 
 def configurations_in(folder):

@@ -155,7 +155,7 @@ def attentions(look, told, standing):
     if told["not_met"] and (watch.now or 0) - (watch.first_tick or 0) >= MET_MS:
         yield f"no start of node {', '.join(map(str, told['not_met']))} was heard yet: a message to it is answered badend"
     for (source, destination), age in standing.items():
-        yield f"the flow {source}-{destination} stands for {age / 1000:.0f} s: its messages aren't acknowledged (docs/OPERATING.md, When something fails)"
+        yield f"the flow {source}-{destination} stands for {age / 1000:.0f} s: its messages aren't acknowledged (docs/GUIDE.md, When something fails)"
 
 
 def of_turns(look):

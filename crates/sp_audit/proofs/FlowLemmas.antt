@@ -1,5 +1,6 @@
 -- Flows are counted from each node to each other one.
-use Rattle.std.proofs.Common.{◌≡◌, ℕ, zero, suc, ◌+◌, Bool, true, false, cond, not, ◌&&◌, ◌||◌, List, [], ◌∷◌, ◌++◌, map, filter, count_by, flat_map, refl, ap, ◌∙◌, arith, append-nil}
+use Rattle.std.proofs.Common.{◌≡◌, ℕ, zero, suc, ◌+◌, Bool, true, false, cond, not, ◌&&◌, ◌||◌, List, [], ◌∷◌, ◌++◌, map, filter, count_by, flat_map, refl, ap}
+use Rattle.std.proofs.Common.{◌∙◌, arith, append-nil}
 use Rattle.std.specs.Prelude.{◌==◌, if◌then◌else◌}
 use Rattle.std.specs.List.{range_with_len, list_any}
 use Rattle.std.proofs.lemmas.List.Concat.{flat_map-append}
@@ -31,7 +32,8 @@ map_append f (x ∷ xs) ys = ap (λ (zs : List _). f x ∷ zs) (map_append f xs 
 
 pub nodes_more : (n : ℕ) → map numbered (range_with_len 1 (n + 1)) ≡ map numbered (range_with_len 1 n) ++ numbered (n + 1) ∷ []
 nodes_more n =
-    ap (map numbered) (range_push 1 n) ∙ map_append numbered (range_with_len 1 n) ((1 + n) ∷ []) ∙ ap (λ (k : ℕ). map numbered (range_with_len 1 n) ++ numbered k ∷ []) (turned n)
+    ap (map numbered) (range_push 1 n) ∙ map_append numbered (range_with_len 1 n) ((1 + n) ∷ [])
+    ∙ ap (λ (k : ℕ). map numbered (range_with_len 1 n) ++ numbered k ∷ []) (turned n)
   where
     turned : (n : ℕ) → 1 + n ≡ n + 1
     turned n = omega arith
@@ -43,7 +45,8 @@ abbrev to : NodeId → NodeId → Flow
 to src dst = record { src = src; dst = dst }
 
 pub from_more : (p : Flow → Bool) (src : NodeId) (us : List NodeId) (dst : NodeId)
-    → count_by p (flows_from src (us ++ dst ∷ [])) ≡ count_by p (flows_from src us) + (if not (dst.0 == src.0) && p (record { src = src; dst = dst }) then 1 else 0)
+    → count_by p (flows_from src (us ++ dst ∷ [])) ≡ count_by p (flows_from src us)
+    + (if not (dst.0 == src.0) && p (record { src = src; dst = dst }) then 1 else 0)
 from_more p src us dst =
     ap (λ (vs : List NodeId). count_by p (map (to src) vs)) (filter-append (λ (v : NodeId). not (v.0 == src.0)) us (dst ∷ []))
     ∙ ap (count_by p) (map_append (to src) (filter (λ (v : NodeId). not (v.0 == src.0)) us) (filter (λ (v : NodeId). not (v.0 == src.0)) (dst ∷ [])))
@@ -58,12 +61,14 @@ from_more p src us dst =
         bit false = refl
     one false = refl
 
-pub all_more : (p : Flow → Bool) (f : NodeId → List Flow) (us : List NodeId) (u : NodeId) → count_by p (flat_map f (us ++ u ∷ [])) ≡ count_by p (flat_map f us) + count_by p (f u)
+pub all_more : (p : Flow → Bool) (f : NodeId → List Flow) (us : List NodeId) (u : NodeId)
+    → count_by p (flat_map f (us ++ u ∷ [])) ≡ count_by p (flat_map f us) + count_by p (f u)
 all_more p f us u =
     ap (count_by p) (flat_map-append f us (u ∷ []) ∙ ap (λ (fs : List Flow). flat_map f us ++ fs) (append-nil (f u))) ∙ count_append p (flat_map f us) (f u)
 
 pub in_two : (x : Setting) (es : List Event) (fs : List Flow)
-    → count_by (may_wait x es) fs ≡ count_by (λ flow. has_correct_ends x flow && list_any (is_send flow) es) fs + count_by (λ flow. not (has_correct_ends x flow)) fs
+    → count_by (may_wait x es) fs ≡ count_by (λ flow. has_correct_ends x flow && list_any (is_send flow) es) fs
+    + count_by (λ flow. not (has_correct_ends x flow)) fs
 in_two x es [] = refl
 in_two x es (f ∷ fs) =
     let all = sum_by-cons (λ y. cond (may_wait x es y) 1 0) f fs in

@@ -1,5 +1,6 @@
 -- Counting frames hop by hop.
-use Rattle.std.proofs.Common.{◌≡◌, ◌<◌, ◌≤◌, ℕ, zero, suc, ◌+◌, ◌-◌, ◌^◌, min, List, [], ◌++◌, length, get_or, set, replicate, refl, sym, ap, ap₂, ◌∙◌, inl, inr, arith}
+use Rattle.std.proofs.Common.{◌≡◌, ◌<◌, ◌≤◌, ℕ, zero, suc, ◌+◌, ◌-◌, ◌^◌, min, List, [], ◌++◌, length, get_or, set, replicate, refl, sym, ap, ap₂, ◌∙◌, inl}
+use Rattle.std.proofs.Common.{inr, arith}
 use Rattle.std.proofs.lemmas.List.{get_or-set_other, get_or-set_same, length-set}
 use Rattle.sp_base.specs.declared.id.NodeId.{NodeId}
 use Rattle.sp_base.specs.declared.limits.TheConstants.{MAX_EVENTS}
@@ -20,7 +21,8 @@ pub record AreCounted (old new : List ℕ) (more : ℕ → ℕ) (place : ℕ) : 
   pub done : (k : ℕ) → 1 ≤ k → k < place → get_or new k 0 ≡ sum_to (get_or old k 0) (more k)
   pub left : (k : ℕ) → place ≤ k → get_or new k 0 ≡ get_or old k 0
 
-pub counted_on : (old new : List ℕ) (more : ℕ → ℕ) (place x : ℕ) → place < 256 → AreCounted old new more place → x ≡ sum_to (get_or new place 0) (more place) → AreCounted old (set new place x) more (place + 1)
+pub counted_on : (old new : List ℕ) (more : ℕ → ℕ) (place x : ℕ) → place < 256 → AreCounted old new more place → x ≡ sum_to (get_or new place 0) (more place)
+    → AreCounted old (set new place x) more (place + 1)
 counted_on old new more place x below are is = record {
   wide = length-set new place x ∙ are.wide;
   done = λ k some less. elim (cases_below place k) [
@@ -42,8 +44,10 @@ back_of path es d k = polls es (get_or path k d) (get_or path (k - 1) d)
 within : (n a b : ℕ) → n ≡ sum_to a b → a + b ≤ MAX_EVENTS → n ≡ a + b
 within n a b is few = omega (arith, is, few)
 
-pub all_counted : (path : List NodeId) (es more : List Event) (old_forth old_back forth back : List ℕ) → length es + length more ≤ MAX_EVENTS → AreMade old_forth old_back path es
-    → (n : ℕ) → length path ≤ n → ((d : NodeId) → AreCounted old_forth forth (forth_of path more d) n) → ((d : NodeId) → AreCounted old_back back (back_of path more d) n)
+pub all_counted : (path : List NodeId) (es more : List Event) (old_forth old_back forth back : List ℕ) → length es + length more ≤ MAX_EVENTS
+    → AreMade old_forth old_back path es
+    → (n : ℕ) → length path ≤ n → ((d : NodeId) → AreCounted old_forth forth (forth_of path more d) n)
+    → ((d : NodeId) → AreCounted old_back back (back_of path more d) n)
     → AreMade forth back path (es ++ more)
 all_counted path es more old_forth old_back forth back few made n past one two place d some below =
     let before = made place d some below in
@@ -53,9 +57,11 @@ all_counted path es more old_forth old_back forth back few made n past one two p
     let more_forth = polls_few u v more in
     let back_few = polls_few v u es in
     let more_back = polls_few v u more in (
-      within (get_or forth place 0) (get_or old_forth place 0) (polls more u v) ((one d).done place some (omega (arith, below, past))) (omega (arith, before.0, forth_few, more_forth, few))
+      within (get_or forth place 0) (get_or old_forth place 0) (polls more u v) ((one d).done place some (omega (arith, below, past)))
+          (omega (arith, before.0, forth_few, more_forth, few))
           ∙ ap (λ (n : ℕ). n + polls more u v) before.0 ∙ sym (polls_append u v es more),
-      within (get_or back place 0) (get_or old_back place 0) (polls more v u) ((two d).done place some (omega (arith, below, past))) (omega (arith, before.1, back_few, more_back, few))
+      within (get_or back place 0) (get_or old_back place 0) (polls more v u) ((two d).done place some (omega (arith, below, past)))
+          (omega (arith, before.1, back_few, more_back, few))
           ∙ ap (λ (n : ℕ). n + polls more v u) before.1 ∙ sym (polls_append v u es more),
     )
 
@@ -70,8 +76,10 @@ pub none_made : (path : List NodeId) → AreMade (replicate 256 0) (replicate 25
 none_made path place d some below = let none : get_or (replicate 256 0) place 0 ≡ 0 = zeros 256 place in (none, none)
 
 -- the ends of a hop, whatever stands for none
-pub forth_is : (path : List NodeId) (es : List Event) (d o : NodeId) (place : ℕ) → place < length path → polls es (get_or path (place - 1) o) (get_or path place o) ≡ forth_of path es d place
+pub forth_is : (path : List NodeId) (es : List Event) (d o : NodeId) (place : ℕ) → place < length path
+    → polls es (get_or path (place - 1) o) (get_or path place o) ≡ forth_of path es d place
 forth_is path es d o place below = ap₂ (λ (u v : NodeId). polls es u v) (get_same path (place - 1) o d (omega (arith, below))) (get_same path place o d below)
 
-pub back_is : (path : List NodeId) (es : List Event) (d o : NodeId) (place : ℕ) → place < length path → polls es (get_or path place o) (get_or path (place - 1) o) ≡ back_of path es d place
+pub back_is : (path : List NodeId) (es : List Event) (d o : NodeId) (place : ℕ) → place < length path
+    → polls es (get_or path place o) (get_or path (place - 1) o) ≡ back_of path es d place
 back_is path es d o place below = ap₂ (λ (u v : NodeId). polls es u v) (get_same path place o d below) (get_same path (place - 1) o d (omega (arith, below)))

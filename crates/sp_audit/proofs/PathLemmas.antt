@@ -1,5 +1,6 @@
 -- What a walk over nodes finds out of a path.
-use Rattle.std.proofs.Common.{◌≡◌, ◌<◌, ◌≤◌, ℕ, zero, suc, ◌+◌, Bool, true, false, ◌&&◌, ◌||◌, eqb, nat_le, map, IsTrue, List, [], ◌∷◌, ◌++◌, length, take, drop, All, get_or, refl, sym, ap, subst, ◌∙◌, inl, inr, arith, ◌-◌, min, length-append}
+use Rattle.std.proofs.Common.{◌≡◌, ◌<◌, ◌≤◌, ℕ, zero, suc, ◌+◌, Bool, true, false, ◌&&◌, ◌||◌, eqb, nat_le, map, IsTrue, List, [], ◌∷◌, ◌++◌, length, take}
+use Rattle.std.proofs.Common.{drop, All, get_or, refl, sym, ap, subst, ◌∙◌, inl, inr, arith, ◌-◌, min, length-append}
 use Rattle.std.specs.Prelude.{◌==◌, ◌≢◌}
 use Rattle.std.specs.List.{AllPairs, Any, list_any}
 use Rattle.std.proofs.lemmas.Bool.{cases_Bool, eq-eqb, eqb-true}
@@ -19,14 +20,15 @@ use Rattle.sp_audit.proofs.Hops.{cases_below, count_steps}
 use Rattle.sp_audit.proofs.Nodes.{node_is}
 use Rattle.sp_audit.proofs.Walks.{or_second, take_all}
 use Rattle.sp_audit.proofs.SweepLemmas.{drop_past}
-use Rattle.sp_audit.proofs.Steps.{same_node}
+use Rattle.sp_audit.proofs.Nodes.{same_node}
 
 pub get_same : {X : Type 0} (xs : List X) (k : ℕ) (c d : X) → k < length xs → get_or xs k c ≡ get_or xs k d
 get_same [] k c d below = absurd (omega (arith, below))
 get_same (x ∷ xs) zero c d below = refl
 get_same (x ∷ xs) (suc k) c d below = get_same xs k c d (omega (arith, below))
 
-pub among_before : (path : List NodeId) (n : ℕ) (u : NodeId) → list_any (λ (v : NodeId). v.0 == u.0) (take n path) ≡ true → (k : ℕ) × (k < n) × (k < length path) × ((d : NodeId) → get_or path k d ≡ u)
+pub among_before : (path : List NodeId) (n : ℕ) (u : NodeId) → list_any (λ (v : NodeId). v.0 == u.0) (take n path) ≡ true
+    → (k : ℕ) × (k < n) × (k < length path) × ((d : NodeId) → get_or path k d ≡ u)
 among_before path zero u is = absurd cc
 among_before [] (suc n) u is = absurd cc
 among_before (v ∷ path) (suc n) u is = elim (cases_Bool (v.0 == u.0)) [
@@ -34,15 +36,18 @@ among_before (v ∷ path) (suc n) u is = elim (cases_Bool (v.0 == u.0)) [
   | inr other ↦ (let rest = among_before path n u (rw other at is) in (suc rest.0, omega (arith, rest.1), omega (arith, rest.2), rest.3))
 ]
 
-pub not_among : (path : List NodeId) (n : ℕ) (u : NodeId) → list_any (λ (v : NodeId). v.0 == u.0) (take n path) ≡ false → (k : ℕ) (d : NodeId) → k < n → k < length path → get_or path k d ≡ u → ⊥
+pub not_among : (path : List NodeId) (n : ℕ) (u : NodeId) → list_any (λ (v : NodeId). v.0 == u.0) (take n path) ≡ false → (k : ℕ) (d : NodeId) → k < n
+    → k < length path → get_or path k d ≡ u → ⊥
 not_among [] n u is k d few below same = absurd (omega (arith, below))
 not_among (v ∷ path) zero u is k d few below same = absurd (omega (arith, few))
-not_among (v ∷ path) (suc n) u is zero d few below same = clash (v.0 == u.0) (list_any (λ (w : NodeId). w.0 == u.0) (take n path)) (eq-eqb v.0 u.0 (ap (λ (w : NodeId). w.0) same)) is
+not_among (v ∷ path) (suc n) u is zero d few below same =
+    clash (v.0 == u.0) (list_any (λ (w : NodeId). w.0 == u.0) (take n path)) (eq-eqb v.0 u.0 (ap (λ (w : NodeId). w.0) same)) is
   where
     clash : (a b : Bool) → a ≡ true → (a || b) ≡ false → ⊥
     clash true b is is_not = cc
     clash false b is is_not = cc
-not_among (v ∷ path) (suc n) u is (suc k) d few below same = not_among path n u (second (v.0 == u.0) (list_any (λ (w : NodeId). w.0 == u.0) (take n path)) is) k d (omega (arith, few)) (omega (arith, below)) same
+not_among (v ∷ path) (suc n) u is (suc k) d few below same =
+    not_among path n u (second (v.0 == u.0) (list_any (λ (w : NodeId). w.0 == u.0) (take n path)) is) k d (omega (arith, few)) (omega (arith, below)) same
   where
     second : (a b : Bool) → (a || b) ≡ false → b ≡ false
     second true b is = absurd cc
@@ -62,7 +67,8 @@ any_gives p [] k x below at is = absurd (omega (arith, below))
 any_gives p (y ∷ xs) zero x below at is = ap (λ (t : Bool). t || list_any p xs) (ap p at ∙ is)
 any_gives p (y ∷ xs) (suc k) x below at is = or_second (p y) (list_any p xs) (any_gives p xs k x (omega (arith, below)) at is)
 
-pub steps_at : (path : List NodeId) (k : ℕ) (d : NodeId × NodeId) (c e : NodeId) → suc k < length path → get_or (steps path) k d ≡ (get_or path k c, get_or path (suc k) e)
+pub steps_at : (path : List NodeId) (k : ℕ) (d : NodeId × NodeId) (c e : NodeId) → suc k < length path
+    → get_or (steps path) k d ≡ (get_or path k c, get_or path (suc k) e)
 steps_at [] k d c e below = absurd (omega (arith, below))
 steps_at (x ∷ []) k d c e below = absurd (omega (arith, below))
 steps_at (x ∷ (y ∷ path)) zero d c e below = refl
@@ -78,13 +84,16 @@ abbrev AreJoined : List Edge → NodeId × NodeId → Type 0
 AreJoined edges step = Any (λ e. is_between step.0 step.1 e ≡ true) edges
 
 pub not_joined : (path : List NodeId) (edges : List Edge) (place : ℕ) (o : NodeId) → 1 ≤ place → place < length path
-    → list_any (is_between (get_or path (place - 1) o) (get_or path place o)) edges ≡ false → All (λ step. Any (λ e. is_between step.0 step.1 e ≡ true) edges) (steps path) → ⊥
+    → list_any (is_between (get_or path (place - 1) o) (get_or path place o)) edges ≡ false
+    → All (λ step. Any (λ e. is_between step.0 step.1 e ≡ true) edges) (steps path) → ⊥
 not_joined path edges zero o some below none all = absurd (omega (arith, some))
 not_joined path edges (suc i) o some below none all =
     let at : suc i - 1 ≡ i = omega arith in
     let there = subst (AreJoined edges) (steps_at path i (o, o) o o below) (all i (o, o) (steps_long path i below)) in
-    let is : list_any (is_between (get_or path i o) (get_or path (suc i) o)) edges ≡ true = any_gives (is_between (get_or path i o) (get_or path (suc i) o)) edges there.0 there.1 there.2 there.3 there.4 in
-    clash (list_any (is_between (get_or path i o) (get_or path (suc i) o)) edges) is (subst (λ (k : ℕ). list_any (is_between (get_or path k o) (get_or path (suc i) o)) edges ≡ false) at none)
+    let is : list_any (is_between (get_or path i o) (get_or path (suc i) o)) edges ≡ true =
+    any_gives (is_between (get_or path i o) (get_or path (suc i) o)) edges there.0 there.1 there.2 there.3 there.4 in
+    clash (list_any (is_between (get_or path i o) (get_or path (suc i) o)) edges) is
+    (subst (λ (k : ℕ). list_any (is_between (get_or path k o) (get_or path (suc i) o)) edges ≡ false) at none)
   where
     clash : (t : Bool) → t ≡ true → t ≡ false → ⊥
     clash true is is_not = cc
@@ -103,7 +112,8 @@ joined_more path edges (suc i) o some below is earlier k c d within = elim (case
     last : (k : ℕ) → i ≡ k → (c d : NodeId) → Any (λ e. is_between (get_or path k c) (get_or path (suc k) d) e ≡ true) edges
     last k same c d =
         let at : suc i - 1 ≡ i = omega arith in
-        let here = any_there (is_between (get_or path i o) (get_or path (suc i) o)) edges (subst (λ (n : ℕ). list_any (is_between (get_or path n o) (get_or path (suc i) o)) edges ≡ true) at is) in
+        let here = any_there (is_between (get_or path i o) (get_or path (suc i) o)) edges
+        (subst (λ (n : ℕ). list_any (is_between (get_or path n o) (get_or path (suc i) o)) edges ≡ true) at is) in
         subst (λ (n : ℕ). Any (λ e. is_between (get_or path n c) (get_or path (suc n) d) e ≡ true) edges) same
         (subst (λ (u : NodeId). Any (λ e. is_between u (get_or path (suc i) d) e ≡ true) edges) (get_same path i o c (omega (arith, below)))
         (subst (λ (v : NodeId). Any (λ e. is_between (get_or path i o) v e ≡ true) edges) (get_same path (suc i) o d below) here))
@@ -162,7 +172,8 @@ apart_ids path apart i j d less below =
     let long = length-map path (λ (u : NodeId). u.0) in
     let there : j < length path = omega (arith, below, long) in
     λ same. apart i j (record { 0 = d }) less there
-    (ap (λ (n : ℕ). record { 0 = n }) (sym (get_or-map (λ (u : NodeId). u.0) path i (record { 0 = d })) ∙ same ∙ get_or-map (λ (u : NodeId). u.0) path j (record { 0 = d })))
+    (ap (λ (n : ℕ). record { 0 = n })
+    (sym (get_or-map (λ (u : NodeId). u.0) path i (record { 0 = d })) ∙ same ∙ get_or-map (λ (u : NodeId). u.0) path j (record { 0 = d })))
 
 below_all : (n q : ℕ) (path : List NodeId) → All (λ u. u.0 < n) path → list_any (eqb q) (map (λ (u : NodeId). u.0) path) ≡ true → q < n
 below_all n q [] all is = absurd (let f : false ≡ true = is in cc)

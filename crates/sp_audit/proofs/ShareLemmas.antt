@@ -1,5 +1,6 @@
 -- The tests of an entry that goes mean that it leaves a share.
-use Rattle.std.proofs.Common.{◌≡◌, ◌≤◌, ◌<◌, ℕ, zero, suc, ◌+◌, ◌-◌, ◌/◌, Bool, true, false, cond, not, nat_le, nat_lt, List, [], ◌∷◌, ◌++◌, length, filter, get_or, take, drop, refl, sym, ap, ap₂, ◌∙◌, inl, inr, arith, length-append}
+use Rattle.std.proofs.Common.{◌≡◌, ◌≤◌, ◌<◌, ℕ, zero, suc, ◌+◌, ◌-◌, ◌/◌, Bool, true, false, cond, not, nat_le, nat_lt, List, [], ◌∷◌, ◌++◌, length, filter}
+use Rattle.std.proofs.Common.{get_or, take, drop, refl, sym, ap, ap₂, ◌∙◌, inl, inr, arith, length-append}
 use Rattle.std.specs.Prelude.{◌==◌, ◌&&◌, ◌||◌, if◌then◌else◌}
 use Rattle.std.specs.List.{All, list_all, range_with_len}
 use Rattle.std.proofs.Math.Seq.{get_or-append_seam, take-append_seam}
@@ -77,7 +78,8 @@ lt-ltb a b less = grind (arith, nat_tests, less)
 
 -- ---- one entry less
 
-count_less : (src : ℕ) (before : List Held) (e : Held) (after : List Held) → (e.src == src) ≡ true → count_held (before ++ e ∷ after) src ≡ count_held (before ++ after) src + 1
+count_less : (src : ℕ) (before : List Held) (e : Held) (after : List Held) → (e.src == src) ≡ true
+    → count_held (before ++ e ∷ after) src ≡ count_held (before ++ after) src + 1
 count_less src [] e after is =
     sum_by-cons (λ (h : Held). cond (h.src == src) 1 0) e after ∙ rw is (omega arith)
 count_less src (b ∷ before) e after is =
@@ -99,7 +101,8 @@ pub share_from : (capacity : ℕ) (hs before : List Held) (e : Held) (after : Li
 share_from capacity hs before e after id full there is =
     let count = count_held hs e.src in
     let fair = nat_le (capacity / length (sources_held hs)) (count - 1) in
-    let one = and_parts (e.id == id) (is_most hs count && (is_lowest_source hs count e.src && (is_lowest hs e.src e.prio && (is_first before e.src e.prio && fair)))) is in
+    let one = and_parts (e.id == id)
+    (is_most hs count && (is_lowest_source hs count e.src && (is_lowest hs e.src e.prio && (is_first before e.src e.prio && fair)))) is in
     let two = and_parts (is_most hs count) (is_lowest_source hs count e.src && (is_lowest hs e.src e.prio && (is_first before e.src e.prio && fair))) one.1 in
     let three = and_parts (is_lowest_source hs count e.src) (is_lowest hs e.src e.prio && (is_first before e.src e.prio && fair)) two.1 in
     let four = and_parts (is_lowest hs e.src e.prio) (is_first before e.src e.prio && fair) three.1 in
@@ -130,7 +133,8 @@ may_from capacity hs id s =
     let e = s.entry in
     let count = count_held hs e.src in
     let fair = nat_le (capacity / length (sources_held hs)) (count - 1) in
-    and_from (e.id == id) (is_most hs count && (is_lowest_source hs count e.src && (is_lowest hs e.src e.prio && (is_first s.before e.src e.prio && fair)))) (eq-eqb e.id id s.named)
+    and_from (e.id == id) (is_most hs count && (is_lowest_source hs count e.src && (is_lowest hs e.src e.prio && (is_first s.before e.src e.prio && fair))))
+    (eq-eqb e.id id s.named)
     (and_from (is_most hs count) (is_lowest_source hs count e.src && (is_lowest hs e.src e.prio && (is_first s.before e.src e.prio && fair)))
     (all_to (λ h. nat_le (count_held hs h.src) count) (λ h. count_held hs h.src ≤ count) (λ h t. le-leb (count_held hs h.src) count t) hs s.most)
     (and_from (is_lowest_source hs count e.src) (is_lowest hs e.src e.prio && (is_first s.before e.src e.prio && fair))

@@ -1,5 +1,6 @@
 -- The walk finds the earliest end of a sweep.
-use Rattle.std.proofs.Common.{◌≡◌, ◌<◌, ◌≤◌, ℕ, zero, suc, ◌+◌, Bool, true, false, ◌&&◌, IsTrue, List, [], ◌∷◌, ◌++◌, length, take, drop, nat_le, refl, sym, ap, subst, ◌∙◌, inl, inr, ◌⊎◌, arith, append_assoc, append-nil, length-append, take-add, get_or}
+use Rattle.std.proofs.Common.{◌≡◌, ◌<◌, ◌≤◌, ℕ, zero, suc, ◌+◌, Bool, true, false, ◌&&◌, IsTrue, List, [], ◌∷◌, ◌++◌, length, take, drop, nat_le, refl, sym, ap}
+use Rattle.std.proofs.Common.{subst, ◌∙◌, inl, inr, ◌⊎◌, arith, append_assoc, append-nil, length-append, take-add, get_or}
 use Rattle.std.specs.Prelude.{if◌then◌else◌, cond}
 use Rattle.std.proofs.lemmas.Bool.{cases_Bool, leb-true}
 use Rattle.std.proofs.lemmas.Bool.Decides.{nat_tests}
@@ -37,15 +38,18 @@ end_made : (least : ℕ) (u v : NodeId) (made good : ℕ) (waits : Bool) (e : Ev
     → sweep_end least u v made good waits (e ∷ es) ≡ suc (sweep_end least u v (made + 1) (if waits then 0 else good) true es)
 end_made least u v made good waits e es is = rw is refl
 
-end_passed : (least : ℕ) (u v : NodeId) (made good : ℕ) (waits : Bool) (e : Event) (es : List Event) → is_poll u v e ≡ false → (waits && is_pass u v made e) ≡ true
+end_passed : (least : ℕ) (u v : NodeId) (made good : ℕ) (waits : Bool) (e : Event) (es : List Event) → is_poll u v e ≡ false
+    → (waits && is_pass u v made e) ≡ true
     → sweep_end least u v made good waits (e ∷ es) ≡ (if nat_le least (good + 1) then 1 else suc (sweep_end least u v made (good + 1) false es))
 end_passed least u v made good waits e es is_not is = rw (is_not, is) refl
 
-end_other : (least : ℕ) (u v : NodeId) (made good : ℕ) (waits : Bool) (e : Event) (es : List Event) → is_poll u v e ≡ false → (waits && is_pass u v made e) ≡ false
+end_other : (least : ℕ) (u v : NodeId) (made good : ℕ) (waits : Bool) (e : Event) (es : List Event) → is_poll u v e ≡ false
+    → (waits && is_pass u v made e) ≡ false
     → sweep_end least u v made good waits (e ∷ es) ≡ suc (sweep_end least u v made good waits es)
 end_other least u v made good waits e es is_not is = rw (is_not, is) refl
 
-passed_made : (u v : NodeId) (made : ℕ) (e : Event) (es : List Event) → is_poll u v e ≡ true → are_passed u v made (e ∷ es) ≡ (is_passed u v (made + 1) es && are_passed u v (made + 1) es)
+passed_made : (u v : NodeId) (made : ℕ) (e : Event) (es : List Event) → is_poll u v e ≡ true
+    → are_passed u v made (e ∷ es) ≡ (is_passed u v (made + 1) es && are_passed u v (made + 1) es)
 passed_made u v made e es is = rw is refl
 
 passed_other : (u v : NodeId) (made : ℕ) (e : Event) (es : List Event) → is_poll u v e ≡ false → are_passed u v made (e ∷ es) ≡ are_passed u v made es
@@ -54,7 +58,8 @@ passed_other u v made e es is = rw is refl
 waits_made : (u v : NodeId) (n : ℕ) (e : Event) (es : List Event) → is_poll u v e ≡ true → is_passed u v n (e ∷ es) ≡ false
 waits_made u v n e es is = rw (no_pass u v n e is, is) refl
 
-waits_other : (u v : NodeId) (n : ℕ) (e : Event) (es : List Event) → is_poll u v e ≡ false → is_pass u v n e ≡ false → is_passed u v n (e ∷ es) ≡ is_passed u v n es
+waits_other : (u v : NodeId) (n : ℕ) (e : Event) (es : List Event) → is_poll u v e ≡ false → is_pass u v n e ≡ false
+    → is_passed u v n (e ∷ es) ≡ is_passed u v n es
 waits_other u v n e es is_not is = rw (is, is_not) refl
 
 waits_passed : (u v : NodeId) (n : ℕ) (e : Event) (es : List Event) → is_pass u v n e ≡ true → is_passed u v n (e ∷ es) ≡ true
@@ -87,7 +92,9 @@ not_true : {X : Type 0} → IsTrue false → X
 not_true is = absurd cc
 
 abbrev Shorter : (least : ℕ) (u v : NodeId) (middle late : List Event) → Type 0
-Shorter least u v middle late = (made good : ℕ) (waits : Bool) (c : ℕ) → good < least → length middle < sweep_end least u v made good waits (middle ++ late) → IsTrue (are_passed u v made middle)
+Shorter least u v middle late =
+    (made good : ℕ) (waits : Bool) (c : ℕ) → good < least → length middle < sweep_end least u v made good waits (middle ++ late)
+    → IsTrue (are_passed u v made middle)
     → (IsTrue waits → 1 ≤ c → IsTrue (is_passed u v made middle)) → c ≤ good + bit waits → c + polls middle u v < least
 
 -- In an interval that began with so many frames made in it already, of which all but a waiting one were passed in time, no end is reached.
@@ -114,7 +121,8 @@ too_few least u v made good waits c (e ∷ middle) late less before passed waiti
   ]
 ]
   where
-    polled : Shorter least u v middle late → is_poll u v e ≡ true → (w : Bool) → (IsTrue w → 1 ≤ c → IsTrue (is_passed u v made (e ∷ middle))) → c ≤ good + bit w
+    polled : Shorter least u v middle late → is_poll u v e ≡ true → (w : Bool) → (IsTrue w → 1 ≤ c → IsTrue (is_passed u v made (e ∷ middle)))
+        → c ≤ good + bit w
         → suc (length middle) < sweep_end least u v made good w (e ∷ (middle ++ late)) → c + polls (e ∷ middle) u v < least
     polled shorter_one is w waiting most before =
         let p = both (is_passed u v (made + 1) middle) (are_passed u v (made + 1) middle) (subst IsTrue (passed_made u v made e middle is) passed) in
@@ -134,12 +142,16 @@ too_few least u v made good waits c (e ∷ middle) late less before passed waiti
 
     went : Shorter least u v middle late → is_poll u v e ≡ false → (waits && is_pass u v made e) ≡ true → c + polls (e ∷ middle) u v < least
     went shorter_one is pass = elim (cases_Bool (nat_le least (good + 1))) [
-      | inl done ↦ (let same : sweep_end least u v made good waits (e ∷ (middle ++ late)) ≡ 1 = end_passed least u v made good waits e (middle ++ late) is pass ∙ rw done refl in
+      | inl done ↦
+          (let same : sweep_end least u v made good waits (e ∷ (middle ++ late)) ≡ 1 =
+          end_passed least u v made good waits e (middle ++ late) is pass ∙ rw done refl in
           absurd (omega (arith, before, same)))
-      | inr not_done ↦ (let same : sweep_end least u v made good waits (e ∷ (middle ++ late)) ≡ suc (sweep_end least u v made (good + 1) false (middle ++ late)) =
+      | inr not_done ↦
+          (let same : sweep_end least u v made good waits (e ∷ (middle ++ late)) ≡ suc (sweep_end least u v made (good + 1) false (middle ++ late)) =
           end_passed least u v made good waits e (middle ++ late) is pass ∙ rw not_done refl in
           let more : good + 1 < least = grind (arith, nat_tests, not_done) in
-          let rest = shorter_one made (good + 1) false c more (omega (arith, before, same)) (subst IsTrue (passed_other u v made e middle is) passed) (λ no. not_true no)
+          let rest = shorter_one made (good + 1) false c more (omega (arith, before, same)) (subst IsTrue (passed_other u v made e middle is) passed)
+          (λ no. not_true no)
           (some_waits waits most) in
           omega (arith, rest, as_many u v e middle is))
     ]
@@ -148,38 +160,48 @@ too_few least u v made good waits c (e ∷ middle) late less before passed waiti
         some_waits true most = omega (arith, most)
         some_waits false most = omega (arith, most)
 
-    other : Shorter least u v middle late → is_poll u v e ≡ false → (waits && is_pass u v made e) ≡ false → (w : Bool) → (IsTrue w → 1 ≤ c → IsTrue (is_passed u v made (e ∷ middle))) → c ≤ good + bit w
+    other : Shorter least u v middle late → is_poll u v e ≡ false → (waits && is_pass u v made e) ≡ false → (w : Bool)
+        → (IsTrue w → 1 ≤ c → IsTrue (is_passed u v made (e ∷ middle))) → c ≤ good + bit w
         → suc (length middle) < sweep_end least u v made good w (e ∷ (middle ++ late)) → (w && is_pass u v made e) ≡ false → c + polls (e ∷ middle) u v < least
     other shorter_one is _ w waiting most before not_pass =
         let same = end_other least u v made good w e (middle ++ late) is not_pass in
-        let rest = shorter_one made good w c less (omega (arith, before, same)) (subst IsTrue (passed_other u v made e middle is) passed) (still w waiting not_pass) most in
+        let rest = shorter_one made good w c less (omega (arith, before, same)) (subst IsTrue (passed_other u v made e middle is) passed)
+        (still w waiting not_pass) most in
         omega (arith, rest, as_many u v e middle is)
       where
-        still : (w : Bool) → (IsTrue w → 1 ≤ c → IsTrue (is_passed u v made (e ∷ middle))) → (w && is_pass u v made e) ≡ false → IsTrue w → 1 ≤ c → IsTrue (is_passed u v made middle)
+        still : (w : Bool) → (IsTrue w → 1 ≤ c → IsTrue (is_passed u v made (e ∷ middle))) → (w && is_pass u v made e) ≡ false → IsTrue w → 1 ≤ c
+            → IsTrue (is_passed u v made middle)
         still true waiting not_pass t some = subst IsTrue (waits_other u v made e middle is not_pass) (waiting t some)
         still false waiting not_pass t some = not_true t
 
 -- no sweep ends before it
-none_before : (least : ℕ) (u v : NodeId) (made good : ℕ) (waits : Bool) (before early middle late : List Event) → 1 ≤ least → good < least → made ≡ polls before u v
+none_before : (least : ℕ) (u v : NodeId) (made good : ℕ) (waits : Bool) (before early middle late : List Event) → 1 ≤ least → good < least
+    → made ≡ polls before u v
     → length (early ++ middle) < sweep_end least u v made good waits (early ++ (middle ++ late)) → IsSweep least u v (before ++ early) middle → ⊥
 none_before least u v made good waits before [] middle late some less counted ends is =
-    let passed : IsTrue (are_passed u v made middle) = subst (λ (n : ℕ). IsTrue (are_passed u v n middle)) (ap (λ (xs : List Event). polls xs u v) (append-nil before) ∙ sym counted) is.passed in
+    let passed : IsTrue (are_passed u v made middle) =
+    subst (λ (n : ℕ). IsTrue (are_passed u v n middle)) (ap (λ (xs : List Event). polls xs u v) (append-nil before) ∙ sym counted) is.passed in
     let few = too_few least u v made good waits 0 middle late less ends passed (λ _ more. absurd (omega (arith, more))) (omega arith) in
     absurd (omega (arith, few, is.enough))
 none_before least u v made good waits before (e ∷ early) middle late some less counted ends is = elim (cases_Bool (is_poll u v e)) [
   | inl polled ↦
       (let same = end_made least u v made good waits e (early ++ (middle ++ late)) polled in
-      let now : made + 1 ≡ polls (before ++ e ∷ []) u v = (let n = polls_append u v before (e ∷ []) in let one = one_more u v e [] polled in omega (arith, counted, n, one)) in
-      none_before least u v (made + 1) (if waits then 0 else good) true (before ++ e ∷ []) early middle late some (lower waits) now (omega (arith, ends, same)) later)
+      let now : made + 1 ≡ polls (before ++ e ∷ []) u v =
+      (let n = polls_append u v before (e ∷ []) in let one = one_more u v e [] polled in omega (arith, counted, n, one)) in
+      none_before least u v (made + 1) (if waits then 0 else good) true (before ++ e ∷ []) early middle late some (lower waits) now (omega (arith, ends, same))
+      later)
   | inr not_poll ↦
-      (let now : made ≡ polls (before ++ e ∷ []) u v = (let n = polls_append u v before (e ∷ []) in let none = as_many u v e [] not_poll in omega (arith, counted, n, none)) in
+      (let now : made ≡ polls (before ++ e ∷ []) u v =
+      (let n = polls_append u v before (e ∷ []) in let none = as_many u v e [] not_poll in omega (arith, counted, n, none)) in
       elim (cases_Bool (waits && is_pass u v made e)) [
         | inl pass ↦ elim (cases_Bool (nat_le least (good + 1))) [
           | inl done ↦
-              (let same : sweep_end least u v made good waits (e ∷ (early ++ (middle ++ late))) ≡ 1 = end_passed least u v made good waits e (early ++ (middle ++ late)) not_poll pass ∙ rw done refl in
+              (let same : sweep_end least u v made good waits (e ∷ (early ++ (middle ++ late))) ≡ 1 =
+              end_passed least u v made good waits e (early ++ (middle ++ late)) not_poll pass ∙ rw done refl in
               absurd (omega (arith, ends, same)))
           | inr not_done ↦
-              (let same : sweep_end least u v made good waits (e ∷ (early ++ (middle ++ late))) ≡ suc (sweep_end least u v made (good + 1) false (early ++ (middle ++ late))) =
+              (let same : sweep_end least u v made good waits (e ∷ (early ++ (middle ++ late)))
+              ≡ suc (sweep_end least u v made (good + 1) false (early ++ (middle ++ late))) =
               end_passed least u v made good waits e (early ++ (middle ++ late)) not_poll pass ∙ rw not_done refl in
               let more : good + 1 < least = grind (arith, nat_tests, not_done) in
               none_before least u v made (good + 1) false (before ++ e ∷ []) early middle late some more now (omega (arith, ends, same)) later)
@@ -199,7 +221,8 @@ none_before least u v made good waits before (e ∷ early) middle late some less
 
 -- ---- a sweep ends there
 
-pub wider : (least : ℕ) (u v : NodeId) (before gap during more : List Event) → HasSweep least u v (before ++ gap) during → HasSweep least u v before (gap ++ (during ++ more))
+pub wider : (least : ℕ) (u v : NodeId) (before gap during more : List Event) → HasSweep least u v (before ++ gap) during
+    → HasSweep least u v before (gap ++ (during ++ more))
 wider least u v before gap during more h = record {
   early = gap ++ h.early;
   middle = h.middle;
@@ -210,11 +233,13 @@ wider least u v before gap during more h = record {
 }
 
 pub longer : (least : ℕ) (u v : NodeId) (before during more : List Event) → HasSweep least u v before during → HasSweep least u v before (during ++ more)
-longer least u v before during more h = wider least u v before [] during more (subst (λ (xs : List Event). HasSweep least u v xs during) (sym (append-nil before)) h)
+longer least u v before during more h =
+    wider least u v before [] during more (subst (λ (xs : List Event). HasSweep least u v xs during) (sym (append-nil before)) h)
 
 -- In what ran since it began each frame was passed in time but for a waiting one: whatever follows
 abbrev IsRunning : (u v : NodeId) (begin made : ℕ) (waits : Bool) → List Event → Type 0
-IsRunning u v begin made waits run = (rest : List Event) → are_passed u v begin (run ++ rest) ≡ ((if waits then is_passed u v made rest else true) && are_passed u v made rest)
+IsRunning u v begin made waits run =
+    (rest : List Event) → are_passed u v begin (run ++ rest) ≡ ((if waits then is_passed u v made rest else true) && are_passed u v made rest)
 
 -- what ran with one event more, and whatever follows
 with_more : {X : Type 0} (f : List Event → X) (run : List Event) (e : Event) (rest : List Event) → f ((run ++ e ∷ []) ++ rest) ≡ f (run ++ (e ∷ rest))
@@ -223,17 +248,22 @@ with_more f run e rest = ap f (append_assoc run (e ∷ []) rest)
 anew : (u v : NodeId) (begin made : ℕ) (e : Event) → begin ≡ made → is_poll u v e ≡ true → IsRunning u v begin (made + 1) true (e ∷ [])
 anew u v begin made e same is rest = ap (λ (n : ℕ). are_passed u v n (e ∷ rest)) same ∙ passed_made u v made e rest is
 
-goes_on : (u v : NodeId) (begin made : ℕ) (run : List Event) (e : Event) → is_poll u v e ≡ true → IsRunning u v begin made false run → IsRunning u v begin (made + 1) true (run ++ e ∷ [])
+goes_on : (u v : NodeId) (begin made : ℕ) (run : List Event) (e : Event) → is_poll u v e ≡ true → IsRunning u v begin made false run
+    → IsRunning u v begin (made + 1) true (run ++ e ∷ [])
 goes_on u v begin made run e is running rest = with_more (are_passed u v begin) run e rest ∙ running (e ∷ rest) ∙ passed_made u v made e rest is
 
-comes : (u v : NodeId) (begin made : ℕ) (run : List Event) (e : Event) → is_poll u v e ≡ false → is_pass u v made e ≡ true → IsRunning u v begin made true run → IsRunning u v begin made false (run ++ e ∷ [])
+comes : (u v : NodeId) (begin made : ℕ) (run : List Event) (e : Event) → is_poll u v e ≡ false → is_pass u v made e ≡ true → IsRunning u v begin made true run
+    → IsRunning u v begin made false (run ++ e ∷ [])
 comes u v begin made run e is_not is running rest =
-    with_more (are_passed u v begin) run e rest ∙ running (e ∷ rest) ∙ ap (λ (t : Bool). t && are_passed u v made (e ∷ rest)) (waits_passed u v made e rest is) ∙ passed_other u v made e rest is_not
+    with_more (are_passed u v begin) run e rest ∙ running (e ∷ rest) ∙ ap (λ (t : Bool). t && are_passed u v made (e ∷ rest)) (waits_passed u v made e rest is)
+    ∙ passed_other u v made e rest is_not
 
-stays : (u v : NodeId) (begin made : ℕ) (waits : Bool) (run : List Event) (e : Event) → is_poll u v e ≡ false → (waits && is_pass u v made e) ≡ false → IsRunning u v begin made waits run
+stays : (u v : NodeId) (begin made : ℕ) (waits : Bool) (run : List Event) (e : Event) → is_poll u v e ≡ false → (waits && is_pass u v made e) ≡ false
+    → IsRunning u v begin made waits run
     → IsRunning u v begin made waits (run ++ e ∷ [])
 stays u v begin made true run e is_not none running rest =
-    with_more (are_passed u v begin) run e rest ∙ running (e ∷ rest) ∙ ap (λ (t : Bool). t && are_passed u v made (e ∷ rest)) (waits_other u v made e rest is_not none)
+    with_more (are_passed u v begin) run e rest ∙ running (e ∷ rest)
+    ∙ ap (λ (t : Bool). t && are_passed u v made (e ∷ rest)) (waits_other u v made e rest is_not none)
     ∙ ap (λ (t : Bool). is_passed u v made rest && t) (passed_other u v made e rest is_not)
 stays u v begin made false run e is_not none running rest =
     with_more (are_passed u v begin) run e rest ∙ running (e ∷ rest) ∙ passed_other u v made e rest is_not
@@ -246,25 +276,31 @@ polls_none : (u v : NodeId) (before : List Event) (e : Event) → is_poll u v e 
 polls_none u v before e is = let n = polls_append u v before (e ∷ []) in let none = as_many u v e [] is in omega (arith, n, none)
 
 -- what follows the sweep's run stands in the whole interval
-joined_run : (least : ℕ) (u v : NodeId) (before run : List Event) (e : Event) (es : List Event) (n m : ℕ) → n ≡ suc m → HasSweep least u v before ((run ++ e ∷ []) ++ take m es)
+joined_run : (least : ℕ) (u v : NodeId) (before run : List Event) (e : Event) (es : List Event) (n m : ℕ) → n ≡ suc m
+    → HasSweep least u v before ((run ++ e ∷ []) ++ take m es)
     → HasSweep least u v before (run ++ take n (e ∷ es))
 joined_run least u v before run e es n m same h =
-    subst (λ (k : ℕ). HasSweep least u v before (run ++ take k (e ∷ es))) (sym same) (subst (HasSweep least u v before) (append_assoc run (e ∷ []) (take m es)) h)
+    subst (λ (k : ℕ). HasSweep least u v before (run ++ take k (e ∷ es))) (sym same)
+    (subst (HasSweep least u v before) (append_assoc run (e ∷ []) (take m es)) h)
 
-apart_run : (least : ℕ) (u v : NodeId) (before run : List Event) (e : Event) (es : List Event) (n m : ℕ) → n ≡ suc m → HasSweep least u v (before ++ run) (e ∷ take m es)
+apart_run : (least : ℕ) (u v : NodeId) (before run : List Event) (e : Event) (es : List Event) (n m : ℕ) → n ≡ suc m
+    → HasSweep least u v (before ++ run) (e ∷ take m es)
     → HasSweep least u v before (run ++ take n (e ∷ es))
 apart_run least u v before run e es n m same h =
     subst (λ (k : ℕ). HasSweep least u v before (run ++ take k (e ∷ es))) (sym same)
     (subst (λ (xs : List Event). HasSweep least u v before (run ++ xs)) (append-nil (e ∷ take m es)) (wider least u v before run (e ∷ take m es) [] h))
 
-pub ends_there : (least : ℕ) (u v : NodeId) (made good : ℕ) (waits : Bool) (before run es : List Event) → polls run u v ≡ good + bit waits → made ≡ polls (before ++ run) u v
-    → IsRunning u v (polls before u v) made waits run → sweep_end least u v made good waits es ≤ length es → HasSweep least u v before (run ++ take (sweep_end least u v made good waits es) es)
+pub ends_there : (least : ℕ) (u v : NodeId) (made good : ℕ) (waits : Bool) (before run es : List Event) → polls run u v ≡ good + bit waits
+    → made ≡ polls (before ++ run) u v
+    → IsRunning u v (polls before u v) made waits run → sweep_end least u v made good waits es ≤ length es
+    → HasSweep least u v before (run ++ take (sweep_end least u v made good waits es) es)
 ends_there least u v made good waits before run [] ran counted running within = absurd (omega (arith, within))
 ends_there least u v made good waits before run (e ∷ es) ran counted running within = elim (cases_Bool (is_poll u v e)) [
   | inl polled ↦ made_one (λ g before run. ends_there least u v (made + 1) g true before run es) polled waits ran running within
   | inr not_poll ↦
       (let none = polls_none u v run e not_poll in
-      let still : made ≡ polls (before ++ (run ++ e ∷ [])) u v = counted ∙ sym (polls_none u v (before ++ run) e not_poll) ∙ ap (λ (xs : List Event). polls xs u v) (append_assoc before run (e ∷ [])) in
+      let still : made ≡ polls (before ++ (run ++ e ∷ [])) u v =
+      counted ∙ sym (polls_none u v (before ++ run) e not_poll) ∙ ap (λ (xs : List Event). polls xs u v) (append_assoc before run (e ∷ [])) in
       elim (cases_Bool (waits && is_pass u v made e)) [
         | inl pass ↦ elim (cases_Bool (nat_le least (good + 1))) [
           | inl done ↦
@@ -274,41 +310,51 @@ ends_there least u v made good waits before run (e ∷ es) ran counted running w
               (let same : sweep_end least u v made good waits (e ∷ es) ≡ suc (sweep_end least u v made (good + 1) false es) =
               end_passed least u v made good waits e es not_poll pass ∙ rw not_done refl in
               joined_run least u v before run e es _ _ same
-              (ends_there least u v made (good + 1) false before (run ++ e ∷ []) es (one_good waits ran pass none) still (came not_poll waits running pass) (omega (arith, within, same))))
+              (ends_there least u v made (good + 1) false before (run ++ e ∷ []) es (one_good waits ran pass none) still (came not_poll waits running pass)
+              (omega (arith, within, same))))
         ]
         | inr not_pass ↦
             (let same = end_other least u v made good waits e es not_poll not_pass in
             joined_run least u v before run e es _ _ same
-            (ends_there least u v made good waits before (run ++ e ∷ []) es (none ∙ ran) still (stays u v (polls before u v) made waits run e not_poll not_pass running) (omega (arith, within, same))))
+            (ends_there least u v made good waits before (run ++ e ∷ []) es (none ∙ ran) still
+            (stays u v (polls before u v) made waits run e not_poll not_pass running) (omega (arith, within, same))))
       ])
 ]
   where
-    made_one : ((g : ℕ) (before run : List Event) → polls run u v ≡ g + 1 → made + 1 ≡ polls (before ++ run) u v → IsRunning u v (polls before u v) (made + 1) true run
+    made_one : ((g : ℕ) (before run : List Event) → polls run u v ≡ g + 1 → made + 1 ≡ polls (before ++ run) u v
+        → IsRunning u v (polls before u v) (made + 1) true run
         → sweep_end least u v (made + 1) g true es ≤ length es → HasSweep least u v before (run ++ take (sweep_end least u v (made + 1) g true es) es))
         → is_poll u v e ≡ true → (w : Bool) → polls run u v ≡ good + bit w → IsRunning u v (polls before u v) made w run
-        → sweep_end least u v made good w (e ∷ es) ≤ suc (length es) → HasSweep least u v before (run ++ take (sweep_end least u v made good w (e ∷ es)) (e ∷ es))
+        → sweep_end least u v made good w (e ∷ es) ≤ suc (length es)
+        → HasSweep least u v before (run ++ take (sweep_end least u v made good w (e ∷ es)) (e ∷ es))
     made_one rest polled true ran running within =
         let same = end_made least u v made good true e es polled in
         let one = one_more u v e [] polled in
         let now = polls_one u v (before ++ run) e polled in
         apart_run least u v before run e es _ _ same
-        (rest 0 (before ++ run) (e ∷ []) (omega (arith, one)) (omega (arith, counted, now)) (anew u v (polls (before ++ run) u v) made e (sym counted) polled) (omega (arith, within, same)))
+        (rest 0 (before ++ run) (e ∷ []) (omega (arith, one)) (omega (arith, counted, now)) (anew u v (polls (before ++ run) u v) made e (sym counted) polled)
+        (omega (arith, within, same)))
     made_one rest polled false ran running within =
         let same = end_made least u v made good false e es polled in
         let one = polls_one u v run e polled in
-        let now : polls (before ++ (run ++ e ∷ [])) u v ≡ polls (before ++ run) u v + 1 = ap (λ (xs : List Event). polls xs u v) (sym (append_assoc before run (e ∷ []))) ∙ polls_one u v (before ++ run) e polled in
+        let now : polls (before ++ (run ++ e ∷ [])) u v ≡ polls (before ++ run) u v + 1 =
+        ap (λ (xs : List Event). polls xs u v) (sym (append_assoc before run (e ∷ []))) ∙ polls_one u v (before ++ run) e polled in
         joined_run least u v before run e es _ _ same
-        (rest good before (run ++ e ∷ []) (omega (arith, one, ran)) (omega (arith, counted, now)) (goes_on u v (polls before u v) made run e polled running) (omega (arith, within, same)))
+        (rest good before (run ++ e ∷ []) (omega (arith, one, ran)) (omega (arith, counted, now)) (goes_on u v (polls before u v) made run e polled running)
+        (omega (arith, within, same)))
 
-    one_good : (w : Bool) → polls run u v ≡ good + bit w → (w && is_pass u v made e) ≡ true → polls (run ++ e ∷ []) u v ≡ polls run u v → polls (run ++ e ∷ []) u v ≡ (good + 1) + 0
+    one_good : (w : Bool) → polls run u v ≡ good + bit w → (w && is_pass u v made e) ≡ true → polls (run ++ e ∷ []) u v ≡ polls run u v
+        → polls (run ++ e ∷ []) u v ≡ (good + 1) + 0
     one_good true ran pass none = omega (arith, ran, none)
     one_good false ran pass none = absurd cc
 
-    came : is_poll u v e ≡ false → (w : Bool) → IsRunning u v (polls before u v) made w run → (w && is_pass u v made e) ≡ true → IsRunning u v (polls before u v) made false (run ++ e ∷ [])
+    came : is_poll u v e ≡ false → (w : Bool) → IsRunning u v (polls before u v) made w run → (w && is_pass u v made e) ≡ true
+        → IsRunning u v (polls before u v) made false (run ++ e ∷ [])
     came not_poll true running pass = comes u v (polls before u v) made run e not_poll pass running
     came not_poll false running pass = absurd cc
 
-    whole : is_poll u v e ≡ false → polls (run ++ e ∷ []) u v ≡ polls run u v → (w : Bool) → polls run u v ≡ good + bit w → IsRunning u v (polls before u v) made w run → (w && is_pass u v made e) ≡ true
+    whole : is_poll u v e ≡ false → polls (run ++ e ∷ []) u v ≡ polls run u v → (w : Bool) → polls run u v ≡ good + bit w
+        → IsRunning u v (polls before u v) made w run → (w && is_pass u v made e) ≡ true
         → nat_le least (good + 1) ≡ true → HasSweep least u v before (run ++ e ∷ [])
     whole not_poll none w ran running pass done = record {
       early = [];
@@ -324,10 +370,12 @@ ends_there least u v made good waits before run (e ∷ es) ran counted running w
 
 -- ---- the earliest end
 
-pub sweep_first : (least : ℕ) (u v : NodeId) (before es : List Event) → 1 ≤ least → IsFirstEnd (HasSweep least u v before) es (sweep_end least u v (polls before u v) 0 false es)
+pub sweep_first : (least : ℕ) (u v : NodeId) (before es : List Event) → 1 ≤ least
+    → IsFirstEnd (HasSweep least u v before) es (sweep_end least u v (polls before u v) 0 false es)
 sweep_first least u v before es some = record {
   most = at_most (polls before u v) 0 false es;
-  has = λ within. ends_there least u v (polls before u v) 0 false before [] es refl (ap (λ (xs : List Event). polls xs u v) (sym (append-nil before))) (λ rest. refl) within;
+  has = λ within. ends_there least u v (polls before u v) 0 false before [] es refl (ap (λ (xs : List Event). polls xs u v) (sym (append-nil before)))
+      (λ rest. refl) within;
   none = λ m less h.
       none_before least u v (polls before u v) 0 false before h.early h.middle (h.late ++ drop m es) some some refl
       (subst (λ (xs : List Event). length (h.early ++ h.middle) < sweep_end least u v (polls before u v) 0 false xs) (all m h) (shorter m less h)) h.is;
@@ -336,23 +384,30 @@ sweep_first least u v before es some = record {
     at_most : (made good : ℕ) (waits : Bool) (es : List Event) → sweep_end least u v made good waits es ≤ length es + 1
     at_most made good waits [] = omega arith
     at_most made good waits (e ∷ es) = elim (cases_Bool (is_poll u v e)) [
-      | inl polled ↦ (let same = end_made least u v made good waits e es polled in let rest = at_most (made + 1) (if waits then 0 else good) true es in omega (arith, same, rest))
+      | inl polled ↦
+          (let same = end_made least u v made good waits e es polled in let rest = at_most (made + 1) (if waits then 0 else good) true es in
+          omega (arith, same, rest))
       | inr not_poll ↦ elim (cases_Bool (waits && is_pass u v made e)) [
         | inl pass ↦ elim (cases_Bool (nat_le least (good + 1))) [
-          | inl done ↦ (let same : sweep_end least u v made good waits (e ∷ es) ≡ 1 = end_passed least u v made good waits e es not_poll pass ∙ rw done refl in omega (arith, same))
+          | inl done ↦
+              (let same : sweep_end least u v made good waits (e ∷ es) ≡ 1 = end_passed least u v made good waits e es not_poll pass ∙ rw done refl in
+              omega (arith, same))
           | inr not_done ↦
               (let same : sweep_end least u v made good waits (e ∷ es) ≡ suc (sweep_end least u v made (good + 1) false es) =
               end_passed least u v made good waits e es not_poll pass ∙ rw not_done refl in
               let rest = at_most made (good + 1) false es in omega (arith, same, rest))
         ]
-        | inr not_pass ↦ (let same = end_other least u v made good waits e es not_poll not_pass in let rest = at_most made good waits es in omega (arith, same, rest))
+        | inr not_pass ↦
+            (let same = end_other least u v made good waits e es not_poll not_pass in let rest = at_most made good waits es in omega (arith, same, rest))
       ]
     ]
 
     all : (m : ℕ) (h : HasSweep least u v before (take m es)) → es ≡ h.early ++ (h.middle ++ (h.late ++ drop m es))
-    all m h = take_drop es m ∙ ap (λ (xs : List Event). xs ++ drop m es) h.parts ∙ append_assoc h.early (h.middle ++ h.late) (drop m es) ∙ ap (λ (xs : List Event). h.early ++ xs) (append_assoc h.middle h.late (drop m es))
+    all m h = take_drop es m ∙ ap (λ (xs : List Event). xs ++ drop m es) h.parts ∙ append_assoc h.early (h.middle ++ h.late) (drop m es)
+        ∙ ap (λ (xs : List Event). h.early ++ xs) (append_assoc h.middle h.late (drop m es))
 
-    shorter : (m : ℕ) → m < sweep_end least u v (polls before u v) 0 false es → (h : HasSweep least u v before (take m es)) → length (h.early ++ h.middle) < sweep_end least u v (polls before u v) 0 false es
+    shorter : (m : ℕ) → m < sweep_end least u v (polls before u v) 0 false es → (h : HasSweep least u v before (take m es))
+        → length (h.early ++ h.middle) < sweep_end least u v (polls before u v) 0 false es
     shorter m less h =
         let long = ap length h.parts in
         let a = length-append h.early (h.middle ++ h.late) in

@@ -1,12 +1,12 @@
 -- Steps of a walk over effects, and over events with their entries.
-use Rattle.std.proofs.Common.{◌≡◌, ◌<◌, ◌≤◌, ℕ, zero, suc, ◌+◌, ◌-◌, Bool, true, false, List, [], ◌∷◌, ◌++◌, length, map, filter, get_or, take, drop, refl, sym, ap, ap₂, subst, ◌∙◌, append-nil, arith, length-drop, length-take-le}
+use Rattle.std.proofs.Common.{◌≡◌, ◌<◌, ◌≤◌, ℕ, zero, suc, ◌+◌, ◌-◌, Bool, true, false, List, [], ◌∷◌, ◌++◌, length, get_or, take, drop, refl, sym}
+use Rattle.std.proofs.Common.{ap, ap₂, subst, ◌∙◌, append-nil, arith, length-drop, length-take-le}
 use Rattle.std.specs.Prelude.{◌==◌, ◌||◌, if◌then◌else◌}
-use Rattle.std.specs.List.{flat_map, list_any, zip}
-use Rattle.std.proofs.lemmas.List.{map_more, take_more}
+use Rattle.std.specs.List.{All, flat_map, zip}
+use Rattle.std.proofs.lemmas.List.{take_more}
 use Rattle.std.proofs.lemmas.List.Concat.{flat_map-append}
-use Rattle.std.proofs.lemmas.List.Elements.{filter-append}
+use Rattle.std.proofs.lemmas.List.Elements.{All-append, All-cons, All-nil, All-weaker}
 use Rattle.laws_runs.proofs.Lists.{as_they_are, told_more}
-use Rattle.sp_base.specs.Lists.{IsPrefix}
 use Rattle.sp_base.specs.declared.id.NodeId.{NodeId}
 use Rattle.sp_journal.specs.declared.entry.Entry.{Entry}
 use Rattle.sp_msg.specs.declared.effect.Effect.{Effect}
@@ -18,19 +18,15 @@ pub or_second : (a b : Bool) → b ≡ true → (a || b) ≡ true
 or_second true b is = refl
 or_second false b is = is
 
--- a test that an item passes
-pub found : {X Y : Type 0} (p : Y → Bool) (f : X → Y) (xs : List X) (i : ℕ) (d : X) → i < length xs → p (f (get_or xs i d)) ≡ true → list_any p (map f xs) ≡ true
-found p f [] i d below is = absurd (omega (arith, below))
-found p f (x ∷ xs) zero d below is = rw is refl
-found p f (x ∷ xs) (suc i) d below is = or_second (p (f x)) (list_any p (map f xs)) (found p f xs i d (omega (arith, below)) is)
-
 -- one event more tells what it tells with its entry
-pub told_step : {X : Type 0} (tells : Event × Entry → List X) (es : List Event) (js : List Entry) (i : ℕ) (e : Event) (j : Entry) → length es ≡ length js → i < length es
+pub told_step : {X : Type 0} (tells : Event × Entry → List X) (es : List Event) (js : List Entry) (i : ℕ) (e : Event) (j : Entry) → length es ≡ length js
+    → i < length es
     → e ≡ get_or es i e → j ≡ get_or js i j → told tells (take (i + 1) es) (take (i + 1) js) ≡ told tells (take i es) (take i js) ++ tells (e, j)
 told_step tells es js i e j even below is_e is_j =
     let here : take (i + 1) es ≡ take i es ++ e ∷ [] = take_more es i e below ∙ ap (λ (y : Event). take i es ++ y ∷ []) (sym is_e) in
     let there : take (i + 1) js ≡ take i js ++ j ∷ [] = take_more js i j (omega (arith, below, even)) ∙ ap (λ (y : Entry). take i js ++ y ∷ []) (sym is_j) in
-    let same : length (take i es) ≡ length (take i js) = omega (arith, length-take-le i es (omega (arith, below)), length-take-le i js (omega (arith, below, even))) in
+    let same : length (take i es) ≡ length (take i js) =
+    omega (arith, length-take-le i es (omega (arith, below)), length-take-le i js (omega (arith, below, even))) in
     ap₂ (λ (xs : List Event) (ys : List Entry). told tells xs ys) here there ∙ told_more tells (take i es) (take i js) e j same
 
 -- or its effects
@@ -42,7 +38,8 @@ effects_more es js u i e j even below is_e is_j =
     ∙ ap (λ (ys : List Effect). effects_at (take i es) (take i js) u ++ (if (acting e).0 == u.0 then ys else [])) (as_they_are j.effects)
 
 -- what the effects of a node tell, all together
-pub told_of_effects : {X : Type 0} (tells : Effect → List X) (u : NodeId) (es : List Event) (js : List Entry) → told (told_at u tells) es js ≡ flat_map tells (effects_at es js u)
+pub told_of_effects : {X : Type 0} (tells : Effect → List X) (u : NodeId) (es : List Event) (js : List Entry)
+    → told (told_at u tells) es js ≡ flat_map tells (effects_at es js u)
 told_of_effects tells u es js = go (zip es js)
   where
     one : (t : Bool) (j : Entry) → (if t then flat_map tells j.effects else []) ≡ flat_map tells (if t then flat_map (λ y. y ∷ []) j.effects else [])
@@ -54,30 +51,6 @@ told_of_effects tells u es js = go (zip es js)
     go (p ∷ ps) =
         ap₂ (λ (xs ys : List _). xs ++ ys) (one ((acting p.0).0 == u.0) p.1) (go ps)
         ∙ sym (flat_map-append tells (told_at u (λ y. y ∷ []) p) (flat_map (told_at u (λ y. y ∷ [])) ps))
-
--- a stored entry more, or none
-pub held_more : {X H : Type 0} (stays : H → Bool) (tells : X → List H) (xs : List X) (x : X) (hs : List H) → hs ≡ filter stays (flat_map tells xs)
-    → hs ++ filter stays (tells x) ≡ filter stays (flat_map tells (xs ++ x ∷ []))
-held_more stays tells xs x hs is =
-    ap (λ (ys : List _). ys ++ filter stays (tells x)) is
-    ∙ sym (filter-append stays (flat_map tells xs) (tells x))
-    ∙ ap (filter stays) (ap (λ (ys : List _). flat_map tells xs ++ ys) (sym (append-nil (tells x))) ∙ sym (flat_map-append tells xs (x ∷ [])))
-
-pub mapped : {X Y : Type 0} (f : X → Y) (xs : List X) (i : ℕ) (x : X) → i < length xs → x ≡ get_or xs i x → map f (take (i + 1) xs) ≡ map f (take i xs) ++ f x ∷ []
-mapped f xs i x below is = map_more f xs i x below ∙ ap (λ (y : _). map f (take i xs) ++ f y ∷ []) (sym is)
-
-pub kept : {H : Type 0} (stays : H → Bool) (hs : List H) (h : H) → h ∷ [] ≡ hs → stays h ≡ true → h ∷ [] ≡ filter stays hs
-kept stays hs h is stay = subst (λ (ys : List _). h ∷ [] ≡ filter stays ys) is (rw stay refl)
-
-pub dropped : {H : Type 0} (stays : H → Bool) (hs : List H) (h : H) → h ∷ [] ≡ hs → stays h ≡ false → [] ≡ filter stays hs
-dropped stays hs h is goes = subst (λ (ys : List _). [] ≡ filter stays ys) is (rw goes refl)
-
-pub flat_step : {X Y Z : Type 0} (tells : Y → List Z) (f : X → Y) (xs : List X) (i : ℕ) (x : X) → i < length xs → x ≡ get_or xs i x
-    → flat_map tells (map f (take (i + 1) xs)) ≡ flat_map tells (map f (take i xs)) ++ tells (f x)
-flat_step tells f xs i x below is =
-    ap (flat_map tells) (mapped f xs i x below is)
-    ∙ flat_map-append tells (map f (take i xs)) (f x ∷ [])
-    ∙ ap (λ (ys : List _). flat_map tells (map f (take i xs)) ++ ys) (append-nil (tells (f x)))
 
 pub take_all : {X : Type 0} (xs : List X) (n : ℕ) → length xs ≤ n → take n xs ≡ xs
 take_all [] zero no_more = refl
@@ -95,6 +68,42 @@ take_drop (x ∷ xs) (suc n) = ap (λ (ys : List _). x ∷ ys) (take_drop xs n)
 pub slice_from : {X : Type 0} (xs : List X) (from : ℕ) → take (length xs - from) (drop from xs) ≡ drop from xs
 slice_from xs from = let long = length-drop from xs in take_all (drop from xs) (length xs - from) (omega (arith, long))
 
--- a list whose every item the other has in its place is a front of it
-pub front_of : {X : Type 0} (xs ys : List X) (n : ℕ) → length xs ≤ n → take n xs ≡ take n ys → IsPrefix xs ys
-front_of xs ys n no_more same = (drop n ys, take_drop ys n ∙ ap (λ (zs : List _). zs ++ drop n ys) (sym same ∙ take_all xs n no_more))
+-- ---- what a list tells, up to a place and from it on
+
+-- one item at the end
+pub flat_push : {X Z : Type 0} (tells : X → List Z) (xs : List X) (x : X) → flat_map tells (xs ++ x ∷ []) ≡ flat_map tells xs ++ tells x
+flat_push tells xs x = flat_map-append tells xs (x ∷ []) ∙ ap (λ (ys : List _). flat_map tells xs ++ ys) (append-nil (tells x))
+
+-- one item more
+pub flat_more : {X Z : Type 0} (tells : X → List Z) (xs : List X) (i : ℕ) (x : X) → i < length xs → x ≡ get_or xs i x
+    → flat_map tells (take (i + 1) xs) ≡ flat_map tells (take i xs) ++ tells x
+flat_more tells xs i x below is =
+    ap (flat_map tells) (take_more xs i x below ∙ ap (λ (y : _). take i xs ++ y ∷ []) (sym is)) ∙ flat_push tells (take i xs) x
+
+-- a list around a place
+pub parts : {X : Type 0} (xs : List X) (i : ℕ) (x : X) → i < length xs → x ≡ get_or xs i x → xs ≡ take i xs ++ x ∷ drop (suc i) xs
+parts [] i x below is = absurd (omega (arith, below))
+parts (y ∷ xs) zero x below is = ap (λ (z : _). z ∷ xs) (sym is)
+parts {X} (y ∷ xs) (suc i) x below is = ap (λ (zs : List X). y ∷ zs) (parts xs i x (omega (arith, below)) is)
+
+-- all of it
+pub flat_parts : {X Z : Type 0} (tells : X → List Z) (xs : List X) (i : ℕ) (x : X) → i < length xs → x ≡ get_or xs i x
+    → flat_map tells xs ≡ flat_map tells (take i xs) ++ (tells x ++ flat_map tells (drop (suc i) xs))
+flat_parts tells xs i x below is =
+    ap (flat_map tells) (parts xs i x below is) ∙ flat_map-append tells (take i xs) (x ∷ drop (suc i) xs)
+
+-- what holds of all items up to a place, and so of one more
+pub all_more : {X : Type 0} (P Q : X → Type 0) (xs : List X) (i : ℕ) (x : X) → i < length xs → x ≡ get_or xs i x → ((y : X) → P y → Q y) → All P (take i xs)
+    → Q x
+    → All Q (take (i + 1) xs)
+all_more P Q xs i x below is weaker all here =
+    let here_is : take (i + 1) xs ≡ take i xs ++ x ∷ [] = take_more xs i x below ∙ ap (λ (y : _). take i xs ++ y ∷ []) (sym is) in
+    subst (All Q) (sym here_is) (All-append Q (take i xs) (x ∷ []) (All-weaker P Q weaker (take i xs) all) (All-cons Q x [] here (All-nil Q)))
+
+-- and so of all of them
+pub all_whole : {X : Type 0} (P : X → Type 0) (xs : List X) (n : ℕ) → length xs ≤ n → All P (take n xs) → All P xs
+all_whole P xs n past all = subst (All P) (take_all xs n past) all
+
+-- the items up to a place, and one more
+pub next_item : {X : Type 0} (xs : List X) (i : ℕ) (x : X) → i < length xs → x ≡ get_or xs i x → take (i + 1) xs ≡ take i xs ++ x ∷ []
+next_item xs i x below is = take_more xs i x below ∙ ap (λ (y : _). take i xs ++ y ∷ []) (sym is)

@@ -4,5 +4,8 @@ pub mod Counted
 pub mod Lists
 pub mod Shares
 pub mod Shelves
-pub mod Holds
+pub mod Firsts
+pub mod Tops
+pub mod Agreed
+pub mod Seen
 pub mod Ends

@@ -1,11 +1,10 @@
 //! An auditor for anybody's run without epochs: it judges events and their journal by the definitions alone.
 #![tactic(auto)]
 
+mod acts;
 mod correct;
 mod counted;
 mod flows;
-mod holds;
-mod lists;
 mod made;
 mod messages;
 mod once;
@@ -14,6 +13,7 @@ mod refused;
 mod share;
 mod shelf;
 mod sweeps;
+mod top;
 mod whole;
 
 pub use counted::rounds;

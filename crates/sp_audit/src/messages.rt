@@ -1,9 +1,11 @@
-// What was sent and what was delivered between two nodes, and whether one is a prefix of the other.
-ghost use Rattle.std.specs.Prelude.{◌≡◌, ◌↔◌, ◌++◌, IfOk, IsTrue, OnOk, length, map};
+// What was sent and what was delivered between two nodes, and where one first isn't a prefix of the other.
+ghost use Rattle.std.specs.Prelude.{◌≡◌, ◌≤◌, ◌↔◌, ◌∷◌, ◌++◌, [], IfNone, IfOk, IfSome, IsTrue, OnOk, length};
 ghost use Rattle.std.specs.List.{flat_map};
-ghost use Rattle.sp_base.specs.Lists.{IsPrefix};
-ghost use Rattle.sp_runs.specs.Told.{accepted_in, delivered_by, sent};
+ghost use Rattle.sp_audit.specs.Agreed.{Agrees, Differs};
+ghost use Rattle.sp_audit.specs.Firsts.{IsFirst, KeepsOrder};
+ghost use Rattle.sp_runs.specs.Told.{accepted_in, delivered_by};
 
+use crate::acts::effects_when;
 use sp_base::{Memory, NodeId, push};
 use sp_journal::{Entry, Reply};
 use sp_msg::Effect;
@@ -27,29 +29,36 @@ impl<'a> Model for Message<'a> {
 }
 
 impl<'a> Message<'a> {
-    fn is_same(&self, other: &Message) -> bool
-        ensures { IsTrue result ↔ (self.now ≡ other.now) }
+    fn is(&self, seq: u64, payload: &[u8]) -> bool
+        ensures { IsTrue result ↔ (self.now ≡ (seq, payload.now)) }
     {
-        self.seq == other.seq && self.payload == other.payload
+        self.seq == seq && self.payload == payload
     }
 }
 
-/// What clients of `s` sent to `d`.
-pub fn sent_of<'a>(
+/// The number of the first event after which what came from `s` to `d` isn't a prefix of what was sent, counted from 1: one more than there are where there
+/// is none. Each event and each effect is looked at once.
+pub fn order_first(
     alloc: Global,
-    events: &'a [Event],
+    events: &[Event],
     journal: &[Entry],
     s: NodeId,
     d: NodeId,
-) -> Result<Vec<Message<'a>>, Memory>
+) -> Result<usize, Memory>
     requires { length events.now ≡ length journal.now }
-    ensures { IfOk result (λ found. found.items ≡ sent events.now journal.now s d) }
+    ensures { IfOk result (IsFirst (KeepsOrder events.now journal.now s d) (length events.now)) }
 {
-    let mut found = Vec::new(alloc);
+    let mut sent = Vec::new(alloc);
+    let mut count = 0usize;
     'events: for place in 0..events.len() {
-        push_sent(&mut found, &events[place], &journal[place], s, d)?;
+        let (event, entry) = (&events[place], &journal[place]);
+        push_sent(&mut sent, event, entry, s, d)?;
+        match agreed(effects_when(event, entry, d), s, sent.as_slice(), count) {
+            Some(more) => count = more,
+            None => return Ok(place + 1),
+        }
     }
-    Ok(found)
+    Ok(events.len() + 1)
 }
 
 fn push_sent<'a>(
@@ -79,51 +88,46 @@ fn push_sent<'a>(
     Ok(())
 }
 
-/// What these effects deliver of what came from `s`.
-pub fn delivered_of<'a>(
-    alloc: Global,
-    effects: &[&'a Effect],
-    s: NodeId,
-) -> Result<Vec<Message<'a>>, Memory>
-    ensures { IfOk result (λ found. found.items ≡ flat_map (delivered_by s) (map (λ e. e.now) effects.now)) }
+/// How many messages are delivered after these effects, where so many of those that were sent were delivered before. None where one that came from `s` isn't
+/// the next one.
+fn agreed(effects: &[Effect], s: NodeId, sent: &[Message], count: usize) -> Option<usize>
+    requires { count ≤ length sent.now }
+    ensures agrees { IfSome result (Agrees sent.now count (flat_map (delivered_by s) effects.now)) }
+    ensures differs { IfNone result (Differs sent.now count (flat_map (delivered_by s) effects.now)) }
 {
-    let mut found = Vec::new(alloc);
-    'effects: for effect in effects {
-        push_delivered(&mut found, effect, s)?;
-    }
-    Ok(found)
-}
-
-fn push_delivered<'a>(
-    found: &mut Vec<Message<'a>>,
-    effect: &'a Effect,
-    s: NodeId,
-) -> Result<(), Memory>
-    ensures { OnOk result (found.new.items ≡ found.old.items ++ delivered_by s effect.now) }
-{
-    if let Effect::Delivered { src, seq, payload } = effect
-        && *src == s
-    {
-        let message = Message {
-            seq: *seq,
-            payload: payload.as_slice(),
-        };
-        push(found, message)?;
-    }
-    Ok(())
-}
-
-/// Whether the first messages are a prefix of the others.
-pub fn is_prefix(first: &[Message], all: &[Message]) -> bool
-    ensures { IsTrue result ↔ IsPrefix first.now all.now }
-{
-    if all.len() < first.len() {
-        return false;
-    }
-    'messages: for place in 0..first.len() {
-        if !first[place].is_same(&all[place]) {
-            return false;
+    let mut delivered = count;
+    'effects: for place in 0..effects.len() {
+        match next(&effects[place], s, sent, delivered) {
+            Some(more) => delivered = more,
+            None => return None,
         }
     }
-    true
+    Some(delivered)
+}
+
+/// The same of one effect.
+fn next(effect: &Effect, s: NodeId, sent: &[Message], count: usize) -> Option<usize>
+    requires { count ≤ length sent.now }
+    ensures agrees { IfSome result (Agrees sent.now count (delivered_by s effect.now)) }
+    ensures differs { IfNone result (Differs sent.now count (delivered_by s effect.now)) }
+{
+    match effect {
+        Effect::Delivered { src, seq, payload } if *src == s => {
+            after(sent, count, *seq, payload.as_slice())
+        }
+        _ => Some(count),
+    }
+}
+
+/// The same of one message that comes.
+fn after(sent: &[Message], count: usize, seq: u64, payload: &[u8]) -> Option<usize>
+    requires { count ≤ length sent.now }
+    ensures agrees { IfSome result (Agrees sent.now count ((seq, payload.now) ∷ [])) }
+    ensures differs { IfNone result (Differs sent.now count ((seq, payload.now) ∷ [])) }
+{
+    if count < sent.len() && sent[count].is(seq, payload) {
+        Some(count + 1)
+    } else {
+        None
+    }
 }

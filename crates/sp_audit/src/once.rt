@@ -1,36 +1,64 @@
-// Whether no number stands twice.
-ghost use Rattle.std.specs.Prelude.{◌≡◌, ◌≤◌, ◌↔◌, IsTrue};
-ghost use Rattle.std.specs.List.{All};
-ghost use Rattle.laws_runs.specs.Priority.{AreOnce};
-ghost use Rattle.sp_rules.specs.Window.{is_in};
+// Where a priority message first comes twice.
+ghost use Rattle.std.specs.Prelude.{◌≡◌, ◌∷◌, [], IfOk, length};
+ghost use Rattle.sp_audit.specs.Firsts.{ComesOnce, IsFirst};
+ghost use Rattle.sp_audit.specs.Seen.{TakesIn};
+ghost use Rattle.sp_audit.specs.Lists.{number, numbers};
 
-/// Whether no number stands twice among these. Where they rise, each is looked at once.
-pub fn are_once(numbers: &[u64]) -> bool
-    ensures { IsTrue result ↔ AreOnce numbers.now }
+use crate::acts::effects_when;
+use sp_base::{Memory, NodeId};
+use sp_journal::Entry;
+use sp_msg::Effect;
+use sp_schedule_events::Event;
+use std::alloc::Global;
+use std::collections::BTreeSet;
+
+/// The number of the first event after which a priority message from `s` came twice to `u`, counted from 1: one more than there are where there is none.
+/// Each event and each effect is looked at once.
+pub fn once_first(
+    alloc: Global,
+    events: &[Event],
+    journal: &[Entry],
+    s: NodeId,
+    u: NodeId,
+) -> Result<usize, Memory>
+    requires { length events.now ≡ length journal.now }
+    ensures { IfOk result (IsFirst (ComesOnce events.now journal.now s u) (length events.now)) }
 {
-    // The least of those after the place: a number below it isn't one of them.
-    let mut least = u64::MAX;
-    'numbers: for place in (0..numbers.len()).rev() {
-        let number = numbers[place];
-        if is_among(number, least, &numbers[place + 1..]) {
-            return false;
+    let mut seen = BTreeSet::new(alloc);
+    'events: for place in 0..events.len() {
+        let effects = effects_when(&events[place], &journal[place], u);
+        if !add_all(&mut seen, effects, s)? {
+            return Ok(place + 1);
         }
-        least = least.min(number);
     }
-    true
+    Ok(events.len() + 1)
 }
 
-/// Whether a number is one of these, of which none is below the least.
-fn is_among(number: u64, least: u64, numbers: &[u64]) -> bool
-    requires { All (λ n. least ≤ n) numbers.now }
-    ensures { result ≡ is_in number numbers.now }
+/// Adds the numbers of the priority messages from `s` that these effects deliver. Whether each was new.
+fn add_all(seen: &mut BTreeSet<u64>, effects: &[Effect], s: NodeId) -> Result<bool, Memory>
+    ensures { IfOk result (TakesIn seen.old (numbers s effects.now) seen.new) }
 {
-    least <= number && is_in(number, numbers)
+    'effects: for place in 0..effects.len() {
+        if !add(seen, &effects[place], s)? {
+            return Ok(false);
+        }
+    }
+    Ok(true)
 }
 
-/// Whether a number is one of these.
-fn is_in(number: u64, numbers: &[u64]) -> bool
-    ensures { result ≡ is_in number numbers.now }
+/// The same of one effect.
+fn add(seen: &mut BTreeSet<u64>, effect: &Effect, s: NodeId) -> Result<bool, Memory>
+    ensures { IfOk result (TakesIn seen.old (number s effect.now) seen.new) }
 {
-    numbers.iter().any(|other| *other == number)
+    match effect {
+        Effect::DeliveredPrio { src, seq, .. } if *src == s => insert(seen, *seq),
+        _ => Ok(true),
+    }
+}
+
+/// Adds a number. Whether it was new.
+fn insert(seen: &mut BTreeSet<u64>, number: u64) -> Result<bool, Memory>
+    ensures { IfOk result (TakesIn seen.old (number ∷ []) seen.new) }
+{
+    Ok(seen.insert(number)?)
 }

@@ -1,24 +1,43 @@
-// What a place holds, effect after effect.
-ghost use Rattle.std.specs.Prelude.{◌≡◌, ◌==◌, [], IfOk, OnOk, filter, map, not};
-ghost use Rattle.sp_audit.specs.Shelves.{shelf_after, with_entry, without};
+// What a place holds, effect after effect, and where it first holds too much or an eviction doesn't leave its share.
+ghost use Rattle.std.specs.Prelude.{◌≡◌, ◌==◌, ◌∷◌, ◌↔◌, [], IfOk, IsTrue, OnOk, filter, length, not};
+ghost use Rattle.sp_audit.specs.Firsts.{IsFirst, KeepsPlace};
+ghost use Rattle.sp_audit.specs.Shelves.{TakesAll, shelf_after, with_entry, without};
 ghost use Rattle.sp_rules.specs.Window.{is_in};
-ghost use Rattle.sp_runs.specs.Held.{held_in};
+ghost use Rattle.sp_runs.specs.Held.{ShareIf};
 
-use crate::share::Held;
-use sp_base::{Memory, push};
-use sp_msg::Effect;
+use crate::acts::effects_when;
+use crate::share::{Held, is_share};
+use sp_base::{Memory, NodeId, push};
+use sp_journal::Entry;
+use sp_msg::{Effect, Why};
+use sp_schedule_events::Event;
 use std::alloc::Global;
 use std::marker::Model;
 
-/// What place `p` holds after these effects: the entries that were stored there without those that went.
-pub fn held_of(alloc: Global, effects: &[&Effect], p: u8) -> Result<Vec<Held>, Memory>
-    ensures { IfOk result (λ held. held.items ≡ held_in p (map (λ e. e.now) effects.now)) }
+/// The number of the first event after which place `p` of `u` holds more than its capacity or an eviction didn't leave its share, counted from 1: one more than
+/// there are where there is none. Each event and each effect is looked at once.
+pub fn place_first(
+    alloc: Global,
+    capacity: u16,
+    events: &[Event],
+    journal: &[Entry],
+    u: NodeId,
+    p: u8,
+) -> Result<usize, Memory>
+    requires { length events.now ≡ length journal.now }
+    ensures { IfOk result (IsFirst (KeepsPlace capacity events.now journal.now u p) (length events.now)) }
 {
     let mut shelf = Shelf::new(alloc);
-    'effects: for effect in effects {
-        shelf.note(effect, p)?;
+    'events: for place in 0..events.len() {
+        let effects = effects_when(&events[place], &journal[place], u);
+        if !shelf.take_in(capacity, effects, p)? {
+            return Ok(place + 1);
+        }
+        if usize::from(capacity) < shelf.len() {
+            return Ok(place + 1);
+        }
     }
-    Ok(shelf.into_held())
+    Ok(events.len() + 1)
 }
 
 /// The entries of a place, and the ids that went from it.
@@ -53,10 +72,46 @@ impl Shelf {
         }
     }
 
-    fn into_held(self) -> Vec<Held>
-        ensures { result.items ≡ self.held }
+    fn len(&self) -> usize
+        ensures { result ≡ length self.now.held }
     {
-        self.held
+        self.held.len()
+    }
+
+    /// Some effects more. Whether each eviction among them leaves its share.
+    fn take_in(&mut self, capacity: u16, effects: &[Effect], p: u8) -> Result<bool, Memory>
+        ensures { IfOk result (TakesAll capacity p self.old effects.now self.new) }
+    {
+        'effects: for place in 0..effects.len() {
+            if !self.take_one(capacity, &effects[place], p)? {
+                return Ok(false);
+            }
+        }
+        Ok(true)
+    }
+
+    /// One effect more. Whether it leaves its share, where it is an eviction.
+    fn take_one(&mut self, capacity: u16, effect: &Effect, p: u8) -> Result<bool, Memory>
+        ensures { IfOk result (TakesAll capacity p self.old (effect.now ∷ []) self.new) }
+    {
+        if !self.leaves_share(capacity, effect, p) {
+            return Ok(false);
+        }
+        self.note(effect, p)?;
+        Ok(true)
+    }
+
+    fn leaves_share(&self, capacity: u16, effect: &Effect, p: u8) -> bool
+        ensures { IsTrue result ↔ ShareIf capacity p self.now.held effect.now }
+    {
+        match effect {
+            Effect::Gone {
+                place,
+                id,
+                why: Why::Evicted,
+            } if *place == p => is_share(capacity, &self.held, *id),
+            _ => true,
+        }
     }
 
     /// One effect more.

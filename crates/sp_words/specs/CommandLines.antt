@@ -32,15 +32,19 @@ alone name = record {
   request = None;
 }
 
+-- the texts of `paths` for a question
 abbrev pub paths_texts : PathsQuery → Texts
 paths_texts q = record (alone (codes "paths")) { from = Some (decimal q.from.0); to = Some (decimal q.to.0); paths = Some (decimal q.paths) }
 
+-- the texts of `generate`
 abbrev pub generate_texts : Text → Texts
 generate_texts seed = record (alone (codes "generate")) { seed = Some seed }
 
+-- the texts of `daemon`
 abbrev pub daemon_texts : Text → Texts
 daemon_texts turns = record (alone (codes "daemon")) { turns = Some turns }
 
+-- the texts of `ask`
 abbrev pub ask_texts : Ask → Texts
 ask_texts a = record (alone (codes "ask")) {
   port = Some (decimal a.port);
@@ -62,12 +66,15 @@ texts_for (lines.Ask a) = ask_texts a
 
 -- ---- ranges
 
+-- the number of a generated schedule in its range
 abbrev pub IsSeed : ℕ → Type 0
 IsSeed seed = (1 ≤ seed) × (seed ≤ 4294967295)
 
+-- a number of turns in its range
 abbrev pub IsTurns : ℕ → Type 0
 IsTurns turns = (1 ≤ turns) × (turns ≤ MAX_TURNS)
 
+-- a port in its range
 abbrev pub IsPort : ℕ → Type 0
 IsPort port = (1 ≤ port) × (port ≤ 65535)
 
@@ -78,11 +85,13 @@ pub record IsPathsQuery (q : PathsQuery) : Type 0 where
   pub count : (1 ≤ q.paths) × (q.paths ≤ MAX_PATHS)
   pub apart : q.from ≢ q.to
 
+-- what is asked, with numbers in their ranges
 pub record IsAsk (a : Ask) : Type 0 where
   pub port : IsPort a.port
   pub local : IsPort a.local
   pub turns : IsTurns a.turns
 
+-- a command line whose numbers are in their ranges
 abbrev pub IsInRange : CommandLine → Type 0
 IsInRange (lines.Paths q) = IsPathsQuery q
 IsInRange (lines.Generate seed) = IsSeed seed

@@ -19,13 +19,16 @@ command_rule = record (new_rule (codes "command")) { required = true; action = S
 abbrev pub bare : App → App
 bare a = on_top (λ s. record s { no_binary_name = true; disable_help_flag = true; disable_version_flag = true }) a
 
+-- the program with one more option
 abbrev pub with_option : App → Text → App
 with_option a name = with_rule a (option_rule name)
 
+-- the program with a command and the options of paths and seeds
 abbrev pub routes_app : App
 routes_app = with_option (with_option (with_option (with_option (with_rule (bare (new_app (codes "spinesd"))) command_rule) (codes "from"))
     (codes "to")) (codes "paths")) (codes "seed")
 
+-- the program with all that it takes
 abbrev pub app : App
 app = with_option (with_option (with_option (with_option routes_app (codes "turns")) (codes "port")) (codes "local")) (codes "request")
 

@@ -8,6 +8,7 @@ use Rattle.sp_words.specs.declared.given.Given.{Given}
 abbrev pub text : Option (Bor Text) → Option Text
 text o = option_map (λ t. t.now) o
 
+-- the texts of what was given
 abbrev pub texts_in : Given → Texts
 texts_in g = record {
   command = text g.command;

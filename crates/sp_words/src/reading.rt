@@ -59,7 +59,7 @@ fn given_in<'a>(matches: &ArgMatches<'a>) -> Given<'a>
 }
 
 /// Why words are no command line, by clap's error.
-fn refused(error: &Error) -> WordsRefused
+pub(crate) fn refused(error: &Error) -> WordsRefused
     ensures { (result ≡ WordsRefused.Usage) → kind_of error.now ≢ ErrorKind.OutOfMemory }
 {
     if is_memory(error) {
@@ -108,7 +108,7 @@ fn base<'a>(alloc: Global) -> Command<'a>
 }
 
 /// The word of the command.
-fn command_word<'a>(alloc: Global) -> Arg<'a>
+pub(crate) fn command_word<'a>(alloc: Global) -> Arg<'a>
     ensures rule { rule_of result ≡ command_rule }
     ensures plain { result.global ≡ false }
 {
@@ -118,7 +118,11 @@ fn command_word<'a>(alloc: Global) -> Arg<'a>
 }
 
 /// Adds an option.
-fn add<'a>(alloc: Global, command: Command<'a>, name: &'a str) -> Result<Command<'a>, AllocError>
+pub(crate) fn add<'a>(
+    alloc: Global,
+    command: Command<'a>,
+    name: &'a str,
+) -> Result<Command<'a>, AllocError>
     ensures { IfOk result (λ c. app_of c ≡ with_option (app_of command.entry) name.entry.now) }
 {
     command.arg(option(alloc, name))

@@ -154,7 +154,7 @@ fn is_alone(given: &Given<'_>, name: &str) -> bool
 }
 
 /// Whether this text was given.
-fn is_text(given: Option<&str>, name: &str) -> bool
+pub(crate) fn is_text(given: Option<&str>, name: &str) -> bool
     ensures { IsTrue result ↔ (text given.entry ≡ Some name.now) }
 {
     match given {

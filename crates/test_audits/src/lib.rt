@@ -4,6 +4,8 @@
 #[cfg(test)]
 mod counts;
 #[cfg(test)]
+mod cut_files;
+#[cfg(test)]
 mod generated;
 #[cfg(test)]
 mod journals;

@@ -1,4 +1,5 @@
-use Rattle.std.proofs.Common.{◌≡◌, ◌≤◌, ◌+◌, ◌-◌, ℕ, suc, List, [], ◌++◌, arith, length, length-append, length-drop, drop, replicate, take, take-add, sym, ap, subst, ◌∙◌}
+use Rattle.std.proofs.Common.{◌≡◌, ◌≤◌, ◌+◌, ◌-◌, ℕ, suc, List, [], ◌++◌, arith, length, length-append, length-drop, drop, replicate, take, take-add, sym, ap}
+use Rattle.std.proofs.Common.{subst, ◌∙◌}
 use Rattle.sp_base.specs.declared.limits.TheConstants.{MAX_EVENTS}
 use Rattle.sp_runs.specs.Rounds.{CompleteRounds, None_left}
 use Rattle.sp_schedule_events.specs.declared.event.Event.{Event}
@@ -11,12 +12,14 @@ use Rattle.sp_audit.proofs.counted.count_rounds.Goals as goal
 pub returns-then-events-at-clause-counted : goal.returns-then-events-at-clause-counted
 returns-then-events-at-clause-counted c =
     let same : c.rounds.round + 0 ≡ c.rounds.round = omega arith in
-    subst (λ (n : ℕ). CompleteRounds c.args.least c.args.flow.src c.args.flow.dst c.args.path.now n (take c.args.from c.args.events.now) (drop c.args.from c.args.events.now)) same
+    subst (λ (n : ℕ). CompleteRounds c.args.least c.args.flow.src c.args.flow.dst c.args.path.now n (take c.args.from c.args.events.now)
+    (drop c.args.from c.args.events.now)) same
     (c.rounds.invariant.on 0 None_left)
 
 pub returns-then-events-at-clause-no_more : goal.returns-then-events-at-clause-no_more
 returns-then-events-at-clause-no_more c = λ rounds.
-    let last = round_back c.args.least c.args.flow.src c.args.flow.dst c.args.path.now c.args.events.now c.rounds.at c.round_end-end.result 0 c.round_end-end.ensures (c.rounds.invariant.back 1 rounds) in
+    let last = round_back c.args.least c.args.flow.src c.args.flow.dst c.args.path.now c.args.events.now c.rounds.at c.round_end-end.result 0
+    c.round_end-end.ensures (c.rounds.invariant.back 1 rounds) in
     let long = length-drop c.rounds.at c.args.events.now in
     absurd (omega (arith, last.0, long, c.if-events-at.true))
 
@@ -39,7 +42,8 @@ rounds-init c =
     let es = c.args.events.now in
     let path = c.args.path.now in
     let none : AreMade c.none-made.result.forth c.none-made.result.back path [] =
-    subst (λ (fs : List ℕ). AreMade fs c.none-made.result.back path []) (sym c.none-made.ensures.forth) (subst (λ (bs : List ℕ). AreMade (replicate 256 0) bs path []) (sym c.none-made.ensures.back) (none_made path)) in
+    subst (λ (fs : List ℕ). AreMade fs c.none-made.result.back path []) (sym c.none-made.ensures.forth)
+    (subst (λ (bs : List ℕ). AreMade (replicate 256 0) bs path []) (sym c.none-made.ensures.back) (none_made path)) in
     let counted = λ (n : ℕ). CompleteRounds c.args.least c.args.flow.src c.args.flow.dst path n (take c.args.from es) (drop c.args.from es) in
     record {
       there = c.requires.there;
@@ -75,8 +79,11 @@ rounds-preserved c =
       past = omega (arith, some, c.rounds.invariant.past);
       made = subst (AreMade c.count-in-rounds.new.self.forth c.count-in-rounds.new.self.back c.args.path.now) (up_to es at end)
           (c.count-in-rounds.ensures (take at es) (few es at end c.requires.few) c.rounds.invariant.made);
-      on = λ n rounds. subst counted (next n) (c.rounds.invariant.on (suc n) (round_on c.args.least s d c.args.path.now es at end n c.round_end-end.ensures within rounds));
-      back = λ n rounds. (round_back c.args.least s d c.args.path.now es at end n c.round_end-end.ensures (c.rounds.invariant.back (suc n) (subst counted (sym (next n)) rounds))).1;
+      on = λ n rounds. subst counted (next n)
+          (c.rounds.invariant.on (suc n) (round_on c.args.least s d c.args.path.now es at end n c.round_end-end.ensures within rounds));
+      back = λ n rounds.
+          (round_back c.args.least s d c.args.path.now es at end n c.round_end-end.ensures
+          (c.rounds.invariant.back (suc n) (subst counted (sym (next n)) rounds))).1;
     }
   where
     step : (round n : ℕ) → round + suc n ≡ round + 1 + n

@@ -9,13 +9,19 @@ use Rattle.sp_audit.proofs.counted.round_end.Goals as goal
 
 pub hops-preserved : goal.hops-preserved
 hops-preserved c =
-    subst (IsFirstEnd (λ xs. All (λ hop. IsHopServed c.args.least c.args.flow.src c.args.flow.dst hop.0 hop.1 (take c.args.from c.args.events.now) xs) (take (c.hops.place + 1 - 1) (steps c.args.path.now)))
+    subst (IsFirstEnd
+    (λ xs. All (λ hop. IsHopServed c.args.least c.args.flow.src c.args.flow.dst hop.0 hop.1 (take c.args.from c.args.events.now) xs)
+    (take (c.hops.place + 1 - 1) (steps c.args.path.now)))
     (drop c.args.from c.args.events.now)) (sym c.max-end.ensures)
-    (hops_more c.args.least c.args.flow.src c.args.flow.dst (take c.args.from c.args.events.now) (drop c.args.from c.args.events.now) c.args.path.now c.hops.place c.hops.end c.hop_end-served.result
-    (get_or c.args.path.now (c.hops.place - 1) (record { 0 = 0 })) (get_or c.args.path.now c.hops.place (record { 0 = 0 })) (record { 0 = 0 }) c.hops.auto.place c.hops-test.true refl refl c.hops.invariant c.hop_end-served.ensures)
+    (hops_more c.args.least c.args.flow.src c.args.flow.dst (take c.args.from c.args.events.now) (drop c.args.from c.args.events.now) c.args.path.now
+    c.hops.place c.hops.end c.hop_end-served.result
+    (get_or c.args.path.now (c.hops.place - 1) (record { 0 = 0 })) (get_or c.args.path.now c.hops.place (record { 0 = 0 })) (record { 0 = 0 }) c.hops.auto.place
+    c.hops-test.true refl refl c.hops.invariant c.hop_end-served.ensures)
 
 pub returns : goal.returns
 returns c =
     let long = count_steps c.args.path.now in
-    subst (λ (hs : List (NodeId × NodeId)). IsFirstEnd (λ xs. All (λ hop. IsHopServed c.args.least c.args.flow.src c.args.flow.dst hop.0 hop.1 (take c.args.from c.args.events.now) xs) hs) (drop c.args.from c.args.events.now) c.hops.end)
+    subst (λ (hs : List (NodeId × NodeId)). IsFirstEnd
+    (λ xs. All (λ hop. IsHopServed c.args.least c.args.flow.src c.args.flow.dst hop.0 hop.1 (take c.args.from c.args.events.now) xs) hs)
+    (drop c.args.from c.args.events.now) c.hops.end)
     (take_all (steps c.args.path.now) (c.hops.place - 1) (omega (arith, long, c.hops-test.false))) c.hops.invariant

@@ -6,4 +6,5 @@ use Rattle.sp_audit.proofs.counted.round_end.Given as goal
 
 abbrev pub invariant-hops : goal.invariant-hops
 invariant-hops l =
-    IsFirstEnd (λ xs. All (λ hop. IsHopServed l.least l.flow.src l.flow.dst hop.0 hop.1 (take l.from l.events) xs) (take (l.place - 1) (steps l.path))) (drop l.from l.events) l.end
+    IsFirstEnd (λ xs. All (λ hop. IsHopServed l.least l.flow.src l.flow.dst hop.0 hop.1 (take l.from l.events) xs) (take (l.place - 1) (steps l.path)))
+    (drop l.from l.events) l.end

@@ -5,7 +5,8 @@ use Rattle.sp_schedule_events.specs.declared.event.Event.{Event}
 use Rattle.sp_audit.proofs.PathLemmas.{drop_least, first_is, last_is, take_least}
 use Rattle.sp_audit.proofs.counted.rounds.Goals as goal
 
-moved : (path : List NodeId) (n a b : ℕ) (s t d e : NodeId) (xs ys zs ws : List Event) → a ≡ b → s ≡ t → d ≡ e → xs ≡ ys → zs ≡ ws → CompleteRounds a s d path n xs zs → CompleteRounds b t e path n ys ws
+moved : (path : List NodeId) (n a b : ℕ) (s t d e : NodeId) (xs ys zs ws : List Event) → a ≡ b → s ≡ t → d ≡ e → xs ≡ ys → zs ≡ ws
+    → CompleteRounds a s d path n xs zs → CompleteRounds b t e path n ys ws
 moved path n a b s t d e xs ys zs ws p q r u w rounds =
     subst (λ (k : ℕ). CompleteRounds k t e path n ys ws) p
     (subst (λ (v : NodeId). CompleteRounds a v e path n ys ws) q
@@ -30,5 +31,6 @@ returns-clause-counted c =
       is_path = found.2;
       counted = moved path c.count_rounds.result _ _ _ _ _ _ _ _ _ _ least first last before after c.count_rounds.ensures.counted;
       no_more = λ rounds.
-          c.count_rounds.ensures.no_more (moved path (c.count_rounds.result + 1) _ _ _ _ _ _ _ _ _ _ (sym least) (sym first) (sym last) (sym before) (sym after) rounds);
+          c.count_rounds.ensures.no_more
+          (moved path (c.count_rounds.result + 1) _ _ _ _ _ _ _ _ _ _ (sym least) (sym first) (sym last) (sym before) (sym after) rounds);
     }

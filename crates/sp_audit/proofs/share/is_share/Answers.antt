@@ -11,7 +11,8 @@ within hs before e after there =
 pub returns-then-may_go : goal.returns-then-may_go
 returns-then-may_go c = (
   λ _.
-      share_from c.args.capacity c.args.held.now (take c.entries.place c.args.held.now) c.index-held-place.result (drop (c.entries.place + 1) c.args.held.now) c.args.id
+      share_from c.args.capacity c.args.held.now (take c.entries.place c.args.held.now) c.index-held-place.result (drop (c.entries.place + 1) c.args.held.now)
+      c.args.id
       (omega (arith, c.if-held-from.false, c.from.ensures))
       (split_at c.args.held.now c.entries.place c.index-held-place.result c.entries-test.true c.index-held-place.is)
       (sym c.may_go.ensures ∙ c.if-may_go.true),
@@ -20,7 +21,8 @@ returns-then-may_go c = (
 
 pub entries-preserved : goal.entries-preserved
 entries-preserved c =
-    none_yet c.args.capacity c.args.held.now c.args.id c.entries.place c.index-held-place.result c.index-held-place.is c.entries.invariant (sym c.may_go.ensures ∙ c.if-may_go.false)
+    none_yet c.args.capacity c.args.held.now c.args.id c.entries.place c.index-held-place.result c.index-held-place.is c.entries.invariant
+    (sym c.may_go.ensures ∙ c.if-may_go.false)
 
 pub returns : goal.returns
 returns c = (

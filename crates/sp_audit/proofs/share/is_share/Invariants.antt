@@ -4,4 +4,6 @@ use Rattle.sp_audit.specs.Shares.{may_go}
 use Rattle.sp_audit.proofs.share.is_share.Given as goal
 
 abbrev pub invariant-entries : goal.invariant-entries
-invariant-entries l = (before : List Held) (e : Held) (after : List Held) → l.held ≡ before ++ e ∷ after → length before < l.place → may_go l.capacity l.held before e l.id ≡ true → ⊥
+invariant-entries l =
+    (before : List Held) (e : Held) (after : List Held) → l.held ≡ before ++ e ∷ after → length before < l.place → may_go l.capacity l.held before e l.id ≡ true
+    → ⊥

@@ -18,5 +18,6 @@ returns c = λ before is.
     let walk : List Event → ℕ = λ es. c.events.place + sweep_end c.args.least c.args.u c.args.v c.events.walk.made c.events.walk.good c.events.walk.waits es in
     let at : c.events.place ≡ length c.args.during.now = omega (arith, c.events.auto.place-end, c.events-test.false) in
     subst (IsFirstEnd (HasSweep c.args.least c.args.u c.args.v before) c.args.during.now)
-    (ap (λ (n : ℕ). sweep_end c.args.least c.args.u c.args.v n 0 false c.args.during.now) (sym is) ∙ c.events.invariant.walked ∙ ap walk (drop_past c.args.during.now c.events.place (omega (arith, at))) ∙ ap (λ (n : ℕ). n + 1) at)
+    (ap (λ (n : ℕ). sweep_end c.args.least c.args.u c.args.v n 0 false c.args.during.now) (sym is) ∙ c.events.invariant.walked
+    ∙ ap walk (drop_past c.args.during.now c.events.place (omega (arith, at))) ∙ ap (λ (n : ℕ). n + 1) at)
     (sweep_first c.args.least c.args.u c.args.v before c.args.during.now c.requires.some)

@@ -27,8 +27,10 @@ returns-in-Ok-try_get_matches_from-clause-given c =
     let words = map string_bytes c.args.words.now in
     let rows = (c.in-Ok-try_get_matches_from.ensures.matches (ap is_simple c.in-Ok.ensures ∙ simple)).0 in
     record {
-      parsed = ap (λ (a : App). fault_of a words) (sym c.in-Ok.ensures) ∙ c.in-Ok-try_get_matches_from.ensures.kinds (ap is_simple_and_free c.in-Ok.ensures ∙ free);
-      texts_are = c.given_in.ensures ∙ by_rows (found_of c.in-Ok-try_get_matches_from.matches) (matches_of app words) (rows ∙ ap (λ (a : App). matches_of a words) c.in-Ok.ensures);
+      parsed = ap (λ (a : App). fault_of a words) (sym c.in-Ok.ensures)
+          ∙ c.in-Ok-try_get_matches_from.ensures.kinds (ap is_simple_and_free c.in-Ok.ensures ∙ free);
+      texts_are = c.given_in.ensures
+          ∙ by_rows (found_of c.in-Ok-try_get_matches_from.matches) (matches_of app words) (rows ∙ ap (λ (a : App). matches_of a words) c.in-Ok.ensures);
     }
 
 same_refusal : (a b : WordsRefused) → (let r : Result Given WordsRefused = Err a in r ≡ Err b) → a ≡ b

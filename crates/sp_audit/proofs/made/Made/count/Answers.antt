@@ -11,12 +11,16 @@ hops-preserved c =
     record {
       forth = λ d.
           counted_on c.args.self.now.forth c.hops.self.forth (forth_of path es d) place c.saturating_add.result below (c.hops.invariant.forth d)
-          (c.saturating_add.ensures ∙ ap (λ (n : ℕ). sum_to (get_or c.hops.self.forth place 0) n) (c.polls.ensures ∙ forth_is path es d (record { 0 = 0 }) place c.hops-test.true));
+          (c.saturating_add.ensures
+          ∙ ap (λ (n : ℕ). sum_to (get_or c.hops.self.forth place 0) n) (c.polls.ensures ∙ forth_is path es d (record { 0 = 0 }) place c.hops-test.true));
       back = λ d.
           counted_on c.args.self.now.back c.hops.self.back (back_of path es d) place c.saturating_add-in-hops.result below (c.hops.invariant.back d)
-          (c.saturating_add-in-hops.ensures ∙ ap (λ (n : ℕ). sum_to (get_or c.hops.self.back place 0) n) (c.polls-in-hops.ensures ∙ back_is path es d (record { 0 = 0 }) place c.hops-test.true));
+          (c.saturating_add-in-hops.ensures
+          ∙ ap (λ (n : ℕ). sum_to (get_or c.hops.self.back place 0) n)
+          (c.polls-in-hops.ensures ∙ back_is path es d (record { 0 = 0 }) place c.hops-test.true));
     }
 
 pub returns : goal.returns
 returns c = λ es few made.
-    all_counted c.args.path.now es c.args.events.now c.args.self.now.forth c.args.self.now.back c.hops.self.forth c.hops.self.back few made c.hops.place c.hops-test.false c.hops.invariant.forth c.hops.invariant.back
+    all_counted c.args.path.now es c.args.events.now c.args.self.now.forth c.args.self.now.back c.hops.self.forth c.hops.self.back few made c.hops.place
+    c.hops-test.false c.hops.invariant.forth c.hops.invariant.back

@@ -1,0 +1,7 @@
+use Rattle.std.proofs.Common.{◌<◌, ℕ, length}
+use Rattle.sp_audit.specs.Firsts.{IsFirst, KeepsAt}
+use Rattle.sp_runs.specs.Scenarios.{setting_of}
+use Rattle.sp_audit.proofs.whole.first_from.Given as goal
+
+abbrev pub invariant-numbers : goal.invariant-numbers
+invariant-numbers l = IsFirst (λ m. (b : ℕ) → b < l.b → KeepsAt (setting_of l.scenario) l.events l.journal l.a b m) (length l.events) l.first
