@@ -1,90 +1,59 @@
-"""Judges the documents by what they cite: python3 .ci/documents.py
+"""Judges the documents: python3 .ci/documents.py [PROGRAM] [--write]
 
-1. Each path in backticks that begins with a folder of the repository is there: a file, a folder, the beginning of a file's name up to its end, or what a gate
-   makes in an `out/`; a trailing `:NAME` and stars are allowed.
-2. Each word in backticks that is written as a name of the sources, with an underscore or as `Type::name`, is one of them: of crates/, kit/, .ci/, bench/,
-   fuzz/, planted/ or examples/, or of a file or folder. A metric is its name behind `spinesd_`.
-3. No line but a row of a table, a line of an example or a heading is longer than 160 characters.
+1. What they cite is there: files, names of the sources, headings (document_names.py).
+2. They are plain: no sentence above 35 words, no run of words that stands twice, no number of a paper, a request or a theorem, no line above 160 columns, and
+   docs/ with README.md together at most 1,800 lines (document_words.py).
+3. Their figures are those that a script counts (document_figures.py), the types of crates those that are there (document_types.py), and the reading lists
+   those of reading_list.py, which judges them by itself.
+4. With PROGRAM, each command that they show behind a `$` ends as they say (document_commands.py).
 
-Each fault is told with its line, and the status is then 1.
+--write puts the table of counts into docs/MEASURES.md and the types of crates into docs/HOUSE.md as they are. Each fault is told with its line, and the
+status is then 1.
 """
 
 import glob
 import os
-import re
-import subprocess
 import sys
 
+sys.path.insert(0, os.path.dirname(os.path.abspath(__file__)))
+
+import document_commands  # noqa: E402
+import document_figures  # noqa: E402
+import document_names  # noqa: E402
+import document_types  # noqa: E402
+import document_words  # noqa: E402
+
 ROOT = os.path.dirname(os.path.dirname(os.path.abspath(__file__)))
-DOCUMENTS = sorted(glob.glob(os.path.join(ROOT, "docs", "*.md"))) + [os.path.join(ROOT, name) for name in ("README.md", "CONTRIBUTING.md", "examples/overlay/README.md")]
-SOURCES = ("crates", "kit", ".ci", "bench", "fuzz", "planted", "examples")
-QUOTED = re.compile(r"(?<!`)`([^`\n]+)`(?!`)")
-NAME = re.compile(r"(?:[A-Za-z]\w*::)*[A-Za-z]\w*(?:\(\))?")
-WORD = re.compile(r"[A-Za-z_]\w*")
-MOST = 160
+COUNTED = ["README.md", *(os.path.relpath(path, ROOT) for path in sorted(glob.glob(os.path.join(ROOT, "docs", "*.md"))))]
+OTHERS = ["CONTRIBUTING.md", "examples/generated.md", "examples/overlay/README.md"]
 
 
-def files():
-    """All files that the repository keeps, and their folders."""
-    listed = subprocess.run(["git", "ls-files", "-co", "--exclude-standard"], cwd=ROOT, stdout=subprocess.PIPE, text=True, check=True).stdout.split("\n")
-    found = {name for name in listed if name and os.path.lexists(os.path.join(ROOT, name))}
-    for name in list(found):
-        while name := os.path.dirname(name):
-            found.add(name)
+def texts():
+    """The lines of each document, by its path."""
+    found = {}
+    for path in COUNTED + OTHERS:
+        with open(os.path.join(ROOT, path), encoding="utf-8") as file:
+            found[path] = file.read().split("\n")
     return found
 
 
-def names_of(found):
-    """All words of the sources, and the names of files and folders without their ends."""
-    words = set()
-    for name in found:
-        words.update(WORD.findall(os.path.basename(name)))
-        path = os.path.join(ROOT, name)
-        if name.split("/")[0] in SOURCES + ("crates.txt",) and os.path.isfile(path):
-            with open(path, "rb") as file:
-                words.update(WORD.findall(file.read().decode("utf-8", "replace")))
-    return words
-
-
-def fault_of(quoted, found, words):
-    """What is wrong with a citation; None where nothing is."""
-    first = quoted.split("/")[0]
-    if "/" in quoted and " " not in quoted and (first in found) and not re.search(r"[<>{}]|\.\.$|[A-Z]{3,}", quoted):
-        path = quoted.rstrip("/").split(":")[0]
-        if path in found or "/out/" in path or glob.glob(os.path.join(ROOT, path)) or glob.glob(os.path.join(ROOT, path) + ".*"):
-            return None
-        return "no such file"
-    if NAME.fullmatch(quoted) and ("_" in quoted or "::" in quoted):
-        missing = [word for word in WORD.findall(quoted.removeprefix("spinesd_")) if word not in words]
-        return f"no such name: {missing[0]}" if missing else None
-    return None
-
-
-def faults(path, found, words):
-    """The faults of a document."""
-    example = False
-    with open(path, encoding="utf-8") as file:
-        for at, line in enumerate(file.read().split("\n"), 1):
-            example ^= line.startswith("```")
-            if example or line.startswith("    "):
-                continue
-            for quoted in QUOTED.findall(line):
-                if fault := fault_of(quoted, found, words):
-                    yield at, f"`{quoted}`: {fault}"
-            if len(line) > MOST and not line.startswith(("|", "#")):
-                yield at, f"{len(line)} characters"
-
-
-def main():
-    found = files()
-    words, wrong = names_of(found), 0
-    for path in DOCUMENTS:
-        for at, fault in faults(path, found, words):
-            wrong += 1
-            print(f"{os.path.relpath(path, ROOT)}:{at}: {fault}")
-    print(f"{len(DOCUMENTS)} documents, {wrong} faults")
-    sys.exit(1 if wrong else 0)
+def main(words):
+    if "--write" in words:
+        document_figures.write()
+        document_types.write()
+    programs = [word for word in words if not word.startswith("--")]
+    documents = texts()
+    faults = [*document_names.faults(documents), *document_words.faults(documents, COUNTED)]
+    faults += [*document_figures.faults(documents), *document_types.faults(documents)]
+    shown = document_commands.commands(documents)
+    if programs:
+        faults += document_commands.faults(shown, os.path.abspath(programs[0]))
+    for path, at, fault in faults:
+        print(f"{path}:{at}: {fault}")
+    ran = "were run" if programs else "weren't run"
+    print(f"{len(documents)} documents, {len(shown)} commands that {ran}, {len(faults)} faults")
+    return 1 if faults else 0
 
 
 if __name__ == "__main__":
-    main()
+    sys.exit(main(sys.argv[1:]))
