@@ -1,5 +1,5 @@
-"""The last column of the table of crates in docs/HOUSE.md: the public types of each crate, and of a crate of definitions or laws the files of its specs.
-Used by documents.py. `write` puts the column into docs/HOUSE.md.
+"""The last column of the table of crates in docs/HOUSE.md: the public types of each crate, and of a crate of definitions or laws the files of its specs
+with the types that they define. Used by documents.py. `write` puts the column into docs/HOUSE.md.
 """
 
 import glob
@@ -10,6 +10,7 @@ ROOT = os.path.dirname(os.path.dirname(os.path.abspath(__file__)))
 HOUSE = "docs/HOUSE.md"
 ROW = re.compile(r"^\| `(\w+)` \| ([^|]*) \| ([^|]*) \|(?: ([^|]*) \|)?$")
 TYPE = re.compile(r"^pub (?:struct|enum|trait|type) (\w+)", re.M)
+DEFINED = re.compile(r"^pub (?:record|data) (\w+)", re.M)
 OF_DEFINITIONS = ("sp_rules", "sp_runs", "laws_")
 
 
@@ -22,14 +23,17 @@ def read(path):
         return file.read()
 
 
+def names(paths, pattern):
+    """The names of these files that the pattern finds, each once."""
+    return ", ".join(sorted({name for path in paths for name in pattern.findall(read(path))}))
+
+
 def cell(crate):
     """What the column says of a crate."""
-    types = [name for path in sources(crate, "src", "rt") for name in TYPE.findall(read(path))]
-    told = [", ".join(sorted(set(types)))] if types else []
-    if crate.startswith(OF_DEFINITIONS):
-        files = [os.path.basename(path)[:-5] for path in sources(crate, "specs", "antt")]
-        told.append("specs: " + ", ".join(name for name in files if name != "Lib"))
-    return "; ".join(told)
+    specs = sources(crate, "specs", "antt") if crate.startswith(OF_DEFINITIONS) else []
+    files = ", ".join(name for name in (os.path.basename(path)[:-5] for path in specs) if name != "Lib")
+    told = [("", names(sources(crate, "src", "rt"), TYPE)), ("files: ", files), ("specs: ", names(specs, DEFINED))]
+    return "; ".join(what + its for what, its in told if its)
 
 
 def rows(lines):

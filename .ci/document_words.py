@@ -16,7 +16,7 @@ END = re.compile(r"(?<=[.!?])[)*\"]*\s+")
 # a row of a reading list, whose files are no sentence
 LISTED = re.compile(r"\| `\w+/(?:specs|src)`: ")
 # a cell of names alone, which is none either
-NAMES = re.compile(r" (?:specs: )?\w+(?:[,;] (?:specs: )?\w+)* ")
+NAMES = re.compile(r" (?:\w+: )?\w+(?:[,;] (?:\w+: )?\w+)* ")
 NUMBERED = re.compile(r"\b(?:[Pp]apers?|[Tt]heorems?|[Rr]equests?|[Ii]ssues?|[Ss]essions?|[Tt]rials?|[Hh]elpers?) (?:no\. ?|number )?#?\d|"
                       r"\b[RT]\d{1,2}\b|(?<!\w)#\d+\b")
 
