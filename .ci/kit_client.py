@@ -23,10 +23,11 @@ REFUSALS = [
     ("send", "spent 1024", 22, "no signature left"), ("send", "notreserved 64", 23, "No index below 64"),
     ("sendprio", "expired 1764356400000", 24, "before the node's time 1764356400000"), ("sendprio", "nopaths 1", 25, "Only 1 disjoint paths"),
     ("listen", "busy 9001", 26, "session of port 9001 listens"),
+    ("ksend", "busy 2", 31, "went on 2 paths"), ("ksend", "nopaths 1", 25, "Only 1 disjoint paths"), ("ksend", "full 3 19", 21, "those up to 19 wait"),
     ("send", "badrequest", 28, "The request was none"), ("take", "badend", 20, "no other node"),
 ]
 ASKED = {"send": ["send", "3", "hi"], "sendprio": ["send", "3", "hi", "--priority", "5", "--expiry", "9", "--paths", "2"],
-         "take": ["take", "1"], "listen": ["take", "1"]}
+         "ksend": ["send", "3", "hi", "--paths", "2"], "take": ["take", "1"], "listen": ["take", "1"]}
 GOOD = "session 1 {port} {local}\nlast 6\nasked 7 take 1\ntaken prio 2 5 6869\nend\n"
 # what is changed in a good session file, and the line that is refused
 BROKEN = [
@@ -36,6 +37,7 @@ BROKEN = [
     ("take 1", "take 1 2", 3), ("take 1", "take", 3), ("take 1", "send 3 " + 1_025 * "00", 3),
     ("prio 2 5", "prio 2", 4), ("taken prio", "taken", 4), ("6869", 1_025 * "00", 4), ("end\n", "", 5), ("end\n", "end", 5), ("end\n", "end\nend\n", 6),
     ("take 1", "take \xb2", 3), ("last 6", "last  6", 2),
+    ("take 1", "ktake 256", 3), ("take 1", "ksend 3 0 -", 3), ("take 1", "ksend 3 9 -", 3), ("take 1", "ksend 3 -", 3), ("prio 2 5", "krel 2 5", 4),
 ]
 
 
@@ -222,7 +224,8 @@ def inputs(kit):
     """What isn't sent, with its cause."""
     standin, session, big = Standin(), kit.path("inputs"), 1_025 * b"a"
     rows = [(["3", "--hex", "6"], b"", 1, "isn't hexadecimal"), (["3", "--hex", "6A"], b"", 1, "isn't hexadecimal"), (["3"], big, 1, "more than 1,024 bytes"),
-            (["3", "--hex"], b"61" * 1_025, 1, "more than 1,024 bytes"), (["3", "a", "--paths", "2"], b"", 2, "say --priority too"),
+            (["3", "--hex"], b"61" * 1_025, 1, "more than 1,024 bytes"), (["3", "a", "--paths", "0"], b"", 2, "say --priority too"),
+            (["3", "a", "--paths", "9"], b"", 2, "no number of 0 to 8"),
             (["256", "a"], b"", 2, "no number of 0 to 255"), (["3", "a", "--priority", "11"], b"", 2, "no number of 1 to 10"),
             (["3", "a", "--priority", "1", "--expiry", "soon"], b"", 2, "neither milliseconds"), (["3", "a", "--file", "x"], b"", 2, "the payload is TEXT or"),
             (["3", "--file", kit.path("no such")], b"", 1, "No such file")]
@@ -240,6 +243,11 @@ def payloads(kit):
                                  (["--file", kit.write("payload", b"hi")], b"", "6869"), ([""], b"", "-")):
         run(kit, standin, "send", standin.port, "3", *words, "--session", session, given=given)
         kit.equal(f"client: the payload of {words}", standin.ran[-1], f"send 3 {wanted}")
+    run(kit, standin, "send", standin.port, "3", "--paths", "8", "a", "--session", session)
+    kit.equal("client: a message on paths", standin.ran[-1], "ksend 3 8 61")
+    standin.answers = {"take": ["payload 61"], "ktake": ["empty", "payload 62", "payload 63"]}
+    status, said, _ = run(kit, standin, "take", standin.port, "1", "2", "--paths", "--session", session)
+    kit.equal("client: messages on paths are taken too", (status, said), (0, "rel 1 a\nkrel 2 b\nkrel 1 c\n"))
     run(kit, standin, "send", standin.port, "3", "--priority", "7", "--expiry", "+10", "--paths", "2", "a", "--session", session)
     words = standin.ran[-1].split(" ")
     is_so = words[:3] + words[4:] == ["sendprio", "3", "7", "2", "61"] and 5_000 < int(words[3]) - 1000 * time.time() < 11_000
@@ -308,15 +316,18 @@ def talk(kit, source, target):
     kit.equal("client: it sends", asked(kit, "send", source, "2", "hello"), (0, "accepted 1\n", ""))
     kit.equal("client: of standard input", asked(kit, "send", source, "2", given=b"\x00\xff"), (0, "accepted 2\n", ""))
     kit.equal("client: priority", asked(kit, "send", source, "2", "--priority", "5", "--paths", "1", "urgent"), (0, "accepted 1\n", ""))
-    status, said, why = asked(kit, "listen", target, "1", "--priority", "--messages", "3", "--seconds", "20")
-    kit.equal("client: it listens", (status, sorted(said.split("\n")), why), (0, ["", "prio 1 1 urgent", "rel 1 \\x00\\xff", "rel 1 hello"], ""))
+    kit.equal("client: on paths", asked(kit, "send", source, "2", "--paths", "1", "over"), (0, "accepted 1\n", ""))
+    status, said, why = asked(kit, "listen", target, "1", "--paths", "--priority", "--messages", "4", "--seconds", "20")
+    arrived = ["", "krel 1 over", "prio 1 1 urgent", "rel 1 \\x00\\xff", "rel 1 hello"]
+    kit.equal("client: it listens", (status, sorted(said.split("\n")), why), (0, arrived, ""))
     kit.equal("client: nothing comes", asked(kit, "listen", target, "1", "--seconds", "0.3")[:2], (30, ""))
 
 
 def refused(kit, source, target):
     """What a daemon refuses: a node that isn't there, an hour that has passed, paths, a second listener, a full flow, a ninth session."""
     rows = [(["send", source, "9", "a"], 20), (["take", target, "9"], 20), (["send", source, "2", "--priority", "1", "--expiry", "1", "a"], 24),
-            (["send", source, "2", "--priority", "1", "--paths", "3", "a"], 25), (["take", target, "1", "--session", kit.path("second client")], 26)]
+            (["send", source, "2", "--priority", "1", "--paths", "3", "a"], 25), (["send", target, "1", "--paths", "2", "a"], 25),
+            (["take", target, "1", "--session", kit.path("second client")], 26)]
     for words, wanted in rows:
         kit.equal(f"client: {words[2:]}", asked(kit, *words)[:2], (wanted, ""))
     status, said, _ = asked(kit, "bench", source, "2", "--messages", "60", "--size", "9", "--seconds", "1")

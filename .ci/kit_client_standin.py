@@ -69,8 +69,8 @@ class Standin:
     def answered(self, port, number, name, request):
         """What runs is answered once."""
         self.ran.append(request.partition(" ")[2])
-        self.sent += name.startswith("send")
-        usual = {"open": "opened", "listen": "listening", "close": "closed", "take": "empty", "takeprio": "empty"}.get(name, f"accepted {self.sent}")
+        self.sent += name in ("send", "sendprio", "ksend")
+        usual = {"open": "opened", "listen": "listening", "close": "closed", "take": "empty", "ktake": "empty", "takeprio": "empty"}.get(name, f"accepted {self.sent}")
         self.sessions[port] = number, f"{number} " + (self.answers[name].pop(0) if self.answers.get(name) else usual)
         return self.sessions.pop(port)[1] if name == "close" else self.sessions[port][1]
 

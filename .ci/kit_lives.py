@@ -82,7 +82,7 @@ def tells(kit):
     told = json.loads(kit.run("spinesd-status", "--json", *files)[1])
     flow = next(flow for flow in told["flows"] if (flow["source"], flow["destination"]) == (16, 17))
     kit.equal("lives: what is told", (told["lives"], told["not_met"], told["neighbours"][0]["held_up"], flow["ended"]),
-              ({"16": 10, "17": 4, "32": 2}, [], {"gap": 0, "epoch": 6}, 1))
+              ({"16": 10, "17": 4, "32": 2}, [], {"gap": 0, "epoch": 7}, 1))
     early = kit.write("early.recording", "".join(text.splitlines(True)[:4]).encode())
     kit.equal("lives: who isn't met yet", json.loads(kit.run("spinesd-status", "--json", files[0], early)[1])["not_met"], [16, 32])
     kit.holds("lives: the table", "\nstarts of nodes 16 at 10, 17 at 4, 32 at 2; not met none\n" in kit.run("spinesd-status", *files)[1], "")
@@ -91,7 +91,7 @@ def tells(kit):
     kit.holds("lives: that somebody isn't met for long", "ATTENTION: no start of node 16, 32 was heard yet" in said, said)
     lines = kit.run("spinesd-status", "--prometheus", *files)[1].split("\n")
     wanted = ['spinesd_boot{node="17"} 4', 'spinesd_life_boot{node="17",of="16"} 10', 'spinesd_flow_ended_total{node="17",source="16",destination="17"} 1',
-              'spinesd_neighbour_messages_held_up_total{node="17",neighbour="16",answer="epoch"} 6']
+              'spinesd_neighbour_messages_held_up_total{node="17",neighbour="16",answer="epoch"} 7']
     kit.equal("lives: metrics that lack", [line for line in wanted if line not in lines], [])
     for given, word in (("+ ended 1 3", "ended"), ("fresh rel:epoch", "epoch"), ("STANDS", "STANDS")):
         status, said, _ = kit.run("spinesd-explain", *given.split())

@@ -254,11 +254,12 @@ def sections(kit):
 
 
 def by_hand(kit):
-    """Messages of other boots, and parts that are read and not handled yet."""
+    """Messages of other boots and on paths, and a part that is read and not handled yet."""
     files = kit.write("second.conf", kit_second_recording.CONFIGURATION), kit.write("second.recording", kit_second_recording.RECORDING.encode())
     told = json.loads(kit.run("spinesd-status", "--json", *files)[1])
     reported = next(flow["reported"].get("16") for flow in told["flows"] if (flow["source"], flow["destination"]) == (16, 17))
     kit.equal("format 2: frames by hand", (told["checked"], told["untold_ticks"], told["neighbours"][0]["untold"], reported), kit_second_recording.WANTED)
+    kit.equal("format 2: requests by hand", told["requests"], kit_second_recording.REPLIED)
 
 
 def look(kit):

@@ -38,13 +38,17 @@ def prio(number, boot, mask):
     return struct.pack(">Q", number) + signed(b"\x01\x10\x20" + struct.pack(">QQBQ", boot, number, 5, 2 ** 63) + mask + struct.pack(">H", 1) + b"x")
 
 
+def krel(number, mask, boots=BOOTS):
+    return signed(b"\x05\x10\x11" + struct.pack(">QQQ", *boots, number) + mask + struct.pack(">H", 2) + b"hi")
+
+
 def start(origin, boot):
     """What a node says of its start."""
     return b"\1" + signed(b"\x07" + struct.pack(">BQ", origin, boot))
 
 
 ACK = signed(b"\x03\x10\x11" + struct.pack(">QQQ", *BOOTS, 1))
-KREL = signed(b"\x05\x10\x11" + struct.pack(">QQQ", *BOOTS, 1) + bytes(32) + struct.pack(">H", 0))
+KACK = signed(b"\x06\x10\x11" + struct.pack(">QQQ", *BOOTS, 1))
 ALL, SECOND = b"\xff" * 32, bytes(31) + b"\2"
 # frames of node 16 and what node 17 answers; the second of the edges leads to node 32
 ROWS = [
@@ -57,23 +61,38 @@ ROWS = [
     (frame(7, reliable=slot(0, 1, b"\1" + ACK)), "fresh ack:old\n"),
     (frame(8, urgent=b"\2" + prio(1, 1, ALL) + prio(1, 9, SECOND)), "fresh prio:epoch prio:new\n+ stored 32 1 16 1 5\n"),
     (frame(9, reliable=slot(0, 1, messages=b"\3" + 3 * rel(1))), "section count\n"),
-    (frame(10, paths=slot(0, 1, messages=b"\1" + KREL), probe=b"\1" + bytes(56), epoch=start(16, 9)), "fresh epoch:old\n"),
-    (frame(11, sections=b"\x80" + struct.pack(">H", len(DOCUMENT)) + DOCUMENT + bytes(13)), "fresh document:old\n"),
-    (frame(12, sections=b"\x80" + struct.pack(">H", len(DOCUMENT)) + DOCUMENT + bytes(12) + b"\1"), "section count\n"),
-    (frame(13, reliable=slot(7, 8, boots=UNMET)), "fresh\n"),
-    (frame(14, epoch=start(17, 5)), "fresh epoch:badend\n"),
-    (frame(15, epoch=start(33, 5)), "fresh epoch:badend\n"),
-    # node 32 started: no flow of it is active. Then node 16 started again: its flow ends, and what it sends counts from 1 again
-    (frame(16, epoch=start(32, 2)), "fresh epoch:new\n"),
-    (frame(17, urgent=b"\1" + prio(1, 9, SECOND), epoch=start(16, 10)), "fresh prio:seen epoch:new\n+ ended 16 17\n"),
-    (frame(18, urgent=b"\1" + prio(1, 9, SECOND), reliable=slot(0, 2, messages=b"\1" + rel(2))), "fresh prio:epoch rel:epoch\n"),
-    (frame(19, urgent=b"\1" + prio(1, 10, SECOND), reliable=slot(0, 1, messages=b"\1" + rel(1, AGAIN), boots=AGAIN)),
+    # a message on paths comes over the first edge
+    (frame(10, paths=slot(0, 1, messages=b"\1" + krel(1, SECOND)), probe=b"\1" + bytes(56), epoch=start(16, 9)), "fresh krel:offmask epoch:old\n"),
+    (frame(11, paths=slot(0, 1, messages=b"\1" + krel(1, ALL))), "fresh krel:new\n+ delivered krel 16 1 6869\n"),
+    (frame(12, paths=slot(0, 2, messages=b"\1" + krel(2, SECOND, (8, 4)))), "fresh krel:epoch\n"),
+    (frame(13, paths=slot(0, 1, b"\1" + KACK, b"\1" + krel(1, ALL))), "fresh kack:old krel:old\n"),
+    (frame(14, sections=b"\x80" + struct.pack(">H", len(DOCUMENT)) + DOCUMENT + bytes(13)), "fresh document:old\n"),
+    (frame(15, sections=b"\x80" + struct.pack(">H", len(DOCUMENT)) + DOCUMENT + bytes(12) + b"\1"), "section count\n"),
+    (frame(16, reliable=slot(7, 8, boots=UNMET)), "fresh\n"),
+    (frame(17, epoch=start(17, 5)), "fresh epoch:badend\n"),
+    (frame(18, epoch=start(33, 5)), "fresh epoch:badend\n"),
+    # node 32 started: no flow of it is active. Then node 16 started again: its flows end, and what it sends counts from 1 again
+    (frame(19, epoch=start(32, 2)), "fresh epoch:new\n"),
+    (frame(20, urgent=b"\1" + prio(1, 9, SECOND), epoch=start(16, 10)), "fresh prio:seen epoch:new\n+ ended 16 17\n+ kended 16 17\n"),
+    (frame(21, urgent=b"\1" + prio(1, 9, SECOND), reliable=slot(0, 2, messages=b"\1" + rel(2))), "fresh prio:epoch rel:epoch\n"),
+    (frame(22, urgent=b"\1" + prio(1, 10, SECOND), reliable=slot(0, 1, messages=b"\1" + rel(1, AGAIN), boots=AGAIN)),
      "fresh prio:new rel:new\n+ stored 32 2 16 1 5\n+ delivered rel 16 1 6869\n"),
+    (frame(23, paths=slot(0, 1, messages=b"\1" + krel(1, ALL, AGAIN), boots=AGAIN)), "fresh krel:new\n+ delivered krel 16 1 6869\n"),
 ]
-# the acknowledgement of what came, which is signed at the tick after it
-TICKS = {5: "ticked\n+ signed 031011" + "".join(f"{number:016x}" for number in (*BOOTS, 1)) + "\n"}
+# the acknowledgement of what came, which is signed at the tick after it: of the flow, and of the one on paths
+TICKS = {turn: f"ticked\n+ signed {kind}1011" + "".join(f"{number:016x}" for number in (*boots, 1)) + "\n"
+         for turn, kind, boots in ((5, "03", BOOTS), (12, "06", BOOTS), (23, "03", AGAIN))}
+# what a client asks at the end, and what it is replied: the message on paths that came before its source started again is gone
+ASKED = [
+    ("1 open", "1 opened"), ("2 ktake 16", "2 notlistening"), ("3 listen", "3 listening"), ("4 ktake 16", "4 payload 6869"), ("5 ktake 16", "5 empty"),
+    ("6 ksend 16 9 -", "0 badrequest"), ("6 ksend 16 2 -", "6 nopaths 1"), ("7 ksend 16 1 6869", "7 accepted 1"), ("8 ksend 16 2 -", "8 busy 1"),
+    ("8 ksend 16 2 -", "8 busy 1"),
+]
 RECORDING = "recording 1 4 32 64\n" + "".join(
     f"tick {1_000 * turn} {digest(TICKS.get(turn, 'ticked' + chr(10)).encode())}\noverlay 16 {datagram.hex()} {digest(answer.encode())}\npoll 32 {digest(b'')}\n"
-    for turn, (datagram, answer) in enumerate(ROWS, 1))
+    for turn, (datagram, answer) in enumerate(ROWS, 1)) + "".join(
+    f"client 9000 {request.encode().hex()} {digest(reply.encode())}\n" for request, reply in ASKED)
 # how many answers are right, what is untold, and what the neighbour reported last of the flow
 WANTED = {"right": len(ROWS), "different": 0}, 0, 0, {"base": 0, "have": 1}
+REPLIED = {"accepted": 1, "badrequest": 1, "busy": 1, "empty": 1, "listening": 1, "nopaths": 1, "notlistening": 1, "opened": 1, "payload": 1,
+           "repeated": 1}

@@ -18,7 +18,7 @@ import sys
 ROOT = os.path.dirname(os.path.dirname(os.path.abspath(__file__)))
 SECRET = re.compile(r"^\s*(pub(\(\w+\))? )?(seed|admin_seed|key|keys)\s*:\s*(&\w* )?(\[u8; 32\]|Listed<\(\w+, \[u8; 32\]\)>|Listed<DraftNode>|Listed<Peer>)")
 WRITES = re.compile(r"=>\s*Lead::Unread\(|(?:\bErr\(|\bended\(|\bok_or\(|=>\s*)(\w+::)?Memory\b(?!\s*(?:=>|::|\{))|\|_\|\s*(\w+::)?Memory\b|^\s*code: Status::Memory")
-TAKES = re.compile(r"closing_room|with_edge|with_bad|alloc|reserve|\.push\(|push_\w+\(|write!|read_up_to|extend|sign|make\(|grow|encode|decode|collect|public_key|with_room|is_memory|replay|offline|program")
+TAKES = re.compile(r"closing_room|epoch::room_for|with_edge|with_bad|alloc|reserve|\.push\(|push_\w+\(|write!|read_up_to|extend|sign|make\(|grow|encode|decode|collect|public_key|with_room|is_memory|replay|offline|program")
 
 
 def product():

@@ -13,7 +13,7 @@ ROWS = endings()
 STATUSES = {"replay": (0, 3, 4), "paths": (0, 3, 12), "topology": (0, 3), "verify": (0, 3, 10), "daemon": (0, 3, 7, 8, 13)}
 ENTRY = re.compile(rb"([1-9]\d*) ([a-z]+)((?: [a-z0-9:-]+)*)")
 EFFECT = re.compile(rb"\+ (signed [0-9a-f]+|stored \d+ \d+ \d+ \d+ \d+|gone \d+ \d+ (evicted|expired|acked|taken|withdrawn)|"
-                    rb"delivered (rel|prio) \d+ \d+ (-|[0-9a-f]+)|weight \d+ \d+ \d+ \d+|version \d+|ended \d+ \d+)")
+                    rb"delivered (rel|krel|prio) \d+ \d+ (-|[0-9a-f]+)|weight \d+ \d+ \d+ \d+|version \d+|k?ended \d+ \d+)")
 DIGESTED = re.compile(rb"(?:tick|overlay|client|poll) .*([0-9a-f]{64})")
 
 

@@ -39,8 +39,8 @@ _spinesd_client() {
     local always="--session --wait --help"
     case ${COMP_WORDS[1]} in
         send) echo "$always --priority --expiry --paths --file --hex --once" ;;
-        take) echo "$always --priority --messages --hex" ;;
-        listen) echo "$always --priority --messages --seconds --hex" ;;
+        take) echo "$always --paths --priority --messages --hex" ;;
+        listen) echo "$always --paths --priority --messages --seconds --hex" ;;
         bench) echo "$always --priority --expiry --paths --messages --size --seconds" ;;
         close) echo "$always --hex" ;;
         *) echo "send take listen bench close --help" ;;

@@ -9,7 +9,7 @@ import hashlib
 import re
 
 import stores
-from frames import Item
+from frames import KREL, REL, Item
 
 # how many bytes a request has at most
 MOST = 4_096
@@ -23,10 +23,13 @@ BEGUN_ANEW = ("badnumber", "nosession")
 MOST_PAYLOAD, MOST_NUMBER = 1_024, 2 ** 63 - 1
 # the numbers that the words of a command may be; None stands for a payload
 NODES, PRIORITIES, EXPIRIES, PATHS, WEIGHTS = range(256), range(1, 11), range(2 ** 64), range(9), range(1, 1_000_001)
+SOME_PATHS = range(1, 9)
 COMMANDS = {
     "open": (), "listen": (), "send": (NODES, None), "sendprio": (NODES, PRIORITIES, EXPIRIES, PATHS, None), "take": (NODES,), "takeprio": (),
-    "weight": (NODES, WEIGHTS), "close": (),
+    "weight": (NODES, WEIGHTS), "close": (), "ksend": (NODES, SOME_PATHS, None), "ktake": (NODES,),
 }
+# the kinds of reliable messages by the commands that send and take them
+KIND_OF = {"send": REL, "take": REL, "ksend": KREL, "ktake": KREL}
 DECIMAL, HEX = re.compile(r"0|[1-9][0-9]*"), re.compile(r"-|(?:[0-9a-f]{2})+")
 
 Reply = collections.namedtuple("Reply", "words is_repeat")
@@ -66,8 +69,8 @@ class Clients:
         self.minimum_of = minimum_of                    # the administrator's least weight of the link to a neighbour, or None
         self.rules = rules                              # what the node keeps, which requests change
         self.sessions = {}                              # by their ports
-        self.sent = collections.Counter()               # reliable messages accepted, by destination
-        self.taken = collections.Counter()              # reliable messages taken, by source
+        self.sent = {REL: collections.Counter(), KREL: collections.Counter()}           # reliable messages accepted, by kind and destination
+        self.taken = {REL: collections.Counter(), KREL: collections.Counter()}          # reliable messages taken, by kind and source
         self.own = collections.Counter()                # own numbers of priority messages and weights
         self.arrived = collections.defaultdict(dict)    # payloads by kind and source, then by number, which each life of a source gives again
         self.now = 0
@@ -78,9 +81,10 @@ class Clients:
 
     def ended(self, node):
         """Another life of a node began: its flows count from 1 again, and what waited of them is gone."""
-        self.sent.pop(node, None)
-        self.taken.pop(node, None)
-        self.arrived.pop(("rel", node), None)
+        for kind in (REL, KREL):
+            self.sent[kind].pop(node, None)
+            self.taken[kind].pop(node, None)
+            self.arrived.pop((kind, node), None)
 
     def reply(self, port, request, digest):
         """The words of a reply without its number, and whether it was given before; None where no reply that fits was found."""
@@ -109,11 +113,11 @@ class Clients:
             self.sessions.pop(port, None)
         elif name == "accepted":
             self.accepted(command)
-        elif name == "payload" and first == "take":
-            source = int(command[1])
-            self.taken[source] += 1
-            self.arrived["rel", source].pop(self.taken[source], None)
-            self.rules.took(source)
+        elif name == "payload" and first in KIND_OF:
+            kind, source = KIND_OF[first], int(command[1])
+            self.taken[kind][source] += 1
+            self.arrived[kind, source].pop(self.taken[kind][source], None)
+            self.rules.took(kind, source)
         elif name == "payload":
             _, source, number, payload = words.split(" ")
             self.took_prio(int(source), int(number), payload)
@@ -127,9 +131,10 @@ class Clients:
 
     def accepted(self, command):
         """A message or a weight was taken."""
-        if command[0] == "send":
-            self.sent[int(command[1])] += 1
-            self.rules.sent(int(command[1]), self.sent[int(command[1])])
+        if command[0] in KIND_OF:
+            kind, destination = KIND_OF[command[0]], int(command[1])
+            self.sent[kind][destination] += 1
+            self.rules.sent(kind, destination, self.sent[kind][destination])
             return
         self.own[self.numbered(command)] += 1
         number = self.own[self.numbered(command)]
@@ -147,9 +152,9 @@ class Clients:
         """The replies that a request can have, the usual ones first."""
         name = command[0] if command else ""
         yield from {"open": ["opened"], "listen": ["listening"], "close": ["closed"]}.get(name, [])
-        if name in ("send", "sendprio", "weight") and len(command) > 1:
+        if name in ("send", "ksend", "sendprio", "weight") and len(command) > 1:
             yield from self.of_sending(name, command)
-        elif name in ("take", "takeprio"):
+        elif name in ("take", "ktake", "takeprio"):
             yield from self.of_taking(name, command)
         yield "badend"
         yield "nosession"
@@ -158,23 +163,27 @@ class Clients:
         yield from (f"busy {other}" for other in self.sessions)
 
     def of_sending(self, name, command):
-        sent = self.sent[int(command[1])] if name == "send" and command[1].isdecimal() else self.own[self.numbered(command)]
+        is_flow = name in KIND_OF and command[1].isdecimal()
+        sent = self.sent[KIND_OF[name]][int(command[1])] if is_flow else self.own[self.numbered(command)]
         yield f"accepted {sent + 1}"
         yield f"spent {self.rules.total}"
-        if name == "send":
+        if name in KIND_OF:
             yield from (f"full {base} {sent}" for base in range(max(0, sent - 64), sent + 1))
-        elif name == "sendprio":
+        if name == "ksend":
+            yield from (f"busy {count}" for count in SOME_PATHS)
+        if name == "sendprio":
             yield f"expired {self.now}"
+        if name in ("sendprio", "ksend"):
             yield from (f"nopaths {found}" for found in range(9))
-        else:
+        if name == "weight":
             yield f"low {self.minimum_of(command[1])}"
 
     def of_taking(self, name, command):
         yield "empty"
         yield "notlistening"
-        if name == "take" and len(command) == 2 and command[1].isdecimal():
-            source = int(command[1])
-            yield from (f"payload {payload}" for payload in self.arrived["rel", source].get(self.taken[source] + 1, ()))
+        if name in KIND_OF and len(command) == 2 and command[1].isdecimal():
+            kind, source = KIND_OF[name], int(command[1])
+            yield from (f"payload {payload}" for payload in self.arrived[kind, source].get(self.taken[kind][source] + 1, ()))
         elif name == "takeprio":
             for entry in self.rules.guesses[0][stores.INBOX].entries[:1]:
                 yield from (f"payload {entry.source} {entry.number} {payload}" for payload in self.arrived["prio", entry.source].get(entry.number, ()))

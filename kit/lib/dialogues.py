@@ -13,7 +13,7 @@ import time
 from clients import BEGUN_ANEW
 from endings import endings, filled, of_line
 from scripts import Refused
-from sessions import Asked, Kept, kept_in
+from sessions import Asked, Kept, kept_in, taken_by
 
 # a request is sent again after so many seconds without its reply, and after so many times it is said that nobody answers
 EVERY, SILENT = 0.25, 40
@@ -25,8 +25,8 @@ OWN_PORTS = range(20_000, 30_000)
 PORT_IN_USE, UNANSWERED = 7, 11
 # the status of each answer that refuses, and of those that are none
 STATUSES = {"badend": 20, "full": 21, "spent": 22, "notreserved": 23, "expired": 24, "nopaths": 25, "busy": 26, "sessionsfull": 27, "badrequest": 28}
-UNSURE, EMPTY = 29, 30
-SENDS = ("send", "sendprio")
+UNSURE, EMPTY, PATHS_BUSY = 29, 30, 31
+SENDS, TAKES = ("send", "sendprio", "ksend"), ("take", "takeprio", "ktake")
 
 
 def say(text):
@@ -39,16 +39,19 @@ def replies():
     return [row for row in endings() if row.commands == ("ask",) and row.status == "0"]
 
 
-def cause_of(number, words):
-    """What a reply means and what to do, in plain words; None where no daemon replies so."""
+def cause_of(number, words, is_send=False):
+    """What a reply means and what to do, in plain words; None where no daemon replies so. A send is `busy` by paths, and a take by another session."""
     found = of_line(replies(), " ".join([str(number), *words]))
-    return f"{filled(found[0][0].means, found[0][1])} {filled(found[0][0].do, found[0][1])}" if found else None
+    row, values = max(found, key=lambda each: ("PATHS" in each[1]) == is_send, default=(None, None))
+    return f"{filled(row.means, values)} {filled(row.do, values)}" if row else None
 
 
 def refuse_unless(wanted, words):
     """Refuses an answer that isn't the wanted one, with its cause."""
     if words[0] != wanted:
-        raise Refused(f"{words[0]}: {cause_of(0 if words[0] == 'badrequest' else 1, words)}", STATUSES.get(words[0], 1))
+        is_send = wanted == "accepted"
+        status = PATHS_BUSY if is_send and words[0] == "busy" else STATUSES.get(words[0], 1)
+        raise Refused(f"{words[0]}: {cause_of(0 if words[0] == 'badrequest' else 1, words, is_send)}", status)
 
 
 class Wire:
@@ -195,14 +198,14 @@ class Dialogue:
         ran = words[0] not in ("opened", *BEGUN_ANEW)
         told = "ran: " + " ".join(words) if ran else "didn't run" if words[0] == "opened" else "may have run: the daemon doesn't have the session any more"
         self.kept.answered(words)
-        if left.command.split(" ")[0] in (*SENDS, "take", "takeprio") and words[0] != "empty":
+        if left.command.split(" ")[0] in (*SENDS, *TAKES) and words[0] != "empty":
             say(f"the request that was left unanswered {told} (`{left.number} {left.command[:100]}`)")
 
     # ---- messages
 
     def take(self, command):
         """The message that waits for a take, of a session that listens; None where none waits. It is kept until `told`."""
-        kept = next((each for each in self.kept.taken if command == ("takeprio" if each.number is not None else f"take {each.source}")), None)
+        kept = next((each for each in self.kept.taken if command == taken_by(each)), None)
         for _ in range(TRIES if kept is None else 0):
             words = self.ask(command)
             if words[0] == "payload":

@@ -10,7 +10,7 @@ PLACE = re.compile(r"[A-Z][A-Z0-9]*(?:\.\.)?")
 # what a word in capitals stands for; all others stand for a decimal
 WORDS = {
     "HEX": r"-|(?:[0-9a-f]{2})+", "DIGEST": r"[0-9a-f]{64}", "RECORDED": r"[0-9a-f]{64}", "COMPUTED": r"[0-9a-f]{64}",
-    "KEY": r".*", "KEY120": r"[0-9a-f]{120}", "PARTS..": r"[0-9+ -]+", "LINE": r"[1-9]\d*",
+    "PATHS": "[1-8]", "KEY": r".*", "KEY120": r"[0-9a-f]{120}", "PARTS..": r"[0-9+ -]+", "LINE": r"[1-9]\d*",
 }
 
 Ending = collections.namedtuple("Ending", "commands status line means do")

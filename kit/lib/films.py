@@ -12,10 +12,12 @@ import frames
 STEP = ("node", "kind", "line", "said", "frame", "flows", "seen", "mark")
 REFUSED = {
     "full", "spent", "expired", "nopaths", "tickspent", "ticknotreserved", "low", "toolong", "short", "magic", "version", "notforme", "badtag",
-    "stale", "topology", "section", "withdrawn", "exhausted", "down", "badend", "notreserved", "badrequest", "sessionsfull",
+    "stale", "topology", "section", "withdrawn", "exhausted", "down", "badend", "notreserved", "badrequest", "sessionsfull", "busy",
 }
-REFUSED_OBJECTS = {"bad", "badsig", "badend", "epoch", "foreign", "low", "ahead", "gap", "full", "inboxfull", "expired", "strange"}
-OBJECT = re.compile(r"(weight|prio|ack|rel|epoch|document):(\w+|\?)")
+REFUSED_OBJECTS = {"bad", "badsig", "badend", "epoch", "offmask", "foreign", "low", "ahead", "gap", "full", "inboxfull", "expired", "strange"}
+OBJECT = re.compile(r"\b(weight|prio|k?ack|k?rel|epoch|document):(\w+|\?)")
+# what tells that a flow of a kind ended
+ENDED = {"ended": frames.REL, "kended": frames.KREL}
 
 
 def objects_of(reply):
@@ -32,9 +34,9 @@ def is_refused(reply):
 def of_signed(body, version):
     """What a signature of a format does to the tables: a kind, two nodes, and a number."""
     kind, told, _ = frames.body_of(body, version) or ("", {}, b"")
-    if kind in ("rel", "prio"):
+    if kind in (frames.REL, frames.KREL, "prio"):
         return [kind, told["src"], told["dst"], "sent", told["seq"]]
-    return ["rel", told["src"], told["dst"], "acknowledged", told["seq"]] if kind == "ack" else None
+    return [frames.FLOW_OF[kind], told["src"], told["dst"], "acknowledged", told["seq"]] if kind in frames.FLOW_OF else None
 
 
 def of_effects(node, said, version):
@@ -50,9 +52,9 @@ def of_effects(node, said, version):
             seen.append("delivered")
         elif words[:2] == ["+", "gone"] and words[4] in ("evicted", "expired", "withdrawn"):
             seen.append(words[4])
-        elif words[:2] == ["+", "ended"]:
+        elif words[0] == "+" and words[1] in ENDED:
             ends = int(words[2]), int(words[3])
-            flows += [["rel", *ends, "ended", 0]] if node in ends else []
+            flows += [[ENDED[words[1]], *ends, "ended", 0]] if node in ends else []
             seen.append("ended")
         elif words[:2] == ["+", "version"]:
             seen.append("version")

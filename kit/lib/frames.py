@@ -5,9 +5,12 @@ import hashlib
 import hmac
 
 HEAD, TAG, LEAST, MOST = 33, 32, 65, 65_507
-# the kinds of messages by their first byte; format 1 has the first four, and a node of format 2 handles these and the last
+# the kinds of messages by their first byte; format 1 has the first four
 KINDS = {1: "prio", 2: "rel", 3: "ack", 4: "weight", 5: "krel", 6: "kack", 7: "epoch"}
 FIRST_KINDS = 4
+# the two kinds of flows by the kind of their messages, and of each message and acknowledgement
+REL, KREL = "rel", "krel"
+FLOW_OF = {"ack": REL, "rel": REL, "kack": KREL, "krel": KREL}
 # how many messages of a kind a frame has at most, and of the reliable ones in each format
 MOST_MESSAGES = 4
 MOST_RELIABLE = (4, 2)
@@ -35,8 +38,8 @@ Item = collections.namedtuple("Item", "kind source destination number payload ra
 Slot = collections.namedtuple("Slot", "source destination base have boots", defaults=((0, 0),))
 Probe = collections.namedtuple("Probe", "number nonce echo proof")
 # the objects that a node handles, in their order, the link number that the neighbour acknowledges, what it reports of a flow and of a K-path flow,
-# its probe, a signed document of a topology, with which nothing else comes, and the objects of K-path flows, which no node handles yet
-Sections = collections.namedtuple("Sections", "items heard slot paths probe document later", defaults=(None, None, None, ()))
+# its probe, and a signed document of a topology, with which nothing else comes
+Sections = collections.namedtuple("Sections", "items heard slot paths probe document", defaults=(None, None, None))
 
 
 class Bad(Exception):
@@ -151,9 +154,9 @@ class Pieces:
         slot, told = self.report("ack", "rel", MOST_RELIABLE[min(self.version, 2) - 1])
         if self.version == 1:
             return Sections(items + told, heard, slot)
-        paths, later = self.report("kack", "krel", 1)
+        paths, on_paths = self.report("kack", "krel", 1)
         probe = self.probe()
-        return Sections(items + told + self.items("epoch"), heard, slot, paths, probe, later=later)
+        return Sections(items + told + on_paths + self.items("epoch"), heard, slot, paths, probe)
 
     def document(self):
         """The document, and the zeros in the place of all other sections."""

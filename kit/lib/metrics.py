@@ -1,5 +1,6 @@
 """The numbers of daemons as Prometheus reads them: each with its node, its help and its type, in the text format 0.0.4."""
 
+from frames import REL
 from tables import held_up_at, turns_left
 from watching import ANSWERS, HELD_UP
 
@@ -66,10 +67,11 @@ def of_flows(look, looks):
                for node, n in sorted(watch.neighbours.items()) for ends, report in sorted(n.reports.items())]
     return [
         ("flow_sent_total", "counter", "Reliable messages that this node accepted of its clients.",
-         [(flow(me, to), n) for to, n in sorted(clients.sent.items())]),
+         [(flow(me, to), n) for to, n in sorted(clients.sent[REL].items())]),
         ("flow_delivered_total", "counter", "Reliable messages that were delivered at this node.",
          [(flow(*ends), n) for ends, n in sorted(watch.delivered.items())]),
-        ("flow_taken_total", "counter", "Reliable messages that a client took here.", [(flow(source, me), n) for source, n in sorted(clients.taken.items())]),
+        ("flow_taken_total", "counter", "Reliable messages that a client took here.",
+         [(flow(source, me), n) for source, n in sorted(clients.taken[REL].items())]),
         ("flow_acknowledged", "gauge", "Number up to which a flow is acknowledged, by the last acknowledgement that was new here.",
          [(flow(*ends), n) for ends, n in sorted(watch.acknowledged.items())]),
         ("flow_standing_seconds", "gauge", "For how long a flow didn't move although messages of it wait here; 0 where none waits.",

@@ -11,6 +11,7 @@ import configurations
 import films
 import frames
 import recordings
+from frames import KREL, REL
 from watching import Watch
 
 # what is said of a step of which nothing came: a start that was heard before goes round for ever
@@ -64,11 +65,21 @@ def flows_of(watch, line, before):
     if before is None:
         return []
     clients, me = watch.clients, watch.configuration.node
-    flows = [["rel", me, to, "sent", count] for to, count in clients.sent.items() if count != before[0][to]]
+    flows = [[kind, me, to, "sent", count] for kind, counts in clients.sent.items() for to, count in counts.items() if count != before[0][kind][to]]
     if clients.own["sendprio"] != before[1] and line.name == "client":
         flows.append(["prio", me, int(line.data.split(b" ")[2]), "sent", clients.own["sendprio"]])
-    flows += [["rel", *flow, "acknowledged", number] for flow, number in watch.acknowledged.items() if number != before[2][flow]]
+    flows += [[kind, *flow, "acknowledged", number] for kind, counts in acknowledged_by(watch).items() for flow, number in counts.items()
+              if number != before[2][kind][flow]]
     return flows
+
+
+def acknowledged_by(watch):
+    """What is acknowledged of the flows of each kind."""
+    return {REL: watch.acknowledged, KREL: watch.acknowledged_on_paths}
+
+
+def copied(counts):
+    return {kind: each.copy() for kind, each in counts.items()}
 
 
 def told_as(line):
@@ -114,7 +125,7 @@ def arrivals(daemons):
 def step_of(time, watch, each, arrived):
     """One step, TIME milliseconds after the first, and whether nothing came of it."""
     line, clients = each.line, watch.clients
-    before = (clients.sent.copy(), clients.own["sendprio"], watch.acknowledged.copy()) if line.name in ("client", "overlay") else None
+    before = (copied(clients.sent), clients.own["sendprio"], copied(acknowledged_by(watch))) if line.name in ("client", "overlay") else None
     watch.feed(line)
     node, said = watch.configuration.node, list(watch.told)
     frame = frame_of(node, each, arrived, said)

@@ -6,7 +6,8 @@ docs/FORMATS.md, "The session file of a client", has its lines. It is written wh
 import collections
 import os
 
-from clients import EXPIRIES, MOST_NUMBER, NODES, NOT_RUN, is_command, is_number, is_payload
+from clients import EXPIRIES, KIND_OF, MOST_NUMBER, NODES, NOT_RUN, is_command, is_number, is_payload
+from frames import KREL, REL
 from scripts import Refused, read
 
 PORTS = range(1, 65_536)
@@ -17,14 +18,19 @@ NEXT = {None: ("session",), "session": ("last",), "last": ("asked", "taken", "en
 LINES = {"session": "session 1 DAEMON LOCAL", "last": "last NUMBER", "asked": "asked NUMBER COMMAND", "taken": "taken MESSAGE", "end": "end"}
 
 Asked = collections.namedtuple("Asked", "number command")
-# the number of a reliable message isn't known: None
-Message = collections.namedtuple("Message", "source number payload")
+# the number of a reliable message isn't known: None; its kind is that of its flow
+Message = collections.namedtuple("Message", "source number payload kind", defaults=(REL,))
 
 
 def words_of(message):
-    """A message as `rel SOURCE PAYLOAD` or `prio SOURCE NUMBER PAYLOAD`."""
-    words = ("rel", message.source) if message.number is None else ("prio", message.source, message.number)
+    """A message as `rel SOURCE PAYLOAD`, `krel SOURCE PAYLOAD` or `prio SOURCE NUMBER PAYLOAD`."""
+    words = (message.kind, message.source) if message.number is None else ("prio", message.source, message.number)
     return " ".join(map(str, (*words, message.payload)))
+
+
+def taken_by(message):
+    """The command that takes a message."""
+    return "takeprio" if message.number is not None else f"{'take' if message.kind == REL else 'ktake'} {message.source}"
 
 
 class Kept:
@@ -53,7 +59,7 @@ class Kept:
             self.last = number
         if words[0] == "payload":
             source, *more = words[1:-1] or command[1:]
-            self.taken.append(Message(int(source), int(more[0]) if more else None, words[-1]))
+            self.taken.append(Message(int(source), int(more[0]) if more else None, words[-1], KIND_OF.get(command[0], REL)))
 
     # ---- the file
 
@@ -105,10 +111,11 @@ class Kept:
         return True
 
     def of_taken(self, words):
-        numbers = {("rel", 3): (NODES,), ("prio", 4): (NODES, EXPIRIES)}.get((words[0], len(words)) if words else None, ())
+        numbers = {(REL, 3): (NODES,), (KREL, 3): (NODES,), ("prio", 4): (NODES, EXPIRIES)}.get((words[0], len(words)) if words else None, ())
         if not numbers or not is_payload(words[-1]) or not all(is_number(word, each) for word, each in zip(words[1:], numbers)):
             return False
-        self.taken.append(Message(int(words[1]), int(words[2]) if words[0] == "prio" else None, words[-1]))
+        is_prio = words[0] == "prio"
+        self.taken.append(Message(int(words[1]), int(words[2]) if is_prio else None, words[-1], REL if is_prio else words[0]))
         return True
 
     def of_end(self, words):

@@ -3,6 +3,7 @@
 import collections
 import datetime
 
+from frames import REL
 from holders import MOST_TURNS
 from watching import ANSWERS, HELD_UP
 
@@ -92,8 +93,8 @@ def of_flow(look, flow, looks):
     """What is told of a flow."""
     watch, me, clients = look.watch, look.watch.configuration.node, look.watch.clients
     return {
-        "source": flow[0], "destination": flow[1], "sent": clients.sent[flow[1]] if flow[0] == me else None,
-        "delivered": watch.delivered[flow] if flow[1] == me else None, "taken": clients.taken[flow[0]] if flow[1] == me else None,
+        "source": flow[0], "destination": flow[1], "sent": clients.sent[REL][flow[1]] if flow[0] == me else None,
+        "delivered": watch.delivered[flow] if flow[1] == me else None, "taken": clients.taken[REL][flow[0]] if flow[1] == me else None,
         "acknowledged": watch.acknowledged[flow], "ended": watch.ended_flows[flow], "standing_ms": watch.standing(flow, look.now),
         "held_up_at": {str(node): word for node, word in held_up_at(look, flow, looks).items()},
         "held_up_here": {str(node): word for node in sorted(watch.neighbours) if (word := watch.answers_to(node, flow))},

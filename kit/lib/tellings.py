@@ -12,9 +12,13 @@ import paths
 import stores
 import versions
 from configurations import TOTALS
+from frames import FLOW_OF, KREL, REL
 
 # how many numbers below the greatest a window knows one by one; own updates above it are none; how many guesses are kept of what the stores hold
 WINDOW, MOST_OWN, MOST_GUESSES = 1_024, 2 ** 62, 32
+
+# what begins the body of an acknowledgement, and what tells that a flow ended
+ACKNOWLEDGED, ENDED = {REL: "03", KREL: "06"}, {REL: "ended", KREL: "kended"}
 
 Flow = collections.namedtuple("Flow", "base have inbox", defaults=(0, 0, 0))
 
@@ -33,7 +37,7 @@ class Rules:
         ends = [edge[:2] for edge in configuration.topology.edges]
         self.edge_to = {peer.node: ends.index(pair) for peer in configuration.peers
                         if (pair := tuple(sorted((self.me, peer.node)))) in ends}
-        self.flows, self.weights, self.marks = {}, {}, {}
+        self.flows, self.weights, self.marks = {REL: {}, KREL: {}}, {}, {}
         self.lives = {}                                 # the boots that are held of nodes; none where nodes run without epochs
         self.guesses = [stores.empty_places(configuration)]
 
@@ -66,13 +70,15 @@ class Rules:
 
     # ---- what clients do
 
-    def sent(self, destination, number):
-        self.flows[self.me, destination] = self.flow((self.me, destination))._replace(have=number)
+    def sent(self, kind, destination, number):
+        ends = self.me, destination
+        self.flows[kind][ends] = self.flow(kind, ends)._replace(have=number)
 
-    def took(self, source):
-        if (source, self.me) in self.flows:
-            flow = self.flow((source, self.me))
-            self.flows[source, self.me] = flow._replace(inbox=flow.inbox - 1)
+    def took(self, kind, source):
+        ends = source, self.me
+        if ends in self.flows[kind]:
+            flow = self.flow(kind, ends)
+            self.flows[kind][ends] = flow._replace(inbox=flow.inbox - 1)
 
     def took_prio(self):
         self.guesses = [{**guess, stores.INBOX: guess[stores.INBOX].taken()} for guess in self.guesses]
@@ -102,23 +108,32 @@ class Rules:
     def tick(self, now, digest):
         """The answer to a tick and its effects; None where none has this digest, and then nothing was signed."""
         self.now = max(self.now, now)
-        due = [flow for flow, row in self.flows.items() if flow[1] == self.me and row.base < row.have]
-        signed = [(None, "ticked", ""), *((flow, "ticked", self.acknowledgement(flow)) for flow in due), (None, f"tickspent {self.total}", "")]
         after = [self.expired(guess) for guess in self.guesses]
-        for flow, reply, line in signed:
-            kept = [(guess, text) for guess, text in after if is_digest(f"{reply}\n{text}{line}", digest)]
+        for signed, reply in self.ticks():
+            lines = "".join(self.acknowledgement(kind, ends) for kind, ends in signed)
+            kept = [(guess, text) for guess, text in after if is_digest(f"{reply}\n{text}{lines}", digest)]
             if kept:
-                if flow:
-                    self.flows[flow] = self.flows[flow]._replace(base=self.flows[flow].have)
+                for kind, ends in signed:
+                    self.flows[kind][ends] = self.flow(kind, ends)._replace(base=self.flow(kind, ends).have)
                 self.guesses = [guess for guess, _ in kept]
-                return f"{reply}\n{kept[0][1]}{line}".split("\n")[:-1]
+                return f"{reply}\n{kept[0][1]}{lines}".split("\n")[:-1]
         self.guesses = [guess for guess, _ in after]
         return None
 
-    def acknowledgement(self, flow):
+    def ticks(self):
+        """What a tick may sign, at most an acknowledgement of a flow of each kind, with its reply: where the key is spent the later ones aren't signed."""
+        plain, on_paths = ([(), *(((kind, ends),) for ends in self.due(kind))] for kind in (REL, KREL))
+        yield from ((first + second, "ticked") for first in plain for second in on_paths)
+        yield from ((first, f"tickspent {self.total}") for first in plain)
+
+    def due(self, kind):
+        """The flows to this node of which something came that isn't acknowledged."""
+        return [ends for ends, row in self.flows[kind].items() if ends[1] == self.me and row.base < row.have]
+
+    def acknowledgement(self, kind, ends):
         """The line that tells the acknowledgement of all that came of a flow."""
-        boots = "".join(f"{boot:016x}" for boot in self.held(*flow)) if self.format > 1 else ""
-        return f"+ signed 03{flow[0]:02x}{flow[1]:02x}{boots}{self.flows[flow].have:016x}\n"
+        boots = "".join(f"{boot:016x}" for boot in self.held(*ends)) if self.format > 1 else ""
+        return f"+ signed {ACKNOWLEDGED[kind]}{ends[0]:02x}{ends[1]:02x}{boots}{self.flow(kind, ends).have:016x}\n"
 
     def expired(self, guess):
         """A guess without what expired, and the lines that tell it."""
@@ -129,8 +144,12 @@ class Rules:
 
     # ---- a frame
 
-    def flow(self, ends):
-        return self.flows.get(ends, Flow())
+    def flow(self, kind, ends):
+        return self.flows[kind].get(ends, Flow())
+
+    def without(self, nodes):
+        """The flows without those that have an end among these nodes."""
+        return {kind: {ends: row for ends, row in rows.items() if not {*ends} & nodes} for kind, rows in self.flows.items()}
 
     def is_seen(self, item):
         marks = self.marks.get(item.source)
@@ -162,27 +181,27 @@ class Rules:
             if topology:
                 removed = versions.removed_of(topology.edges)
                 shut = {node for node, edge in self.edge_to.items() if not topology.edges[edge][2]}
-                over = [flow for flow in sorted(self.flows) if {*flow} & removed]
                 front += f"+ version {topology.version}\n"
                 after = [versions.closed(guess, shut, removed) for guess in self.guesses]
-                back = "".join(f"+ ended {source} {destination}\n" for source, destination in over)
+                back = "".join(ended(kind, rows, removed) for kind, rows in self.flows.items())
             kept = [(guess, text) for guess, text in after if is_digest(front + text + back, digest)]
             if kept:
                 if topology:
                     self.versions.topology, self.guesses = topology, [guess for guess, _ in kept]
-                    self.flows = {flow: row for flow, row in self.flows.items() if flow not in over}
+                    self.flows = self.without(removed)
                 return (front + kept[0][1] + back).split("\n")[:-1]
         return None
 
     def keep(self, trial, guesses):
         """What a frame did stands from now on."""
         self.guesses = guesses
-        self.flows.update(trial.flows)
+        for kind, rows in trial.flows.items():
+            self.flows[kind].update(rows)
         self.weights.update(trial.weights)
         if trial.started:
             self.lives[trial.started.source] = trial.started.number
             self.marks.pop(trial.started.source, None)
-            self.flows = {flow: row for flow, row in self.flows.items() if trial.started.source not in flow}
+            self.flows = self.without({trial.started.source})
         for source, number in trial.marks:
             if trial.started and source == trial.started.source:
                 continue
@@ -192,12 +211,17 @@ class Rules:
                 self.marks[source] = {each for each in marks if each + WINDOW > max(marks)}
 
 
+def ended(kind, flows, nodes):
+    """The lines that tell of the flows of a kind that end since another life of one of these nodes began, or since these are removed."""
+    return "".join(f"+ {ENDED[kind]} {source} {destination}\n" for source, destination in sorted(flows) if {source, destination} & nodes)
+
+
 class Trial:
     """A frame that is handled object by object, where the signatures at some places are wrong."""
 
     def __init__(self, rules, sender, sections, bad):
         self.rules, self.sender, self.sections, self.bad = rules, sender, sections, set()
-        self.flows, self.weights, self.marks, self.stored, self.started = {}, {}, [], [], None
+        self.flows, self.weights, self.marks, self.stored, self.started = {REL: {}, KREL: {}}, {}, [], [], None
         self.front = self.back = ""
         self.words = [self.word_of(item, place in bad, place) for place, item in enumerate(sections.items)]
         self.reply = "fresh" + "".join(f" {item.kind}:{word}" for item, word in zip(sections.items, self.words)) + "\n"
@@ -241,15 +265,19 @@ class Trial:
         self.marks.append((item.source, item.number))
         self.stored.append(item)
 
-    def flow(self, ends):
-        return self.flows.get(ends) or self.rules.flow(ends)
+    def flow(self, kind, ends):
+        return self.flows[kind].get(ends) or self.rules.flow(kind, ends)
 
     def is_of_slot(self, item):
-        ends = item.source, item.destination
-        return ends == self.sections.slot[:2] and self.rules.are_ends(*ends)
+        ends, slot = (item.source, item.destination), self.sections.slot if FLOW_OF[item.kind] == REL else self.sections.paths
+        return ends == slot[:2] and self.rules.are_ends(*ends)
+
+    def is_off(self, item):
+        """Whether a message on paths came over an edge that its mask doesn't have."""
+        return item.kind == KREL and not item.mask >> self.rules.edge_to[self.sender] & 1
 
     def of_ack(self, item):
-        flow = self.flow((item.source, item.destination))
+        flow = self.flow(FLOW_OF[item.kind], (item.source, item.destination))
         if not self.is_of_slot(item):
             return "badend"
         if item.boots != self.rules.held(item.source, item.destination):
@@ -259,15 +287,19 @@ class Trial:
         return "ahead" if item.destination == self.rules.me or (item.source == self.rules.me and item.number > flow.have) else "new"
 
     def keep_ack(self, item):
-        ends = item.source, item.destination
-        self.flows[ends] = self.flow(ends)._replace(base=item.number, have=max(item.number, self.flow(ends).have))
+        kind, ends = FLOW_OF[item.kind], (item.source, item.destination)
+        self.flows[kind][ends] = self.flow(kind, ends)._replace(base=item.number, have=max(item.number, self.flow(kind, ends).have))
+
+    of_kack, keep_kack = of_ack, keep_ack
 
     def of_rel(self, item):
-        flow = self.flow((item.source, item.destination))
+        flow = self.flow(item.kind, (item.source, item.destination))
         if not self.is_of_slot(item):
             return "badend"
         if item.boots != self.rules.held(item.source, item.destination):
             return "epoch"
+        if self.is_off(item):
+            return "offmask"
         if item.number <= flow.have:
             return "old"
         if item.source == self.rules.me:
@@ -280,9 +312,11 @@ class Trial:
 
     def keep_rel(self, item):
         ends = item.source, item.destination
-        flow, is_here = self.flow(ends), item.destination == self.rules.me
-        self.flows[ends] = flow._replace(have=item.number, inbox=flow.inbox + is_here)
-        self.back += f"+ delivered rel {item.source} {item.number} {item.payload.hex() or '-'}\n" if is_here else ""
+        flow, is_here = self.flow(item.kind, ends), item.destination == self.rules.me
+        self.flows[item.kind][ends] = flow._replace(have=item.number, inbox=flow.inbox + is_here)
+        self.back += f"+ delivered {item.kind} {item.source} {item.number} {item.payload.hex() or '-'}\n" if is_here else ""
+
+    of_krel, keep_krel = of_rel, keep_rel
 
     def of_epoch(self, item):
         if item.source == self.rules.me or item.source not in self.rules.nodes:
@@ -292,7 +326,7 @@ class Trial:
     def keep_epoch(self, item):
         """Another life of a node began: its flows end, in order. It is the last object of its frame."""
         self.started = item
-        self.back += "".join(f"+ ended {flow[0]} {flow[1]}\n" for flow in sorted({*self.rules.flows, *self.flows}) if item.source in flow)
+        self.back += "".join(ended(kind, {*self.rules.flows[kind], *rows}, {item.source}) for kind, rows in self.flows.items())
 
     def of_places(self, guess):
         """What a guess of the stores becomes, and the lines that tell it: what the neighbour acknowledged leaves, and then the new messages come."""

@@ -12,6 +12,7 @@ import frames
 import tellings
 from clients import Clients
 from configurations import SIGNATURES, TOTALS
+from frames import KREL, REL
 
 ANSWERS = ("fresh", "learned", "stale", "badtag", "notforme", "malformed", "topology", "section", "withdrawn")
 UNTAGGED = ("badtag", "notforme")
@@ -55,6 +56,7 @@ class Watch:
         self.clients = Clients(self.minimum_of, self.rules)
         self.told = []                                  # of the last line, its answer and effects as far as they are found
         self.acknowledged, self.delivered = collections.Counter(), collections.Counter()
+        self.acknowledged_on_paths = collections.Counter()
         self.ended_flows = collections.Counter()        # how often a flow ended, since another life of an end began or an end was removed
         self.held_up = {}                               # of a neighbour and a flow, the answer to its last messages where they were held up
         self.neighbours = {}
@@ -89,7 +91,7 @@ class Watch:
         self.untold_ticks += self.told == SOMETHING
         self.quiet_ticks += line.digest == TICKED
         if len(self.told) > 1:
-            self.touched.update(flow for flow in self.rules.flows if flow[1] == self.configuration.node)
+            self.touched.update(flow for flow in self.rules.flows[REL] if flow[1] == self.configuration.node)
         self.note_moves()
 
     def feed_stray(self, line):
@@ -106,7 +108,7 @@ class Watch:
     def feed_client(self, line):
         reply = self.clients.reply(line.numbers[0], line.data, line.digest)
         self.told = [reply.words or "an answer that only its digest tells"]
-        self.touched.update(flow for flow in self.rules.flows if self.configuration.node in flow)
+        self.touched.update(flow for flow in self.rules.flows[REL] if self.configuration.node in flow)
         self.requests["untold" if reply.words is None else "repeated" if reply.is_repeat else reply.words.split(" ")[0]] += 1
 
     # ---- datagrams of neighbours
@@ -195,15 +197,18 @@ class Watch:
             self.began(item.source)
         elif item.kind == "ack":
             self.acknowledged[flow] = item.number
-        elif item.kind in ("rel", "prio") and item.destination == self.configuration.node:
+        elif item.kind == "kack":
+            self.acknowledged_on_paths[flow] = item.number
+        elif item.kind in (REL, KREL, "prio") and item.destination == self.configuration.node:
             self.clients.arrives(item)
-            self.delivered[flow] += item.kind == "rel"
+            self.delivered[flow] += item.kind == REL
 
     def began(self, node):
         """Another life of a node began: its flows count from 1 again, and nothing is reported of them."""
         self.clients.ended(node)
         self.held_up = {(peer, flow): word for (peer, flow), word in self.held_up.items() if node not in flow}
-        for counts in (self.acknowledged, self.delivered, self.moved, *(neighbour.reports for neighbour in self.neighbours.values())):
+        counted = self.acknowledged, self.acknowledged_on_paths, self.delivered, self.moved
+        for counts in (*counted, *(neighbour.reports for neighbour in self.neighbours.values())):
             for flow in [flow for flow in counts if node in flow]:
                 del counts[flow]
 
@@ -212,7 +217,7 @@ class Watch:
     def flows(self):
         """All flows that were heard of, ascending."""
         found = {flow for neighbour in self.neighbours.values() for flow in neighbour.reports} | set(self.acknowledged)
-        found |= {(self.configuration.node, destination) for destination in self.clients.sent}
+        found |= {(self.configuration.node, destination) for destination in self.clients.sent[REL]}
         found |= set(self.delivered) | set(self.ended_flows)
         return sorted(found)
 
@@ -229,7 +234,7 @@ class Watch:
     def note_moves(self):
         """Keeps when a flow moved last: what this node keeps of it, or what its neighbours report."""
         for flow in self.touched:
-            if row := self.rules.flows.get(flow):
+            if row := self.rules.flows[REL].get(flow):
                 now = (row.base, row.have, *(n.reports.get(flow) for n in self.neighbours.values()))
                 if self.moved.get(flow, (None,))[0] != now:
                     self.moved[flow] = now, self.now
@@ -237,7 +242,7 @@ class Watch:
 
     def standing(self, flow, now):
         """For how many milliseconds a flow of this node hasn't moved although messages of it wait here for an acknowledgement; 0 where none waits."""
-        row = self.rules.flows.get(flow)
+        row = self.rules.flows[REL].get(flow)
         if row is None or row.base >= row.have or flow not in self.moved:
             return 0
         return max(0, now - self.moved[flow][1])

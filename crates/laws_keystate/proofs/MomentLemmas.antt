@@ -29,7 +29,7 @@ use Rattle.laws_keystate.specs.Histories.{IsSomeSound}
 use Rattle.laws_keystate.specs.RunLaws.{EachMomentIsOfARun, StartsSign}
 use Rattle.laws_keystate.specs.RunMoments.{LeavesAfter, LeavesBetween, LeavesOn, LeavesTurns}
 use Rattle.laws_keystate.specs.Runs.{At_start, HasRun, In_its_reserve, In_turns, IsStopped, MayBeLeft, Nothing_signed, One_signed, SignsInOrder, SignsInTurn}
-use Rattle.laws_keystate.specs.Runs.{SignsOn, SignsOne, TakesNext, TurnLeaves, Without_reserve, indexes_at}
+use Rattle.laws_keystate.specs.Runs.{One_at_most, SignsOn, SignsOne, SignsTwo, TakesNext, TakesTwo, TurnLeaves, Two_signed, Without_reserve, indexes_at}
 use Rattle.laws_keystate.proofs.RunLemmas.{heard, polled_next, replied, serials}
 use Rattle.laws_keystate.proofs.StoppedLemmas.{run_sound}
 
@@ -74,6 +74,18 @@ since_may (Some old) (Some new) P all = (all.0, all.1, may_be old [] all.0 new (
 signs_some : (i j : Indexes) → TakesNext i j → (signed : List Signing) × SignsOne i j signed
 signs_some i j (inl same) = ([], Nothing_signed (ap (λ (x : Indexes). x.index) same))
 signs_some i j (inr took) = (record { index = i.index; message = [] } ∷ [], One_signed [] (ap (λ (x : Indexes). x.index) took.1))
+
+signs_both : (i j : Indexes) → TakesTwo i j → (signed : List Signing) × SignsTwo i j signed
+signs_both i j (m, inl same, next) = at_most (signs_some i j (subst (λ (x : Indexes). TakesNext x j) same next))
+  where
+    at_most : (signed : List Signing) × SignsOne i j signed → (signed : List Signing) × SignsTwo i j signed
+    at_most one = (one.0, One_at_most one.0 one.1)
+signs_both i j (m, inr took, inl same) =
+    let one = signs_some i j (inr (took.0, same ∙ took.1)) in (one.0, One_at_most one.0 one.1)
+signs_both i j (m, inr took, inr more) = (
+  record { index = i.index; message = [] } ∷ record { index = i.index + 1; message = [] } ∷ [],
+  Two_signed [] [] (omega (arith, ap (λ (x : Indexes). x.index) took.1, ap (λ (x : Indexes). x.index) more.1)),
+)
 
 pub starts_sign : StartsSign
 starts_sign total started start takes = signs_some (indexes_at total started) start takes
@@ -125,7 +137,7 @@ module _ {N : Type 0} (steps : Steps N) (indexes : N → Indexes) where
     pub turns_sign : (peers : List Peer) (polled : Option Peer) (t : Turn) (old new : N) (m : Moves steps indexes peers polled t old new)
         → (signed : List Signing) × SignsInTurn steps indexes peers polled t old new m signed
     turns_sign peers polled t old new m =
-        let a = signs_some (indexes m.after_reserve) (indexes m.after_tick) (orderly m.after_reserve m.after_tick (Tick t.now) t.ticked m.tick) in
+        let a = signs_both (indexes m.after_reserve) (indexes m.after_tick) (orderly m.after_reserve m.after_tick (Tick t.now) t.ticked m.tick) in
         let b = signs_some (indexes m.after_tick) (indexes m.after_overlay)
         (heard steps indexes orderly peers t.arrived m.after_tick t.overlay m.after_overlay m.overlay) in
         let c = signs_some (indexes m.after_overlay) (indexes m.after_client)

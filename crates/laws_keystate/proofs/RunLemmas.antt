@@ -22,7 +22,8 @@ use Rattle.sp_service_turns.specs.Turns.{Hears, HearsFrom, Moves, Polls, Replies
 use Rattle.sp_service_turns.specs.declared.indexes.Indexes.{Indexes}
 use Rattle.sp_service_turns.specs.declared.peer.Peer.{Peer}
 use Rattle.laws_keystate.specs.Calls.{IsAt}
-use Rattle.laws_keystate.specs.Runs.{Nothing_signed, One_signed, SignsInOrder, SignsInTurn, SignsOn, SignsOne, TakesNext}
+use Rattle.laws_keystate.specs.Runs.{Nothing_signed, One_at_most, One_signed, SignsInOrder, SignsInTurn, SignsOn, SignsOne, SignsTwo, TakesNext, TakesTwo}
+use Rattle.laws_keystate.specs.Runs.{Two_signed}
 use Rattle.laws_keystate.specs.Starts.{Act, And_then, Boots, DoesAll, Extends, Nothing_more, Reserves, Signs, Standing, signings_of}
 use Rattle.laws_keystate.proofs.CallLemmas.{a_reserve_is_an_act}
 
@@ -117,6 +118,30 @@ signs_one s told keys i j signed fits (inl same) (Nothing_signed is) = went_none
 signs_one s told keys i j signed fits (inl same) (One_signed message is) = absurd (omega (arith, is, ap (λ (x : Indexes). x.index) same))
 signs_one s told keys i j signed fits (inr took) (Nothing_signed is) = absurd (omega (arith, is, ap (λ (x : Indexes). x.index) took.1))
 signs_one s told keys i j signed fits (inr took) (One_signed message is) = signs_next s told keys i j message fits took.0 took.1
+
+-- a step that takes the next two, with what was signed in it
+pub signs_two : (s : Standing) (told : Option Disk) (keys : KeyState) (i j : Indexes) (signed : List Signing) → Fits s told keys i → TakesTwo i j
+    → SignsTwo i j signed
+    → Went s told keys j signed
+signs_two s told keys i j signed fits (m, inl same, next) (One_at_most _ signs) =
+    signs_one s told keys i j signed fits (subst (λ (x : Indexes). TakesNext x j) same next) signs
+signs_two s told keys i j signed fits (m, inr took, inl same) (One_at_most _ signs) = signs_one s told keys i j signed fits (inr (took.0, same ∙ took.1)) signs
+signs_two s told keys i j signed fits (m, inr took, inr more) (One_at_most _ (Nothing_signed is)) =
+    absurd (omega (arith, is, ap (λ (x : Indexes). x.index) took.1, ap (λ (x : Indexes). x.index) more.1))
+signs_two s told keys i j signed fits (m, inr took, inr more) (One_at_most _ (One_signed message is)) =
+    absurd (omega (arith, is, ap (λ (x : Indexes). x.index) took.1, ap (λ (x : Indexes). x.index) more.1))
+signs_two s told keys i j signed fits (m, inl same, inl still) (Two_signed first second is) =
+    absurd (omega (arith, is, ap (λ (x : Indexes). x.index) same, ap (λ (x : Indexes). x.index) still))
+signs_two s told keys i j signed fits (m, inl same, inr took) (Two_signed first second is) =
+    absurd (omega (arith, is, ap (λ (x : Indexes). x.index) same, ap (λ (x : Indexes). x.index) took.1))
+signs_two s told keys i j signed fits (m, inr took, inl same) (Two_signed first second is) =
+    absurd (omega (arith, is, ap (λ (x : Indexes). x.index) same, ap (λ (x : Indexes). x.index) took.1))
+signs_two s told keys i j signed fits (m, inr took, inr more) (Two_signed first second is) =
+    let one = signs_next s told keys i m first fits took.0 took.1 in
+    let two = signs_next one.next told keys m j second one.fits more.0 more.1 in
+    subst (λ (n : ℕ). Went s told keys j (record { index = i.index; message = first } ∷ record { index = n; message = second } ∷ []))
+    (ap (λ (x : Indexes). x.index) took.1)
+    (went_on s told told keys keys m j (record { index = i.index; message = first } ∷ []) (record { index = m.index; message = second } ∷ []) one two)
 
 -- ---- a reserve
 
@@ -221,7 +246,7 @@ module _ {N : Type 0} (steps : Steps N) (indexes : N → Indexes) (orderly : Sig
   turn_goes peers polled t s keys f g old new signed fits serial file m signs =
       let later = keys_after keys t.reserved in
       let w0 = restocked t.reserved s keys f g old m.after_reserve fits m.due serial file m.reserve in
-      let w1 = signs_one w0.next g.disk later (indexes m.after_reserve) (indexes m.after_tick) signs.at_tick w0.fits
+      let w1 = signs_two w0.next g.disk later (indexes m.after_reserve) (indexes m.after_tick) signs.at_tick w0.fits
       (orderly m.after_reserve m.after_tick (Tick t.now) t.ticked m.tick) signs.tick in
       let w2 = signs_one w1.next g.disk later (indexes m.after_tick) (indexes m.after_overlay) signs.at_overlay w1.fits
       (heard peers t.arrived m.after_tick t.overlay m.after_overlay m.overlay) signs.overlay in

@@ -15,7 +15,7 @@ use Rattle.sp_service_turns.specs.declared.peer.Peer.{Peer}
 use Rattle.sp_service_turns.specs.declared.served.Served.{Served}
 use Rattle.laws_keystate.specs.Histories.{IsHistory, IsSomeSound, IsStart, Start, formatted, signings_in}
 use Rattle.laws_keystate.specs.RunMoments.{LeavesBetween, LeavesTurns}
-use Rattle.laws_keystate.specs.Runs.{IsStopped, Run, RunsFollow, SignsInOrder, SignsInTurn, SignsOne, TakesNext, indexes_at, signed_in}
+use Rattle.laws_keystate.specs.Runs.{IsStopped, Run, RunsFollow, SignsInOrder, SignsInTurn, SignsOne, TakesNext, TakesTwo, indexes_at, signed_in}
 use Rattle.laws_keystate.specs.Starts.{signings_of}
 
 -- a run on a sound file, stopped at any moment, is one start of a history: its node signed what the start signs, and it left what the start leaves
@@ -38,20 +38,22 @@ NoRunSignsAgain {N} steps indexes = SignsInOrder steps indexes → (runs : List 
 -- a node of nothing but its indexes, which may sign at its ticks
 abbrev pub sign_at_ticks : Steps Indexes
 sign_at_ticks old (Reserve upto) answer new = new ≡ record old { bound = upto }
-sign_at_ticks old (Tick now) answer new = TakesNext old new
+sign_at_ticks old (Tick now) answer new = TakesTwo old new
 sign_at_ticks old _ answer new = new ≡ old
 
 -- the indexes that the law asks for are all there is
 abbrev pub indexes_of : Indexes → Indexes
 indexes_of i = i
 
--- there are runs that sign: with such a node, of each message one on a file that was formatted, which signs it with index 0; and of each two one that signs
--- the first at its start and the other in its turn
+-- there are runs that sign: with such a node, of each message one on a file that was formatted, which signs it with index 0; of each two one that signs the
+-- first at its start and the other in its turn; and of each three one that signs the last two in its turn
 abbrev pub ARunSigns : Type 0
 ARunSigns = SignsInOrder sign_at_ticks indexes_of
     × ((message : List ℕ) → (left : List ℕ) × IsStopped sign_at_ticks indexes_of formatted (record { index = 0; message = message } ∷ []) left)
     × ((first second : List ℕ) → (left : List ℕ) × IsStopped sign_at_ticks indexes_of formatted
     (record { index = 0; message = first } ∷ record { index = 1; message = second } ∷ []) left)
+    × ((first second third : List ℕ) → (left : List ℕ) × IsStopped sign_at_ticks indexes_of formatted
+    (record { index = 0; message = first } ∷ record { index = 1; message = second } ∷ record { index = 2; message = third } ∷ []) left)
 
 -- ---- what a daemon promises
 

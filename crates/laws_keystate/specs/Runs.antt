@@ -9,7 +9,7 @@ use Rattle.sp_keystate.specs.declared.starts.Started.{Started}
 use Rattle.sp_keystate.specs.declared.starts.TheConstants.{RESERVED}
 use Rattle.sp_outside.specs.Disk.{Disk, IsImage, still}
 use Rattle.sp_service_turns.specs.Indexes.{AreReserved, reserved_by}
-use Rattle.sp_service_turns.specs.Inputs.{Input, Reserve, Steps}
+use Rattle.sp_service_turns.specs.Inputs.{Input, Reserve, Steps, Tick}
 use Rattle.sp_service_turns.specs.Keys.{NoMore, Reserves}
 use Rattle.sp_service_turns.specs.Outside.{KeptFile}
 use Rattle.sp_service_turns.specs.Runs.{FileMovesOn, MovesOn, keys_on, polled_by}
@@ -23,9 +23,14 @@ use Rattle.sp_service_turns.specs.declared.peer.Peer.{Peer}
 abbrev pub TakesNext : Indexes → Indexes → Type 0
 TakesNext old new = (new ≡ old) ⊎ ((old.index ≢ old.bound) × (new ≡ record old { index = old.index + 1 }))
 
--- by what is asked: a reserve alone moves the bound
+-- the next two are taken so, one after the other, or the next alone, or none
+abbrev pub TakesTwo : Indexes → Indexes → Type 0
+TakesTwo old new = (between : Indexes) × TakesNext old between × TakesNext between new
+
+-- by what is asked: a reserve alone moves the bound, and a tick alone may take two
 abbrev pub GoesOn : Input → Indexes → Indexes → Type 0
 GoesOn (Reserve upto) old new = AreReserved old upto new
+GoesOn (Tick now) old new = TakesTwo old new
 GoesOn _ old new = TakesNext old new
 
 -- a node that signs with one index after another, each below its bound
@@ -36,6 +41,12 @@ SignsInOrder {N} steps indexes = (old new : N) (input : Input) (answer : List �
 pub data SignsOne (old new : Indexes) : List Signing → Type 0 where
   Nothing_signed : new.index ≡ old.index → SignsOne old new []
   One_signed : (message : List ℕ) → new.index ≡ old.index + 1 → SignsOne old new (record { index = old.index; message = message } ∷ [])
+
+-- and with two that were taken two
+pub data SignsTwo (old new : Indexes) : List Signing → Type 0 where
+  One_at_most : (signed : List Signing) → SignsOne old new signed → SignsTwo old new signed
+  Two_signed : (first second : List ℕ) → new.index ≡ old.index + 2
+      → SignsTwo old new (record { index = old.index; message = first } ∷ record { index = old.index + 1; message = second } ∷ [])
 
 -- the indexes that a start gives
 abbrev pub indexes_at : ℕ → Started → Indexes
@@ -48,7 +59,7 @@ pub record SignsInTurn {N : Type 0} (steps : Steps N) (indexes : N → Indexes) 
   pub at_overlay : List Signing
   pub at_client : List Signing
   pub at_poll : List Signing
-  pub tick : SignsOne (indexes moves.after_reserve) (indexes moves.after_tick) at_tick
+  pub tick : SignsTwo (indexes moves.after_reserve) (indexes moves.after_tick) at_tick
   pub overlay : SignsOne (indexes moves.after_tick) (indexes moves.after_overlay) at_overlay
   pub client : SignsOne (indexes moves.after_overlay) (indexes moves.after_client) at_client
   pub poll : SignsOne (indexes moves.after_client) (indexes new) at_poll

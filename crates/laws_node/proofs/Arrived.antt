@@ -22,12 +22,15 @@ use Rattle.sp_rules.specs.Arts.{Arts}
 use Rattle.sp_rules.specs.Node.{NodeState, Signer}
 use Rattle.sp_rules.specs.Parts.{Fixed}
 use Rattle.sp_rules.specs.Pieces.{Piece, PrioAckPiece, PrioPiece, ReportPiece, WeightPiece, AckPiece, RelPiece, EpochPiece, pieces_of, prio_piece, slot_pieces}
+use Rattle.sp_rules.specs.declared.kflow.FlowKind.{FlowKind}
+use Rattle.sp_rules.specs.declared.kflow.FlowKind.TheVariants.{Plain, Paths}
 use Rattle.sp_rules.specs.declared.node.LinkReply.{LinkReply}
 use Rattle.sp_rules.specs.declared.node.LinkReply.TheVariants as replies
 use Rattle.laws_node.specs.Inputs.{ArtsFit}
 use Rattle.laws_node.specs.Nodes.{NodeHolds}
 use Rattle.laws_node.specs.Sizes.{Sizes}
 use Rattle.laws_node.proofs.Carried.{AllKeep, PieceKeeps}
+use Rattle.laws_node.proofs.FlowKinds.{ack_kind, rel_kind}
 use Rattle.laws_node.proofs.Handles.{AllFit, InRange, PieceFits, messages, messages_in}
 use Rattle.laws_node.proofs.Tables.{all_weaker}
 
@@ -50,27 +53,33 @@ prio_pieces k len same (m ∷ ms) all =
     let first = All-head (IsNumbered k.format len) m ms all in
     ((first.number, in_range k kinds.Prio len same m.1 first.object), prio_pieces k len same ms (All-tail (IsNumbered k.format len) m ms all))
 
-report_pieces : (k : Sizes) (len : ℕ) → len ≡ k.signature_len → (slot : Option Report) → IfSome slot (IsReport k.format kinds.Ack kinds.Rel len)
-    → AllFit k (slot_pieces slot)
-report_pieces k len same None is = tt
-report_pieces k len same (Some r) is = (
+report_pieces : (kind : FlowKind) (k : Sizes) (len : ℕ) → len ≡ k.signature_len → (slot : Option Report)
+    → IfSome slot (IsReport k.format (ack_kind kind) (rel_kind kind) len) → AllFit k (slot_pieces kind slot)
+report_pieces kind k len same None is = tt
+report_pieces kind k len same (Some r) is = (
   tt,
-  join_fits k (map (AckPiece r.flow) (as_list r.ack)) (map (RelPiece r.flow) r.rels)
+  join_fits k (map (AckPiece kind r.flow) (as_list r.ack)) (map (RelPiece kind r.flow) r.rels)
       (of_some r.ack is.ack)
-      (of_kind (RelPiece r.flow) kinds.Rel (λ o fits. fits) r.rels is.rels),
+      (of_kind (RelPiece kind r.flow) (rel_kind kind) (λ o fits. fits) r.rels is.rels),
 )
   where
     -- each with its kind
-    of_kind : (one : Kept → Piece) (kind : Kind) → ((o : Kept) → InRange k o × (is_of kind o.body ≡ true) → PieceFits k (one o)) → (os : List Kept)
-        → All (IsObject k.format kind len) os → AllFit k (map one os)
-    of_kind one kind fits [] all = tt
-    of_kind one kind fits (o ∷ os) all =
-        let first = All-head (IsObject k.format kind len) o os all in
-        (fits o (in_range k kind len same o first, first.is), of_kind one kind fits os (All-tail (IsObject k.format kind len) o os all))
+    of_kind : (one : Kept → Piece) (of : Kind) → ((o : Kept) → InRange k o × (is_of of o.body ≡ true) → PieceFits k (one o)) → (os : List Kept)
+        → All (IsObject k.format of len) os → AllFit k (map one os)
+    of_kind one of fits [] all = tt
+    of_kind one of fits (o ∷ os) all =
+        let first = All-head (IsObject k.format of len) o os all in
+        (fits o (in_range k of len same o first, first.is), of_kind one of fits os (All-tail (IsObject k.format of len) o os all))
 
-    of_some : (o : Option Kept) → IfSome o (IsObject k.format kinds.Ack len) → AllFit k (map (AckPiece r.flow) (as_list o))
+    of_some : (o : Option Kept) → IfSome o (IsObject k.format (ack_kind kind) len) → AllFit k (map (AckPiece kind r.flow) (as_list o))
     of_some None is = tt
-    of_some (Some o) is = ((in_range k kinds.Ack len same o is, is.is), tt)
+    of_some (Some o) is = ((in_range k (ack_kind kind) len same o is, is.is), tt)
+
+-- a slot that format 1 lacks
+paths_pieces : (k : Sizes) (len : ℕ) → len ≡ k.signature_len → (slot : Option Report)
+    → IfSome slot (Later k.format (IsReport k.format kinds.Kack kinds.Krel len)) → AllFit k (slot_pieces Paths slot)
+paths_pieces k len same None is = tt
+paths_pieces k len same (Some r) is = report_pieces Paths k len same (Some r) is.1
 
 contents_fit : (k : Sizes) (len : ℕ) → len ≡ k.signature_len → (s : Contents) → IsContentsIn k.format len s → AllFit k (pieces_of s)
 contents_fit k len same s is =
@@ -78,8 +87,11 @@ contents_fit k len same s is =
     (all_pieces k WeightPiece (λ o fits. fits) s.weights
     (all_weaker (IsObject k.format kinds.Weight len) (InRange k) s.weights (in_range k kinds.Weight len same) is.weights)) (
       tt,
-      join_fits k (map prio_piece s.prios) (slot_pieces s.slot ++ map EpochPiece (as_list s.epoch)) (prio_pieces k len same s.prios is.prios)
-          (join_fits k (slot_pieces s.slot) (map EpochPiece (as_list s.epoch)) (report_pieces k len same s.slot is.slot) (of_epoch s.epoch is.epoch)),
+      join_fits k (map prio_piece s.prios) (slot_pieces Plain s.slot ++ (slot_pieces Paths s.paths ++ map EpochPiece (as_list s.epoch)))
+          (prio_pieces k len same s.prios is.prios)
+          (join_fits k (slot_pieces Plain s.slot) (slot_pieces Paths s.paths ++ map EpochPiece (as_list s.epoch))
+          (report_pieces Plain k len same s.slot is.slot)
+          (join_fits k (slot_pieces Paths s.paths) (map EpochPiece (as_list s.epoch)) (paths_pieces k len same s.paths is.paths) (of_epoch s.epoch is.epoch))),
     )
   where
     of_epoch : (o : Option Kept) → IfSome o (Later k.format (IsObject k.format kinds.Epoch len)) → AllFit k (map EpochPiece (as_list o))
@@ -99,24 +111,27 @@ prio_messages : (ms : List (ℕ × Kept)) → messages (map prio_piece ms) ≡ l
 prio_messages [] = refl
 prio_messages (m ∷ ms) = let rest = prio_messages ms in omega (arith, rest)
 
-slot_messages : (slot : Option Report) → messages (slot_pieces slot) ≡ 0
-slot_messages None = refl
-slot_messages (Some r) =
-    let acks = no_messages (AckPiece r.flow) (λ o. refl) (as_list r.ack) in
-    let rels = no_messages (RelPiece r.flow) (λ o. refl) r.rels in
-    omega (arith, acks, rels, messages_both (map (AckPiece r.flow) (as_list r.ack)) (map (RelPiece r.flow) r.rels))
+slot_messages : (kind : FlowKind) (slot : Option Report) → messages (slot_pieces kind slot) ≡ 0
+slot_messages kind None = refl
+slot_messages kind (Some r) =
+    let acks = no_messages (AckPiece kind r.flow) (λ o. refl) (as_list r.ack) in
+    let rels = no_messages (RelPiece kind r.flow) (λ o. refl) r.rels in
+    omega (arith, acks, rels, messages_both (map (AckPiece kind r.flow) (as_list r.ack)) (map (RelPiece kind r.flow) r.rels))
 
 few_messages : (format len : ℕ) (s : Contents) → IsContentsIn format len s → messages (pieces_of s) ≤ MAX_MESSAGES
 few_messages format len s is =
+    let epochs = map EpochPiece (as_list s.epoch) in
+    let slots = slot_pieces Plain s.slot ++ (slot_pieces Paths s.paths ++ epochs) in
     let weights = no_messages WeightPiece (λ o. refl) s.weights in
     let prios = prio_messages s.prios in
-    let slot = slot_messages s.slot in
-    let epochs = no_messages EpochPiece (λ o. refl) (as_list s.epoch) in
-    let last = messages_both (slot_pieces s.slot) (map EpochPiece (as_list s.epoch)) in
-    let inner = messages_both (map prio_piece s.prios) (slot_pieces s.slot ++ map EpochPiece (as_list s.epoch)) in
-    let outer = messages_both (map WeightPiece s.weights)
-    (PrioAckPiece s.prio_ack ∷ (map prio_piece s.prios ++ (slot_pieces s.slot ++ map EpochPiece (as_list s.epoch)))) in
-    omega (arith, weights, prios, slot, epochs, last, inner, outer, is.few_prios)
+    let slot = slot_messages Plain s.slot in
+    let paths = slot_messages Paths s.paths in
+    let none = no_messages EpochPiece (λ o. refl) (as_list s.epoch) in
+    let last = messages_both (slot_pieces Paths s.paths) epochs in
+    let middle = messages_both (slot_pieces Plain s.slot) (slot_pieces Paths s.paths ++ epochs) in
+    let inner = messages_both (map prio_piece s.prios) slots in
+    let outer = messages_both (map WeightPiece s.weights) (PrioAckPiece s.prio_ack ∷ (map prio_piece s.prios ++ slots)) in
+    omega (arith, weights, prios, slot, paths, none, last, middle, inner, outer, is.few_prios)
 
 -- what a node heeds of them
 heeded_in : (format len : ℕ) (epochs : Bool) (s : Contents) → IsContentsIn format len s → IsContentsIn format len (cond epochs s (record s { epoch = None }))
@@ -187,9 +202,9 @@ fit_pieces k (piece ∷ pieces) h = (one piece h.0, fit_pieces k pieces h.1)
     one (WeightPiece o) h = h.fields
     one (PrioAckPiece number) h = tt
     one (PrioPiece number o) h = h.1.fields
-    one (ReportPiece flow sboot dboot base have) h = tt
-    one (AckPiece flow o) h = h.0.fields
-    one (RelPiece flow o) h = h.0.fields
+    one (ReportPiece kind flow sboot dboot base have) h = tt
+    one (AckPiece kind flow o) h = h.0.fields
+    one (RelPiece kind flow o) h = h.0.fields
     one (EpochPiece o) h = h.fields
 
 -- in a step, too

@@ -19,6 +19,7 @@ use Rattle.sp_rules.specs.Flow.{ends, no_flow}
 use Rattle.sp_rules.specs.Node.{Signer, booted, link_of}
 use Rattle.sp_rules.specs.Parts.{Fixed, as_neighbour, bare_parts, is_signed, neighbours_of, nodes_of}
 use Rattle.sp_rules.specs.PrioPeer.{new_peer}
+use Rattle.sp_rules.specs.Rel as rel
 use Rattle.sp_rules.specs.Rel.{flows_from, pairs_of}
 use Rattle.sp_rules.specs.Topologies.{removed_of, weights_in}
 use Rattle.sp_rules.specs.Weights.{held_in}
@@ -29,7 +30,9 @@ use Rattle.sp_topology.specs.declared.topology.Edge.{Edge}
 use Rattle.sp_topology.specs.declared.topology.LmsHeight.{LmsHeight}
 use Rattle.sp_topology.specs.declared.topology.NodeKey.{NodeKey}
 use Rattle.laws_node.proofs.HeldBoots.{no_lives_hold}
-use Rattle.laws_node.specs.Flows.{Differ, FlowHolds}
+use Rattle.sp_rules.specs.declared.kflow.FlowKind.{FlowKind}
+use Rattle.sp_rules.specs.declared.kflow.FlowKind.TheVariants.{Plain, Paths}
+use Rattle.laws_node.specs.Flows.{Differ, FlowHolds, RelHolds}
 use Rattle.laws_node.specs.Laws.{BootKeeps}
 use Rattle.laws_node.specs.Inputs.{Boots}
 use Rattle.laws_node.specs.Nodes.{LinkHolds, NodeHolds, sizes_of}
@@ -216,6 +219,22 @@ weights_small format ids before [] are = All-nil (λ weight. weight ≤ MAX_WEIG
 weights_small format ids before (e ∷ edges) are =
     All-cons (λ weight. weight ≤ MAX_WEIGHT) e.weight (weights_in edges) are.1.1 (weights_small format ids (ends_of e) edges are.2)
 
+-- the flows of a kind, where none is active
+start_holds : (kind : FlowKind) (k : Sizes) (index : ℕ) (neighbours : List NodeId) → All (IsNode k.format) k.nodes → AllPairs Other k.nodes
+    → RelHolds kind k index (rel.start k.me k.nodes neighbours k.buffer)
+start_holds kind k index neighbours nodes once =
+    let pairs = pairs_of k.nodes in
+    record {
+      me = refl;
+      bound = refl;
+      nodes = nodes;
+      known = refl;
+      flows = all_map (λ (fl : Flow). IsNode k.format fl.src × IsNode k.format fl.dst) (FlowHolds kind k index) no_flow
+          (λ fl both. no_flow_holds kind k index fl both.0 both.1) pairs (flows_have (IsNode k.format) k.nodes k.nodes nodes nodes);
+      keys = same_ends pairs;
+      once = subst (AllPairs Differ) (sym (same_ends pairs)) (flows_once k.nodes k.nodes once once);
+    }
+
 -- whatever is asked of messages, since none is kept
 pub boot_holds : (P : Kept → Type 0) (f : Fixed) (signer : Signer) (keys : List (List ℕ)) (buffer store : ℕ) → Boots f signer
     → NodeHolds (sizes_of P (booted f signer keys buffer store)) (booted f signer keys buffer store)
@@ -225,7 +244,6 @@ boot_holds P f signer keys buffer store boots =
     let k = sizes_of P n in
     let nodes = nodes_hold t.format t.height 0 t.nodes boots.topology.ranges.nodes in
     let once = nodes_once t.format t.height 0 t.nodes boots.topology.ranges.nodes in
-    let pairs = pairs_of (nodes_of t) in
     record {
       fixed = record {
         me = refl;
@@ -264,17 +282,8 @@ boot_holds P f signer keys buffer store boots =
               least = omega arith;
               next = omega arith;
             };
-            rel = record {
-              me = refl;
-              bound = refl;
-              nodes = nodes;
-              known = refl;
-              flows = all_map (λ (fl : Flow). IsNode t.format fl.src × IsNode t.format fl.dst) (FlowHolds k signer.index) no_flow
-                  (λ fl both. no_flow_holds k signer.index fl both.0 both.1) pairs
-                  (flows_have (IsNode t.format) (nodes_of t) (nodes_of t) nodes nodes);
-              keys = same_ends pairs;
-              once = subst (AllPairs Differ) (sym (same_ends pairs)) (flows_once (nodes_of t) (nodes_of t) once once);
-            };
+            rel = start_holds Plain k signer.index (map (λ v. v.0) (neighbours_of f)) nodes once;
+            kflow = start_holds Paths k signer.index (map (λ v. v.id) (map as_neighbour (neighbours_of f))) nodes once;
             lives = no_lives_hold k (nodes_of t);
             origins = length-replicate (length t.nodes) None ∙ sym (length-map t.nodes (λ n. n.id));
           });

@@ -18,6 +18,7 @@ use Rattle.sp_rules.specs.Lives.{next_row}
 use Rattle.sp_rules.specs.Node.{NodeState, Signer, called, is_shut_to, link_in, with_link}
 use Rattle.sp_rules.specs.Parts.{Fixed, Parts, place_of}
 use Rattle.sp_rules.specs.Polls.{is_served, parts_after, polled}
+use Rattle.sp_rules.specs.declared.kflow.FlowKind.TheVariants.{Plain, Paths}
 use Rattle.sp_rules.specs.declared.node.LinkReply.{LinkReply}
 use Rattle.sp_rules.specs.declared.node.LinkReply.TheVariants as replies
 use Rattle.sp_rules.specs.declared.node.TheConstants.{MAX_CALLS}
@@ -48,6 +49,7 @@ parts_more k numbers more ids further index p one two h = record {
   weights = h.weights;
   prio = prio_more k numbers more ids further index index p.prio one two (omega arith) h.prio;
   rel = h.rel;
+  kflow = h.kflow;
   lives = h.lives;
   origins = h.origins;
 }
@@ -62,7 +64,8 @@ polled_keeps k n v h =
     (ids_after (n.calls + 1) n.signer.index) n.signer.index (polled n.fixed n.parts v) (omega arith) (omega arith) (record {
       weights = moved_holds k n.signer.index n.parts.weights (place_of n.fixed v) h.parts.weights;
       prio = carried_holds k (numbers_after n.calls) (ids_after n.calls n.signer.index) n.signer.index n.parts.prio v.0 h.parts.prio;
-      rel = served_holds k n.signer.index n.parts.rel v h.parts.rel;
+      rel = served_holds Plain k n.signer.index n.parts.rel v h.parts.rel;
+      kflow = served_holds Paths k n.signer.index n.parts.kflow.flows v h.parts.kflow;
       lives = h.parts.lives;
       origins = cycles_length n.parts.origins (place_of n.fixed v) (next_row n.parts.lives n.parts.origins (place_of n.fixed v)) ∙ h.parts.origins;
     })

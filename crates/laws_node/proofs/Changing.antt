@@ -9,14 +9,17 @@ use Rattle.sp_msg.specs.declared.refused.SendRefused.{SendRefused}
 use Rattle.sp_rules.specs.Arrivals.{before_document, document_at, read_by}
 use Rattle.sp_rules.specs.Arts.{Arts, Document}
 use Rattle.sp_rules.specs.Documents.{under_topology}
+use Rattle.sp_rules.specs.KflowSends.{send_krel_refusal}
 use Rattle.sp_rules.specs.Node.{NodeState, call_refusal, kept_or, topology_now}
 use Rattle.sp_rules.specs.Parts.{Fixed, nodes_of}
 use Rattle.sp_rules.specs.Rel.{is_one_of}
 use Rattle.sp_rules.specs.Sends.{rel_refusal, send_prio_refusal, signer_refusal, weight_refusal}
-use Rattle.sp_rules.specs.Steps.{Poll, Datagram, Tick, SendRel, SendPrio, SetWeight, TakeRel, TakePrio, Publish}
-use Rattle.sp_rules.specs.Ticks.{at_time, due_now, settled_by}
+use Rattle.sp_rules.specs.Steps.{Poll, Datagram, Tick, SendRel, SendPrio, SetWeight, TakeRel, TakePrio, SendKrel, TakeKrel, Publish}
+use Rattle.sp_rules.specs.Ticks.{after_plain, at_time, due_now, second_refusal, settled_by}
 use Rattle.sp_rules.specs.Topologies.{is_removed, removed_of, returns, under, weights_in}
 use Rattle.sp_rules.specs.Versions.{Live}
+use Rattle.sp_rules.specs.declared.kflow.FlowKind.{FlowKind}
+use Rattle.sp_rules.specs.declared.kflow.FlowKind.TheVariants.{Plain, Paths}
 use Rattle.sp_topology.specs.declared.topology.Edge.{Edge}
 use Rattle.sp_topology.specs.declared.topology.LmsHeight.{LmsHeight}
 use Rattle.sp_topology.specs.declared.topology.NodeKey.{NodeKey}
@@ -65,10 +68,10 @@ kept_live : {R : Type 0} (arts : Arts) (old done : NodeState) (r : Option R) →
 kept_live arts old done (Some x) h = inl refl
 kept_live arts old done None h = h
 
-settled_live : (arts : Arts) (n : NodeState) (o : Option Ack) (r : Option SendRefused) → (settled_by arts n o r).live ≡ n.live
-settled_live arts n None r = refl
-settled_live arts n (Some ack) (Some refusal) = refl
-settled_live arts n (Some ack) None = refl
+settled_live : (arts : Arts) (kind : FlowKind) (n : NodeState) (o : Option Ack) (r : Option SendRefused) → (settled_by arts kind n o r).live ≡ n.live
+settled_live arts kind n None r = refl
+settled_live arts kind n (Some ack) (Some refusal) = refl
+settled_live arts kind n (Some ack) None = refl
 
 -- a document that came in a frame is read by the node whose link and pieces were handled, under the same topology
 read_changes : (arts : Arts) (n : NodeState) (v : NodeId) (bytes : List ℕ) → length n.live.weights ≡ length n.fixed.topology.edges
@@ -102,7 +105,8 @@ only_the_administrator_changes arts n (Datagram v bytes) output new kept s =
     (kept_live arts n (read_by arts (before_document arts n v bytes) (document_at arts n v bytes)) (call_refusal n v)
     (read_changes arts n v bytes kept.weights))
 only_the_administrator_changes arts n (Tick now) output new kept s =
-    inl (ap (λ (m : NodeState). m.live) s.1 ∙ settled_live arts (at_time n now) (due_now n) (signer_refusal n.signer))
+    inl (ap (λ (m : NodeState). m.live) s.1 ∙ settled_live arts Paths (after_plain arts n now) (due_now Paths n) (second_refusal arts n now)
+    ∙ settled_live arts Plain (at_time n now) (due_now Plain n) (signer_refusal n.signer))
 only_the_administrator_changes arts n (SendRel dst payload) output new kept s =
     subst (λ (m : NodeState). Changes arts n m) (sym s.1) (kept_live arts n _ (rel_refusal n dst) (inl refl))
 only_the_administrator_changes arts n (SendPrio m) output new kept s =
@@ -110,6 +114,9 @@ only_the_administrator_changes arts n (SendPrio m) output new kept s =
 only_the_administrator_changes arts n (SetWeight v weight) output new kept s =
     subst (λ (m : NodeState). Changes arts n m) (sym s.1) (kept_live arts n _ (weight_refusal n v weight) (inl refl))
 only_the_administrator_changes arts n (TakeRel src) output new kept s = inl (ap (λ (m : NodeState). m.live) s.1)
+only_the_administrator_changes arts n (SendKrel m) output new kept s =
+    subst (λ (x : NodeState). Changes arts n x) (sym s.new_is) (kept_live arts n _ (send_krel_refusal n m s.choice) (inl refl))
+only_the_administrator_changes arts n (TakeKrel src) output new kept s = inl (ap (λ (m : NodeState). m.live) s.1)
 only_the_administrator_changes arts n TakePrio output new kept s = inl (ap (λ (m : NodeState). m.live) s.1)
 only_the_administrator_changes arts n (Publish document) output new kept s =
     subst (λ (m : NodeState). Changes arts n m) (sym s.1)

@@ -12,31 +12,36 @@ use Rattle.sp_msg.specs.declared.body.Body.TheVariants as bodies
 use Rattle.sp_msg.specs.declared.kept.Kept.{Kept}
 use Rattle.sp_msg.specs.declared.refused.SendRefused.{SendRefused}
 use Rattle.sp_rules.proofs.FlowJudged.{found_ends}
-use Rattle.sp_rules.specs.Answers.{ack_answer, epoch_answer, is_new, prio_answer, rel_answer, weight_answer}
+use Rattle.sp_rules.specs.Answers.{ack_answer, epoch_answer, is_new, prio_answer, weight_answer}
 use Rattle.sp_rules.specs.Arrivals.{arrival_at, before_document, document_at, greeted, parts_met, pieces_in, pieces_where, read_by, reply_at, rises}
 use Rattle.sp_rules.specs.Arrivals.{sections_in}
 use Rattle.sp_rules.specs.Arts.{Arts}
 use Rattle.sp_rules.specs.Flow.{FlowState, ends, is_flow, no_flow}
-use Rattle.sp_rules.specs.Handle.{Arrival, handle, handle_all, heard_where, met, offer_to}
+use Rattle.sp_rules.specs.Handle.{Arrival, ack_item, handle, handle_all, heard_where, met, offer_to, rel_answer_to, rel_item}
+use Rattle.sp_rules.specs.Kflow.{ack_body}
+use Rattle.sp_rules.specs.KflowSends.{send_krel_refusal}
 use Rattle.sp_rules.specs.Lives.{are_held, boot_said, held, held_boot, is_dated, is_known, is_life, judge_epoch, no_life, origin_said, boot_of}
 use Rattle.sp_rules.specs.Link.{advanced}
-use Rattle.sp_rules.specs.Node.{NodeState, call_refusal, called, kept_or, link_in, with_link}
-use Rattle.sp_rules.specs.Parts.{Parts, is_signed}
+use Rattle.sp_rules.specs.Node.{NodeState, call_refusal, called, kept_or, link_in, signed_now, with_link}
+use Rattle.sp_rules.specs.Parts.{Parts, flows_of, is_signed, with_flows}
 use Rattle.sp_rules.specs.Pieces.{Piece, WeightPiece, PrioAckPiece, PrioPiece, ReportPiece, AckPiece, RelPiece, EpochPiece}
 use Rattle.sp_rules.specs.Polls.{is_served, parts_after, polled}
 use Rattle.sp_rules.specs.Prio.{admit_prio, judge_prio, place_of, window_at, windows_less}
-use Rattle.sp_rules.specs.Rel.{flow_in, flow_less, is_end, judge_ack_of, judge_rel_of}
+use Rattle.sp_rules.specs.Rel.{admit_ack, admit_rel, flow_in, flow_less, is_end, judge_ack_of, judge_rel_of, reported, settled}
 use Rattle.sp_rules.specs.Sends.{rel_refusal, send_prio_refusal, signer_refusal, weight_refusal}
-use Rattle.sp_rules.specs.Steps.{Input, NodeStep, Output, Poll, Datagram, Tick, SendRel, SendPrio, SetWeight, TakeRel, TakePrio, Publish}
-use Rattle.sp_rules.specs.Ticks.{at_time, due_now, settled_by}
+use Rattle.sp_rules.specs.Steps.{Input, NodeStep, Output, Poll, Datagram, Tick, SendRel, SendPrio, SetWeight, TakeRel, TakePrio, SendKrel, TakeKrel, Publish}
+use Rattle.sp_rules.specs.Ticks.{after_plain, after_tick, at_time, due_now, second_refusal, settled_by}
 use Rattle.sp_rules.specs.declared.answers.EpochAnswer.{EpochAnswer}
 use Rattle.sp_rules.specs.declared.answers.Item.TheVariants as items
 use Rattle.sp_rules.specs.declared.answers.PrioAnswer.{PrioAnswer}
 use Rattle.sp_rules.specs.declared.answers.PrioAnswer.TheVariants as prios
+use Rattle.sp_rules.specs.declared.kflow.FlowKind.{FlowKind}
+use Rattle.sp_rules.specs.declared.kflow.FlowKind.TheVariants.{Plain, Paths}
 use Rattle.sp_rules.specs.declared.lives.EpochJudged.TheVariants as judged
 use Rattle.sp_rules.specs.declared.lives.Life.{Life}
 use Rattle.laws_node.specs.Epochs.{BootsNeverFall, EpochTaken, Follows, OwnBootStays}
 use Rattle.laws_node.proofs.Adopting.{publishing, reading}
+use Rattle.laws_node.proofs.FlowKinds.{lives_beside}
 use Rattle.laws_node.proofs.Handles.{new_start}
 use Rattle.laws_node.proofs.TableReads.{first_replaced, other_replaced}
 
@@ -127,8 +132,14 @@ follows me p o new = record {
   held = held_here p.lives o new.known;
   others = λ u other. held_there p.lives o u (λ same. other (sym same));
   window = emptied p.prio.windows (place_of p.prio.nodes (origin_said o.body).0);
-  flows = λ flow. less_of_flow (origin_said o.body) flow p.rel.flows;
+  flows = flows;
 }
+  where
+    flows : (kind : FlowKind) (flow : Flow)
+        → flow_in (flows_of kind (met p o)).flows flow
+        ≡ cond (is_end (origin_said o.body) flow) (no_flow flow) (flow_in (flows_of kind p).flows flow)
+    flows Plain flow = less_of_flow (origin_said o.body) flow p.rel.flows
+    flows Paths flow = less_of_flow (origin_said o.body) flow p.kflow.flows.flows
 
 pub epoch_taken : EpochTaken
 epoch_taken arts at p o e =
@@ -191,11 +202,19 @@ module _ (me : NodeId) where
       let answer = prio_answer (is_signed arts at.fixed o) (is_dated p.lives o.body) (judge_prio p.prio o.body at.now) in
       let new = record p { prio = admit_prio p.prio o (Some at.from) } in
       rests p.lives _ (heard answer at.from number (cond (is_new (items.Prio answer)) new p) ∙ either (is_new (items.Prio answer)) new p refl)
-  one_piece arts at p (ReportPiece flow sboot dboot base have) is = rests p.lives _ (either (are_held p.lives flow sboot dboot) _ p refl)
-  one_piece arts at p (AckPiece flow o) is =
-      rests p.lives _ (either (is_new (items.Ack (ack_answer (is_signed arts at.fixed o) (is_dated p.lives o.body) (judge_ack_of p.rel flow o.body)))) _ p refl)
-  one_piece arts at p (RelPiece flow o) is =
-      rests p.lives _ (either (is_new (items.Rel (rel_answer (is_signed arts at.fixed o) (is_dated p.lives o.body) (judge_rel_of p.rel flow o.body)))) _ p refl)
+  one_piece arts at p (ReportPiece kind flow sboot dboot base have) is =
+      let r = reported (flows_of kind p) at.from flow base have in
+      rests p.lives _ (either (are_held p.lives flow sboot dboot) (with_flows kind r p) p (lives_beside kind r p))
+  one_piece arts at p (AckPiece kind flow o) is =
+      let r = flows_of kind p in
+      rests p.lives _
+      (either (is_new (ack_item kind (ack_answer (is_signed arts at.fixed o) (is_dated p.lives o.body) (judge_ack_of r flow o.body))))
+      (with_flows kind (admit_ack r o) p) p (lives_beside kind (admit_ack r o) p))
+  one_piece arts at p (RelPiece kind flow o) is =
+      let r = flows_of kind p in
+      rests p.lives _
+      (either (is_new (rel_item kind (rel_answer_to arts at p (judge_rel_of r flow o.body) o)))
+      (with_flows kind (admit_rel r o) p) p (lives_beside kind (admit_rel r o) p))
   one_piece arts at p (EpochPiece o) is =
       let right = is_signed arts at.fixed o in
       let judge = judge_epoch at.fixed.me p.lives o.body in
@@ -223,6 +242,13 @@ or_rises : {R : Type 0} (me : NodeId) (r : Option R) (old done : NodeState) → 
 or_rises me None old done h = h
 or_rises me (Some x) old done h = rests me old.parts.lives old.parts.lives refl
 
+-- an acknowledgement that is signed changes no life
+settled_lives : (arts : Arts) (kind : FlowKind) (n : NodeState) (a : Option Ack) (r : Option SendRefused)
+    → (settled_by arts kind n a r).parts.lives ≡ n.parts.lives
+settled_lives arts kind n None r = refl
+settled_lives arts kind n (Some ack) (Some refusal) = refl
+settled_lives arts kind n (Some ack) None = lives_beside kind (settled (flows_of kind n.parts) (signed_now arts n (ack_body kind ack))) n.parts
+
 step_rises : (arts : Arts) (n : NodeState) (input : Input) (output : Output) (new : NodeState) → NodeStep arts n input output new
     → Rises n.fixed.me n.parts.lives new.parts.lives
 step_rises arts n (Poll v) output new s =
@@ -239,12 +265,10 @@ step_rises arts n (Datagram v bytes) output new s =
     (or_rises n.fixed.me (call_refusal n v) n (read_by arts left (document_at arts n v bytes))
     (reading arts left (document_at arts n v bytes) (λ m told. Rises n.fixed.me n.parts.lives m.parts.lives) first (λ document d is reads by. first)))
 step_rises arts n (Tick now) output new s =
-    subst (λ (m : NodeState). Rises n.fixed.me n.parts.lives m.parts.lives) (sym s.1) (go (due_now n) (signer_refusal n.signer))
-  where
-    go : (a : Option Ack) (r : Option SendRefused) → Rises n.fixed.me n.parts.lives (settled_by arts (at_time n now) a r).parts.lives
-    go None r = rests n.fixed.me n.parts.lives n.parts.lives refl
-    go (Some ack) (Some refusal) = rests n.fixed.me n.parts.lives n.parts.lives refl
-    go (Some ack) None = rests n.fixed.me n.parts.lives n.parts.lives refl
+    subst (λ (m : NodeState). Rises n.fixed.me n.parts.lives m.parts.lives) (sym s.1)
+    (rests n.fixed.me n.parts.lives (after_tick arts n now).parts.lives
+    (settled_lives arts Paths (after_plain arts n now) (due_now Paths n) (second_refusal arts n now)
+    ∙ settled_lives arts Plain (at_time n now) (due_now Plain n) (signer_refusal n.signer)))
 step_rises arts n (SendRel dst payload) output new s =
     subst (λ (m : NodeState). Rises n.fixed.me n.parts.lives m.parts.lives) (sym s.1)
     (or_rises n.fixed.me (rel_refusal n dst) n _ (rests n.fixed.me n.parts.lives _ refl))
@@ -255,6 +279,11 @@ step_rises arts n (SetWeight v weight) output new s =
     subst (λ (m : NodeState). Rises n.fixed.me n.parts.lives m.parts.lives) (sym s.1)
     (or_rises n.fixed.me (weight_refusal n v weight) n _ (rests n.fixed.me n.parts.lives _ refl))
 step_rises arts n (TakeRel src) output new s =
+    subst (λ (m : NodeState). Rises n.fixed.me n.parts.lives m.parts.lives) (sym s.1) (rests n.fixed.me n.parts.lives n.parts.lives refl)
+step_rises arts n (SendKrel m) output new s =
+    subst (λ (m : NodeState). Rises n.fixed.me n.parts.lives m.parts.lives) (sym s.new_is)
+    (or_rises n.fixed.me (send_krel_refusal n m s.choice) n _ (rests n.fixed.me n.parts.lives _ refl))
+step_rises arts n (TakeKrel src) output new s =
     subst (λ (m : NodeState). Rises n.fixed.me n.parts.lives m.parts.lives) (sym s.1) (rests n.fixed.me n.parts.lives n.parts.lives refl)
 step_rises arts n TakePrio output new s =
     subst (λ (m : NodeState). Rises n.fixed.me n.parts.lives m.parts.lives) (sym s.1) (rests n.fixed.me n.parts.lives n.parts.lives refl)

@@ -1,19 +1,19 @@
 -- What a poll writes is in the ranges of a frame.
-use Rattle.std.proofs.Common.{◌≡◌, ◌<◌, ◌≤◌, ℕ, ◌+◌, ◌-◌, ◌^◌, ◌==◌, nat_lt, max, ◌&&◌, not, Bool, true, false, cond, List, [], length, map, drop, Option, Some}
+use Rattle.std.proofs.Common.{◌≡◌, ◌<◌, ◌≤◌, ℕ, ◌+◌, ◌-◌, ◌^◌, ◌==◌, nat_lt, max, ◌&&◌, not, Bool, true, false, cond, List, [], ◌∷◌, length, map, drop, take}
+use Rattle.std.proofs.Common.{Option, Some}
 use Rattle.std.proofs.Common.{None}
 use Rattle.std.proofs.Common.{refl, sym, subst, ◌∙◌, arith}
 use Rattle.std.specs.Prelude.{IfSome, IsTrue}
 use Rattle.std.specs.List.{All, slice_get}
 use Rattle.std.specs.Option.{option_and_then, option_map}
 use Rattle.std.proofs.lemmas.List.{length-map, length-take}
-use Rattle.std.proofs.lemmas.List.Elements.{All-cons, All-nil, All-take}
+use Rattle.std.proofs.lemmas.List.Elements.{All-cons, All-head, All-nil, All-take}
 use Rattle.sp_base.proofs.FormatLemmas.{few_nodes}
 use Rattle.sp_base.specs.Formats.{max_nodes, max_rels}
 use Rattle.sp_base.specs.declared.format.TheConstants.{FORMAT_1}
-use Rattle.sp_base.specs.declared.id.Flow.{Flow}
 use Rattle.sp_base.specs.declared.id.NodeId.{NodeId}
 use Rattle.sp_base.specs.declared.limits.TheConstants.{MAX_MESSAGES}
-use Rattle.sp_frame.specs.Objects.{IsObject, is_of}
+use Rattle.sp_frame.specs.Objects.{IsObject, is_of, most}
 use Rattle.sp_frame.specs.Ranges.{IsContentsIn, IsNumbered, IsReport, Later}
 use Rattle.sp_frame.specs.Reliable.{Report}
 use Rattle.sp_frame.specs.Sections.{with_document}
@@ -26,9 +26,11 @@ use Rattle.sp_msg.specs.declared.body.Body.TheVariants as bodies
 use Rattle.sp_msg.specs.declared.kept.Kept.{Kept}
 use Rattle.sp_rules.specs.Flow.{FlowState, ends}
 use Rattle.sp_rules.specs.Lives as lives
-use Rattle.sp_rules.specs.Parts.{is_signed, place_of}
+use Rattle.sp_rules.specs.Kflow as kflow
+use Rattle.sp_rules.specs.Kflow.{KState, first_over, goes_over}
+use Rattle.sp_rules.specs.Parts.{is_first, is_signed, place_of}
 use Rattle.sp_rules.specs.Node.{NodeState, is_behind, is_shut_to, version_of}
-use Rattle.sp_rules.specs.Polls.{as_message, contents_at, contents_to, dated, no_contents}
+use Rattle.sp_rules.specs.Polls.{as_message, contents_at, contents_to, dated, no_contents, paths_to}
 use Rattle.sp_rules.specs.Prio.{is_peer, no_peer, peer_in}
 use Rattle.sp_rules.specs.PrioPeer as rows
 use Rattle.sp_rules.specs.PrioPeer.{PrioPeer}
@@ -36,13 +38,16 @@ use Rattle.sp_rules.specs.Rel.{RelState, flow_at, flow_in, is_to, messages_after
 use Rattle.sp_rules.specs.Weights.{WeightState, held_in, next, next_row}
 use Rattle.sp_rules.specs.declared.lives.Life.{Life}
 use Rattle.sp_rules.specs.declared.store.Entry.{Entry}
-use Rattle.laws_node.specs.Flows.{AckKept, FlowHolds, IsAckOf, IsRel, RelHolds}
+use Rattle.sp_rules.specs.declared.kflow.FlowKind.{FlowKind}
+use Rattle.sp_rules.specs.declared.kflow.FlowKind.TheVariants.{Plain, Paths}
+use Rattle.laws_node.specs.Flows.{AckKept, FlowHolds, IsRelOf, RelHolds}
 use Rattle.laws_node.specs.HeldBoots.{IsEpochOf, LifeHolds}
 use Rattle.laws_node.specs.Laws.{FramesFit}
 use Rattle.laws_node.specs.Nodes.{FitsAFrame, NodeHolds, sizes_of}
 use Rattle.laws_node.specs.Sizes.{Fits, Sizes, numbers_after}
 use Rattle.laws_node.specs.Stores.{IsPrio, PrioPeerHolds}
 use Rattle.laws_node.specs.Updates.{IsUpdate, UpdateHolds, WeightsHold}
+use Rattle.laws_node.proofs.FlowKinds.{ack_is_of, ack_kind, rel_is_of, rel_kind}
 use Rattle.laws_node.proofs.HeldBoots.{boot_fits, next_is_held}
 use Rattle.laws_node.proofs.Flight.{Flies, flight_few, flight_holds}
 use Rattle.laws_node.proofs.Priority.{all_map, no_peer_holds, row_carried_holds}
@@ -72,24 +77,6 @@ is_prio (bodies.Ack a) is = absurd is
 is_prio (bodies.Krel a) is = absurd is
 is_prio (bodies.Kack a) is = absurd is
 is_prio (bodies.Epoch a) is = absurd is
-
-is_ack : (flow : Flow) (body : Body) → IsAckOf flow body → is_of kinds.Ack body ≡ true
-is_ack flow (bodies.Ack a) is = refl
-is_ack flow (bodies.Prio p) is = absurd is
-is_ack flow (bodies.Weight u) is = absurd is
-is_ack flow (bodies.Rel r) is = absurd is
-is_ack flow (bodies.Krel r) is = absurd is
-is_ack flow (bodies.Kack r) is = absurd is
-is_ack flow (bodies.Epoch r) is = absurd is
-
-is_rel : (body : Body) → IsRel body → is_of kinds.Rel body ≡ true
-is_rel (bodies.Rel r) is = refl
-is_rel (bodies.Krel r) is = absurd is
-is_rel (bodies.Prio p) is = absurd is
-is_rel (bodies.Weight u) is = absurd is
-is_rel (bodies.Ack a) is = absurd is
-is_rel (bodies.Kack a) is = absurd is
-is_rel (bodies.Epoch a) is = absurd is
 
 -- so many at most, and each of them fits
 record FewFit {X : Type 0} (most : ℕ) (P : X → Type 0) (xs : List X) : Type 0 where
@@ -152,54 +139,57 @@ weaker P Q None step p = tt
 weaker P Q (Some x) step p = step x p
 
 -- the first messages after any place
-rels_fit : (k : Sizes) (index len number : ℕ) (f : FlowState) → k.signature_len ≡ len → len < 65536 → FlowHolds k index f
-    → All (IsObject k.format kinds.Rel len) (messages_after f.at number)
-rels_fit k index len number f same short h =
-    All-take (IsObject k.format kinds.Rel len) MAX_MESSAGES (drop (number - f.at.base) f.at.list)
-    (all_drop_first (IsObject k.format kinds.Rel len) (number - f.at.base) f.at.list
-    (all_weaker (λ m. Fits k m × IsRel m.body) (IsObject k.format kinds.Rel len) f.at.list
-    (λ m both. object_of k kinds.Rel len m same short (is_rel m.body both.1) both.0)
-    (both_hold (Fits k) (λ m. IsRel m.body) f.at.list h.messages h.reliable)))
+rels_fit : (kind : FlowKind) (k : Sizes) (index len number : ℕ) (f : FlowState) → k.signature_len ≡ len → len < 65536 → FlowHolds kind k index f
+    → All (IsObject k.format (rel_kind kind) len) (messages_after f.at number)
+rels_fit kind k index len number f same short h =
+    All-take (IsObject k.format (rel_kind kind) len) MAX_MESSAGES (drop (number - f.at.base) f.at.list)
+    (all_drop_first (IsObject k.format (rel_kind kind) len) (number - f.at.base) f.at.list
+    (all_weaker (λ m. Fits k m × IsRelOf kind m.body) (IsObject k.format (rel_kind kind) len) f.at.list
+    (λ m both. object_of k (rel_kind kind) len m same short (rel_is_of kind m.body both.1) both.0)
+    (both_hold (Fits k) (λ m. IsRelOf kind m.body) f.at.list h.messages h.reliable)))
 
-ack_fits : (k : Sizes) (index len : ℕ) (f : FlowState) → k.signature_len ≡ len → len < 65536 → FlowHolds k index f
-    → IfSome f.ack (IsObject k.format kinds.Ack len)
-ack_fits k index len f same short h =
-    weaker (AckKept k (ends f)) (IsObject k.format kinds.Ack len) f.ack
-    (λ o is. object_of k kinds.Ack len o same short (is_ack (ends f) o.body is.kind) is.fits) h.ack
+ack_fits : (kind : FlowKind) (k : Sizes) (index len : ℕ) (f : FlowState) → k.signature_len ≡ len → len < 65536 → FlowHolds kind k index f
+    → IfSome f.ack (IsObject k.format (ack_kind kind) len)
+ack_fits kind k index len f same short h =
+    weaker (AckKept kind k (ends f)) (IsObject k.format (ack_kind kind) len) f.ack
+    (λ o is. object_of k (ack_kind kind) len o same short (ack_is_of kind (ends f) o.body is.is_ack) is.fits) h.ack
 
 -- a report but for its boots and the number of its messages
-record SlotFits (k : Sizes) (len : ℕ) (r : Report) : Type 0 where
+record SlotFits (kind : FlowKind) (k : Sizes) (len : ℕ) (r : Report) : Type 0 where
   src : r.flow.src.0 < 256
   dst : r.flow.dst.0 < 256
   base : r.base < 2 ^ 64
   have : r.have < 2 ^ 64
-  ack : IfSome r.ack (IsObject k.format kinds.Ack len)
-  rels : All (IsObject k.format kinds.Rel len) r.rels
+  ack : IfSome r.ack (IsObject k.format (ack_kind kind) len)
+  rels : All (IsObject k.format (rel_kind kind) len) r.rels
 
 small_id : (format id : ℕ) → id ≤ max_nodes format → id < 256
 small_id format id small = omega (arith, small, few_nodes format)
 
-slot_of_fits : (k : Sizes) (index len : ℕ) (r : RelState) (v : NodeId) (row : FlowState) → k.signature_len ≡ len → len < 65536 → RelHolds k index r
-    → FlowHolds k index row → SlotFits k len (slot_of r v (ends row))
-slot_of_fits k index len r v row same short h there =
+slot_of_fits : (kind : FlowKind) (k : Sizes) (index len : ℕ) (r : RelState) (v : NodeId) (row : FlowState) → k.signature_len ≡ len → len < 65536
+    → RelHolds kind k index r
+    → FlowHolds kind k index row → SlotFits kind k len (slot_of r v (ends row))
+slot_of_fits kind k index len r v row same short h there =
     let flow = ends row in
     let f = flow_in r.flows flow in
     let w = view_in (rel_peer_in r.peers v).views flow in
-    let holds = read k index r.flows flow there.src there.dst h.flows in
+    let holds = read kind k index r.flows flow there.src there.dst h.flows in
     record {
       src = small_id k.format row.src.0 there.src.1;
       dst = small_id k.format row.dst.0 there.dst.1;
       base = omega (arith, holds.standing.sound, holds.standing.numbers);
       have = omega (arith, holds.standing.numbers);
-      ack = cond_either (λ o. IfSome o (IsObject k.format kinds.Ack len)) (nat_lt w.base f.at.base) f.ack None (ack_fits k index len f same short holds) tt;
-      rels = cond_either (All (IsObject k.format kinds.Rel len)) (is_to r flow) [] (messages_after f.at (max w.have f.at.base))
-          (All-nil (IsObject k.format kinds.Rel len)) (rels_fit k index len (max w.have f.at.base) f same short holds);
+      ack = cond_either (λ o. IfSome o (IsObject k.format (ack_kind kind) len)) (nat_lt w.base f.at.base) f.ack None
+          (ack_fits kind k index len f same short holds) tt;
+      rels = cond_either (All (IsObject k.format (rel_kind kind) len)) (is_to r flow) [] (messages_after f.at (max w.have f.at.base))
+          (All-nil (IsObject k.format (rel_kind kind) len)) (rels_fit kind k index len (max w.have f.at.base) f same short holds);
     }
 
 -- with the boots that are held, and as many messages as the format allows
-dated_fits : (k : Sizes) (len : ℕ) (lives : List Life) (r : Report) → All (LifeHolds k) lives → SlotFits k len r
-    → IsReport k.format kinds.Ack kinds.Rel len (dated k.format lives r)
-dated_fits k len lives r held fits = record {
+dated_fits : (kind : FlowKind) (k : Sizes) (len : ℕ) (lives : List Life) (r : Report) → All (LifeHolds k) lives → SlotFits kind k len r
+    → length (take (max_rels k.format) r.rels) ≤ most k.format (rel_kind kind)
+    → IsReport k.format (ack_kind kind) (rel_kind kind) len (dated k.format lives r)
+dated_fits kind k len lives r held fits few = record {
   src = fits.src;
   dst = fits.dst;
   sboot = boot_fits k lives r.flow.src held;
@@ -207,24 +197,71 @@ dated_fits k len lives r held fits = record {
   base = fits.base;
   have = fits.have;
   ack = fits.ack;
-  few = omega (arith, length-take (max_rels k.format) r.rels);
-  rels = All-take (IsObject k.format kinds.Rel len) (max_rels k.format) r.rels fits.rels;
+  few = few;
+  rels = All-take (IsObject k.format (rel_kind kind) len) (max_rels k.format) r.rels fits.rels;
 }
 
-slot_fits : (k : Sizes) (index len : ℕ) (r : RelState) (lives : List Life) (v : NodeId) → k.signature_len ≡ len → len < 65536 → RelHolds k index r
-    → All (LifeHolds k) lives → IfSome (option_map (dated k.format lives) (slot_for r v)) (IsReport k.format kinds.Ack kinds.Rel len)
-slot_fits k index len r lives v same short h held = go (next_place r v)
+slot_fits : (kind : FlowKind) (k : Sizes) (index len : ℕ) (r : RelState) (v : NodeId) → k.signature_len ≡ len → len < 65536 → RelHolds kind k index r
+    → IfSome (slot_for r v) (SlotFits kind k len)
+slot_fits kind k index len r v same short h = go (next_place r v)
   where
-    at : (o : Option FlowState) → IfSome o (FlowHolds k index)
-        → IfSome (option_map (dated k.format lives) (option_map (slot_of r v) (option_map ends o))) (IsReport k.format kinds.Ack kinds.Rel len)
+    at : (o : Option FlowState) → IfSome o (FlowHolds kind k index) → IfSome (option_map (slot_of r v) (option_map ends o)) (SlotFits kind k len)
     at None there = tt
-    at (Some f) there = dated_fits k len lives (slot_of r v (ends f)) held (slot_of_fits k index len r v f same short h there)
+    at (Some f) there = slot_of_fits kind k index len r v f same short h there
 
-    go : (place : Option ℕ)
-        → IfSome (option_map (dated k.format lives) (option_map (slot_of r v) (option_and_then (flow_at r.flows) place)))
-        (IsReport k.format kinds.Ack kinds.Rel len)
+    go : (place : Option ℕ) → IfSome (option_map (slot_of r v) (option_and_then (flow_at r.flows) place)) (SlotFits kind k len)
     go None = tt
-    go (Some place) = at (slice_get r.flows place) (get_holds (FlowHolds k index) r.flows place h.flows)
+    go (Some place) = at (slice_get r.flows place) (get_holds (FlowHolds kind k index) r.flows place h.flows)
+
+-- what is made of it
+made : {X Y : Type 0} (P : X → Type 0) (Q : Y → Type 0) (f : X → Y) (o : Option X) → ((x : X) → P x → Q (f x)) → IfSome o P → IfSome (option_map f o) Q
+made P Q f None step p = tt
+made P Q f (Some x) step p = step x p
+
+-- the slot of plain flows
+plain_fits : (k : Sizes) (index len : ℕ) (r : RelState) (lives : List Life) (v : NodeId) → k.signature_len ≡ len → len < 65536 → RelHolds Plain k index r
+    → All (LifeHolds k) lives → IfSome (option_map (dated k.format lives) (slot_for r v)) (IsReport k.format kinds.Ack kinds.Rel len)
+plain_fits k index len r lives v same short h held =
+    made (SlotFits Plain k len) (IsReport k.format kinds.Ack kinds.Rel len) (dated k.format lives) (slot_for r v)
+    (λ s fits. dated_fits Plain k len lives s held fits (omega (arith, length-take (max_rels k.format) s.rels)))
+    (slot_fits Plain k index len r v same short h)
+
+-- the first message, where it may go over the edge
+over_all : (P : Kept → Type 0) (edge : ℕ) (os : List Kept) → All P os → All P (first_over edge os)
+over_all P edge [] all = All-nil P
+over_all P edge (o ∷ os) all =
+    cond_either (All P) (goes_over edge o.body) (o ∷ []) [] (All-cons P o [] (All-head P o os all) (All-nil P)) (All-nil P)
+
+over_few : (edge : ℕ) (os : List Kept) → length (first_over edge os) ≤ 1
+over_few edge [] = omega arith
+over_few edge (o ∷ os) = cond_either (λ (xs : List Kept). length xs ≤ 1) (goes_over edge o.body) (o ∷ []) [] (omega arith) (omega arith)
+
+record OverFits (k : Sizes) (len : ℕ) (r : Report) : Type 0 where
+  slot : SlotFits Paths k len r
+  few : length r.rels ≤ 1
+
+over_fits : (k : Sizes) (len edge : ℕ) (r : Report) → SlotFits Paths k len r → OverFits k len (kflow.over_edge edge r)
+over_fits k len edge r fits = record {
+  slot = record {
+    src = fits.src;
+    dst = fits.dst;
+    base = fits.base;
+    have = fits.have;
+    ack = fits.ack;
+    rels = over_all (IsObject k.format kinds.Krel len) edge r.rels fits.rels;
+  };
+  few = over_few edge r.rels;
+}
+
+-- the slot of flows on paths, in a format that has them
+paths_fit : (k : Sizes) (index len : ℕ) (f : KState) (lives : List Life) (v : NodeId) → k.signature_len ≡ len → len < 65536
+    → RelHolds Paths k index f.flows → All (LifeHolds k) lives → (k.format == FORMAT_1) ≡ false
+    → IfSome (option_map (dated k.format lives) (kflow.slot_for f v)) (Later k.format (IsReport k.format kinds.Kack kinds.Krel len))
+paths_fit k index len f lives v same short h held later =
+    made (OverFits k len) (Later k.format (IsReport k.format kinds.Kack kinds.Krel len)) (dated k.format lives) (kflow.slot_for f v)
+    (λ s fits. (later, dated_fits Paths k len lives s held fits.slot (let few = fits.few in omega (arith, length-take (max_rels k.format) s.rels, few))))
+    (made (SlotFits Paths k len) (OverFits k len) (kflow.over_edge (kflow.edge_to f v)) (slot_for f.flows v)
+    (over_fits k len (kflow.edge_to f v)) (slot_fits Paths k index len f.flows v same short h))
 
 -- ---- the Epoch object
 
@@ -275,7 +312,15 @@ contents_fit k n v h =
     let prios = messages_fit k (numbers_after n.calls) _ len q same h.fixed.short (omega (arith, h.calls)) row in
     let slot : IfSome (option_map (dated n.fixed.topology.format n.parts.lives) (slot_for n.parts.rel v)) (IsReport k.format kinds.Ack kinds.Rel len) =
     subst (λ (format : ℕ). IfSome (option_map (dated format n.parts.lives) (slot_for n.parts.rel v)) (IsReport k.format kinds.Ack kinds.Rel len))
-    (sym h.fixed.format) (slot_fits k n.signer.index len n.parts.rel n.parts.lives v same h.fixed.short h.parts.rel h.parts.lives) in
+    (sym h.fixed.format) (plain_fits k n.signer.index len n.parts.rel n.parts.lives v same h.fixed.short h.parts.rel h.parts.lives) in
+    let paths : IfSome (paths_to n.fixed n.parts v) (Later k.format (IsReport k.format kinds.Kack kinds.Krel len)) =
+    cond_where (λ (o : Option Report). IfSome o (Later k.format (IsReport k.format kinds.Kack kinds.Krel len))) (is_first n.fixed) None
+    (option_map (dated n.fixed.topology.format n.parts.lives) (kflow.slot_for n.parts.kflow v)) (λ first. tt)
+    (λ other.
+    subst (λ (format : ℕ). IfSome (option_map (dated format n.parts.lives) (kflow.slot_for n.parts.kflow v))
+    (Later k.format (IsReport k.format kinds.Kack kinds.Krel len))) (sym h.fixed.format)
+    (paths_fit k n.signer.index len n.parts.kflow n.parts.lives v same h.fixed.short h.parts.kflow h.parts.lives
+    (subst (λ (format : ℕ). (format == FORMAT_1) ≡ false) h.fixed.format other))) in
     subst (λ (format : ℕ). IsContentsIn format len (contents_to n.fixed n.parts v)) (sym h.fixed.format) (record {
       document = tt;
       few_weights = weights.few;
@@ -284,7 +329,7 @@ contents_fit k n v h =
       few_prios = prios.few;
       prios = prios.all;
       slot = slot;
-      paths = tt;
+      paths = paths;
       probe = tt;
       epoch = epoch_fits k len n.parts.lives n.parts.origins (place_of n.fixed v) same h.fixed.short h.parts.lives;
     })

@@ -13,27 +13,33 @@ use Rattle.sp_rules.specs.Arts.{Arts}
 use Rattle.sp_rules.specs.Choices.{less_first}
 use Rattle.sp_rules.specs.Documents.{under_topology}
 use Rattle.sp_rules.specs.Handle.{Arrival, handle, handle_all, heard_where, met}
+use Rattle.sp_rules.specs.Kflow.{ack_body}
+use Rattle.sp_rules.specs.KflowSends.{send_krel_refusal}
 use Rattle.sp_rules.specs.Link.{advanced}
-use Rattle.sp_rules.specs.Node.{NodeState, call_refusal, called, kept_or, link_in, signed_once, with_link}
-use Rattle.sp_rules.specs.Parts.{Parts, is_signed, nodes_of}
+use Rattle.sp_rules.specs.Node.{NodeState, call_refusal, called, kept_or, link_in, signed_now, signed_once, with_link}
+use Rattle.sp_rules.specs.Parts.{Parts, flows_of, is_signed, nodes_of, with_flows}
 use Rattle.sp_rules.specs.Pieces.{Piece, WeightPiece, PrioAckPiece, PrioPiece, ReportPiece, AckPiece, RelPiece, EpochPiece}
 use Rattle.sp_rules.specs.Polls.{is_served, parts_after, polled}
 use Rattle.sp_rules.specs.Prio as prio
 use Rattle.sp_rules.specs.Prio.{PrioState}
 use Rattle.sp_rules.specs.PrioPeer as rows
 use Rattle.sp_rules.specs.PrioPeer.{PrioPeer}
+use Rattle.sp_rules.specs.Rel.{admit_ack, admit_rel, reported, settled}
 use Rattle.sp_rules.specs.Sends.{own_prio, rel_refusal, send_prio_refusal, signer_refusal, weight_refusal}
-use Rattle.sp_rules.specs.Steps.{Input, NodeStep, Output, Poll, Datagram, Tick, SendRel, SendPrio, SetWeight, TakeRel, TakePrio, Publish}
+use Rattle.sp_rules.specs.Steps.{Input, NodeStep, Output, Poll, Datagram, Tick, SendRel, SendPrio, SetWeight, TakeRel, TakePrio, SendKrel, TakeKrel, Publish}
 use Rattle.sp_rules.specs.Store.{Store, arriving, evicted, has_id, is_expired, less_expired, next_besides, put, removed, without}
 use Rattle.sp_rules.specs.Lives.{are_held, is_dated, judge_epoch}
-use Rattle.sp_rules.specs.Ticks.{due_now, at_time, settled_by, time_after}
+use Rattle.sp_rules.specs.Ticks.{after_plain, at_time, due_now, second_refusal, settled_by, time_after}
 use Rattle.sp_rules.specs.Topologies.{is_shut, removed_of, weights_in}
 use Rattle.sp_rules.specs.declared.answers.Item.TheVariants as items
 use Rattle.sp_rules.specs.declared.answers.PrioAnswer.{PrioAnswer}
 use Rattle.sp_rules.specs.declared.answers.PrioAnswer.TheVariants as prios
+use Rattle.sp_rules.specs.declared.kflow.FlowKind.{FlowKind}
+use Rattle.sp_rules.specs.declared.kflow.FlowKind.TheVariants.{Plain, Paths}
 use Rattle.sp_rules.specs.declared.store.Entry.{Entry}
 use Rattle.sp_topology.specs.declared.topology.Topology.{Topology}
 use Rattle.laws_node.proofs.Adopting.{publishing, reading}
+use Rattle.laws_node.proofs.FlowKinds.{prio_beside}
 use Rattle.laws_node.proofs.Priority.{all_map}
 use Rattle.laws_node.proofs.Tables.{first_changes}
 use Rattle.laws_node.specs.Ids.{AllRise, IdsStayOwn, PeerRises, PlaceRises, Rises}
@@ -158,9 +164,15 @@ module _ (given : ℕ → ℕ) where
       let new = record p { prio = prio.admit_prio p.prio o (Some at.from) } in
       heard_keeps answer at.from number (cond (is_new (items.Prio answer)) new p)
       (which (is_new (items.Prio answer)) new p (admitted p.prio o (Some at.from) h) h)
-  piece arts at p (ReportPiece flow sboot dboot base have) h = unless_new (are_held p.lives flow sboot dboot) _ p refl h
-  piece arts at p (AckPiece flow o) h = unless_new _ _ p refl h
-  piece arts at p (RelPiece flow o) h = unless_new _ _ p refl h
+  piece arts at p (ReportPiece kind flow sboot dboot base have) h =
+      let r = reported (flows_of kind p) at.from flow base have in
+      unless_new (are_held p.lives flow sboot dboot) (with_flows kind r p) p (prio_beside kind r p) h
+  piece arts at p (AckPiece kind flow o) h =
+      let r = admit_ack (flows_of kind p) o in
+      unless_new _ (with_flows kind r p) p (prio_beside kind r p) h
+  piece arts at p (RelPiece kind flow o) h =
+      let r = admit_rel (flows_of kind p) o in
+      unless_new _ (with_flows kind r p) p (prio_beside kind r p) h
   piece arts at p (EpochPiece o) h =
       which (is_new (items.Epoch (epoch_answer (is_signed arts at.fixed o) (judge_epoch at.fixed.me p.lives o.body)))) (met p o) p
       (record { inbox = h.inbox; peers = h.peers }) h
@@ -183,10 +195,12 @@ module _ (given : ℕ → ℕ) where
   or_kept (Some x) old new o n = o
   or_kept None old new o n = n
 
-  settled_keeps : (arts : Arts) (n : NodeState) (due : Option Ack) (refusal : Option SendRefused) → Whole n → Whole (settled_by arts n due refusal)
-  settled_keeps arts n None refusal h = h
-  settled_keeps arts n (Some ack) (Some refusal) h = h
-  settled_keeps arts n (Some ack) None h = h
+  settled_keeps : (arts : Arts) (kind : FlowKind) (n : NodeState) (due : Option Ack) (refusal : Option SendRefused) → Whole n
+      → Whole (settled_by arts kind n due refusal)
+  settled_keeps arts kind n None refusal h = h
+  settled_keeps arts kind n (Some ack) (Some refusal) h = h
+  settled_keeps arts kind n (Some ack) None h =
+      subst (AllRise given) (sym (prio_beside kind (settled (flows_of kind n.parts) (signed_now arts n (ack_body kind ack))) n.parts)) h
 
   -- ids of those that leave aren't given again
   closed_rises : (least : List ℕ) (removed : List NodeId) (q : PrioPeer) → (PeerRises given) q → (PeerRises given) (rows.closed least removed q)
@@ -217,13 +231,13 @@ module _ (given : ℕ → ℕ) where
       (reading arts met_at (document_at arts n v bytes) (λ m told. Whole m) first (λ document d is reads by. adopted_rises met_at document d.topology first)))
   step_rises arts n (Tick now) output new s h =
       let time = time_after n now in
-      subst Whole (sym s.1) (settled_keeps arts (at_time n now) (due_now n) (signer_refusal n.signer)
-      (record {
+      subst Whole (sym s.1) (settled_keeps arts Paths (after_plain arts n now) (due_now Paths n) (second_refusal arts n now)
+      (settled_keeps arts Plain (at_time n now) (due_now Plain n) (signer_refusal n.signer) (record {
         inbox = expired_out (given 0) n.parts.prio.inbox time h.inbox;
         peers =
             all_map (PeerRises given) (PeerRises given) (λ q. rows.expired q time) (λ q k. expired_out (given q.peer) q.store time k) n.parts.prio.peers
             h.peers;
-      }))
+      })))
   step_rises arts n (SendRel dst payload) output new s h = subst Whole (sym s.1) (or_kept (rel_refusal n dst) n _ h h)
   step_rises arts n (SendPrio m) output new s h =
       let o = own_prio arts n m s.choice in
@@ -232,6 +246,8 @@ module _ (given : ℕ → ℕ) where
       (admitted n.parts.prio o None h))
   step_rises arts n (SetWeight v weight) output new s h = subst Whole (sym s.1) (or_kept (weight_refusal n v weight) n _ h h)
   step_rises arts n (TakeRel src) output new s h = subst Whole (sym s.1) h
+  step_rises arts n (SendKrel m) output new s h = subst Whole (sym s.new_is) (or_kept (send_krel_refusal n m s.choice) n _ h h)
+  step_rises arts n (TakeKrel src) output new s h = subst Whole (sym s.1) h
   step_rises arts n TakePrio output new s h =
       subst Whole (sym s.1) (record {
         inbox = record { rise = oldest_out n.parts.prio.inbox.last n.parts.prio.inbox.entries h.inbox.rise; least = h.inbox.least };

@@ -8,6 +8,8 @@ pub mod Carried
 pub mod Changing
 pub mod Determined
 pub mod Epochs
+pub mod FlowKinds
+pub mod FlowRows
 pub mod Flows
 pub mod Flight
 pub mod Frames
@@ -24,12 +26,15 @@ pub mod Masks
 pub mod Obeying
 pub mod Objects
 pub mod Own
+pub mod PartShapes
+pub mod OwnPaths
 pub mod Priority
 pub mod Reliable
 pub mod Replaced
 pub mod Restarts
 pub mod RowShapes
 pub mod Shapes
+pub mod Signing
 pub mod SilentEffects
 pub mod Spellings
 pub mod Spreading
@@ -38,9 +43,12 @@ pub mod Steps
 pub mod Successors
 pub mod TableReads
 pub mod Tables
+pub mod Ticking
 pub mod Updates
 pub mod Versions
 pub mod Weaker
+pub mod WeightTurns
+pub mod WindowPieces
 pub mod WindowPlaces
 pub mod Withdrawals
 pub mod Withdrawing

@@ -19,13 +19,17 @@ use Rattle.sp_msg.specs.declared.refused.SendRefused.{SendRefused}
 use Rattle.sp_rules.proofs.ArrivalLemmas.{link_stays, link_with, of_frame, of_fresh, of_link}
 use Rattle.sp_rules.specs.Arrivals.{before_document, document_at, document_in, link_after, link_says, not_open, not_taken, read_by, reply_at, sections_in}
 use Rattle.sp_rules.specs.Arts.{Arts, is_right}
+use Rattle.sp_rules.specs.KflowSends.{send_krel_refusal}
 use Rattle.sp_rules.specs.Link.{Link, advanced, after_answer, is_above, new_link, pair_of}
 use Rattle.sp_rules.specs.Node.{NodeState, announced, booted, call_refusal, called, is_link, is_neighbour, is_shut_to, kept_or, link_in, link_of, with_link}
 use Rattle.sp_rules.specs.Parts.{Fixed, neighbours_of}
 use Rattle.sp_rules.specs.Polls.{parts_after}
 use Rattle.sp_rules.specs.Sends.{rel_refusal, send_prio_refusal, signer_refusal, weight_refusal}
-use Rattle.sp_rules.specs.Steps.{Input, NodeStep, Output, Poll, Datagram, Tick, SendRel, SendPrio, SetWeight, TakeRel, TakePrio, Publish, arrived, refused_call}
-use Rattle.sp_rules.specs.Ticks.{at_time, due_now, settled_by}
+use Rattle.sp_rules.specs.Steps.{Input, NodeStep, Output, Poll, Datagram, Tick, SendRel, SendPrio, SetWeight, TakeRel, TakePrio, SendKrel, TakeKrel, Publish}
+use Rattle.sp_rules.specs.Steps.{arrived, refused_call}
+use Rattle.sp_rules.specs.Ticks.{after_plain, at_time, due_now, second_refusal, settled_by}
+use Rattle.sp_rules.specs.declared.kflow.FlowKind.{FlowKind}
+use Rattle.sp_rules.specs.declared.kflow.FlowKind.TheVariants.{Plain, Paths}
 use Rattle.sp_rules.specs.declared.link.LinkAnswer.{LinkAnswer}
 use Rattle.sp_rules.specs.declared.link.LinkAnswer.TheVariants as answers
 use Rattle.sp_rules.specs.declared.node.LinkReply.TheVariants as replies
@@ -158,6 +162,13 @@ quiet n done v None same known = subst (λ (l : Link). Goes (link_in n v) [] l) 
 read_links : (arts : Arts) (n : NodeState) (document : Option (List ℕ)) (v : NodeId) → link_in (read_by arts n document) v ≡ link_in n v
 read_links arts n document v = reading arts n document (λ m told. link_in m v ≡ link_in n v) refl (λ bytes d is reads by. refl)
 
+-- an acknowledgement that is signed leaves the links
+settled_link : (arts : Arts) (kind : FlowKind) (n : NodeState) (v : NodeId) (a : Option Ack) (r : Option SendRefused)
+    → link_in (settled_by arts kind n a r) v ≡ link_in n v
+settled_link arts kind n v None r = refl
+settled_link arts kind n v (Some ack) (Some refusal) = refl
+settled_link arts kind n v (Some ack) None = refl
+
 step_goes : (arts : Arts) (v : NodeId) (n : NodeState) (input : Input) (output : Output) (new : NodeState) → NodeStep arts n input output new
     → (link_in n v).seen.0 ≡ (link_in n v).peer_boot → LinkGoes arts v n input output new
 step_goes arts v n (Poll u) output new s known =
@@ -188,12 +199,11 @@ step_goes arts v n (Datagram u bytes) output new s known =
         (comes_peer arts (link_in n u) bytes (arts.opened bytes)) known
         (λ k. comes arts n.fixed n.live.version (is_shut_to n u) (link_in n u) bytes (arts.opened bytes) k))
 step_goes arts v n (Tick now) output new s known =
-    subst (λ (m : NodeState). Goes (link_in n v) [] (link_in m v)) (sym s.1) (go (due_now n) (signer_refusal n.signer))
-  where
-    go : (a : Option Ack) (r : Option SendRefused) → Goes (link_in n v) [] (link_in (settled_by arts (at_time n now) a r) v)
-    go None r = rests (link_in n v) (link_in n v) refl refl known
-    go (Some ack) (Some refusal) = rests (link_in n v) (link_in n v) refl refl known
-    go (Some ack) None = rests (link_in n v) (link_in n v) refl refl known
+    subst (λ (m : NodeState). Goes (link_in n v) [] (link_in m v)) (sym s.1)
+    (subst (λ (l : Link). Goes (link_in n v) [] l)
+    (sym (settled_link arts Paths (after_plain arts n now) v (due_now Paths n) (second_refusal arts n now)
+    ∙ settled_link arts Plain (at_time n now) v (due_now Plain n) (signer_refusal n.signer)))
+    (rests (link_in n v) (link_in n v) refl refl known))
 step_goes arts v n (SendRel dst payload) output new s known =
     subst (λ (m : NodeState). Goes (link_in n v) [] (link_in m v)) (sym s.1) (quiet n _ v (rel_refusal n dst) refl known)
 step_goes arts v n (SendPrio m) output new s known =
@@ -201,6 +211,10 @@ step_goes arts v n (SendPrio m) output new s known =
 step_goes arts v n (SetWeight u weight) output new s known =
     subst (λ (m : NodeState). Goes (link_in n v) [] (link_in m v)) (sym s.1) (quiet n _ v (weight_refusal n u weight) refl known)
 step_goes arts v n (TakeRel src) output new s known =
+    subst (λ (m : NodeState). Goes (link_in n v) [] (link_in m v)) (sym s.1) (rests (link_in n v) (link_in n v) refl refl known)
+step_goes arts v n (SendKrel m) output new s known =
+    subst (λ (m : NodeState). Goes (link_in n v) [] (link_in m v)) (sym s.new_is) (quiet n _ v (send_krel_refusal n m s.choice) refl known)
+step_goes arts v n (TakeKrel src) output new s known =
     subst (λ (m : NodeState). Goes (link_in n v) [] (link_in m v)) (sym s.1) (rests (link_in n v) (link_in n v) refl refl known)
 step_goes arts v n TakePrio output new s known =
     subst (λ (m : NodeState). Goes (link_in n v) [] (link_in m v)) (sym s.1) (rests (link_in n v) (link_in n v) refl refl known)

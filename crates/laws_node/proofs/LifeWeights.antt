@@ -1,206 +1,57 @@
 -- What each step tells of weights, and a life of all of them.
-use Rattle.std.proofs.Common.{◌≡◌, ℕ, ◌+◌, ◌*◌, ◌==◌, ◌&&◌, max, Bool, true, false, cond, List, [], ◌∷◌, ◌++◌, length, Option, Some, None, refl, sym, ap, subst}
-use Rattle.std.proofs.Common.{◌∙◌, inl, inr, nat_lt}
-use Rattle.std.specs.Option.{option_and_then}
-use Rattle.std.specs.List.{slice_get}
-use Rattle.std.proofs.lemmas.Bool.{cases_Bool}
+use Rattle.std.proofs.Common.{◌≡◌, ℕ, ◌+◌, ◌*◌, max, Bool, true, false, cond, List, [], ◌∷◌, ◌++◌, length, Option, Some, None, refl, sym, ap, subst}
+use Rattle.std.proofs.Common.{◌∙◌}
 use Rattle.std.proofs.lemmas.List.{length-replicate}
 use Rattle.sp_base.specs.declared.id.NodeId.{NodeId}
 use Rattle.sp_msg.specs.declared.body.Ack.{Ack}
 use Rattle.sp_msg.specs.declared.body.Body.{Body}
-use Rattle.sp_msg.specs.declared.body.Body.TheVariants as bodies
-use Rattle.sp_msg.specs.declared.body.WeightBody.{WeightBody}
 use Rattle.sp_msg.specs.declared.effect.Effect.{Effect}
 use Rattle.sp_msg.specs.declared.effect.Why.TheVariants as whys
 use Rattle.sp_msg.specs.declared.kept.Kept.{Kept}
 use Rattle.sp_msg.specs.declared.refused.SendRefused.{SendRefused}
-use Rattle.sp_rules.specs.Answers.{ack_answer, epoch_answer, is_new, prio_answer, rel_answer, weight_answer}
-use Rattle.sp_rules.specs.Arrivals.{arrival_at, before_document, document_at, greeted, handled, parts_met, pieces_in, pieces_where, read_by, reply_at, rises}
+use Rattle.sp_rules.specs.Arrivals.{arrival_at, before_document, document_at, handled, parts_met, pieces_in, pieces_where, read_by, reply_at, rises}
 use Rattle.sp_rules.specs.Arrivals.{sections_in}
 use Rattle.sp_rules.specs.Arts.{Arts}
 use Rattle.sp_rules.specs.Documents.{after_publish, publish_effects, version_effects}
-use Rattle.sp_rules.specs.Flow.{flow_said}
-use Rattle.sp_rules.specs.Handle.{Arrival, handle, handle_all, heard_where, met, offer_of, offer_to, reported_where, weight_effects}
+use Rattle.sp_rules.specs.Handle.{weight_effects}
+use Rattle.sp_rules.specs.Kflow.{ack_body, pushed}
+use Rattle.sp_rules.specs.KflowSends.{after_take_krel, krel_number, krel_sends, krel_sent, send_krel_refusal}
 use Rattle.sp_rules.specs.Link.{advanced}
 use Rattle.sp_rules.specs.Node.{NodeState, announced, booted, call_refusal, called, kept_or, link_in, signed_now, signed_once, with_link}
-use Rattle.sp_rules.specs.Parts.{Parts, edge_to, is_signed, nodes_of}
-use Rattle.sp_rules.specs.Pieces.{Piece, WeightPiece, PrioAckPiece, PrioPiece, ReportPiece, AckPiece, RelPiece, EpochPiece}
+use Rattle.sp_rules.specs.Parts.{edge_to, flows_of, nodes_of}
 use Rattle.sp_rules.specs.Polls.{frame_to, is_served, parts_after, polled}
 use Rattle.sp_rules.specs.Prio as prio
 use Rattle.sp_rules.specs.Prio.{admit_prio, judge_prio, prio_effects}
 use Rattle.sp_rules.specs.PrioPeer as rows
-use Rattle.sp_rules.specs.Rel.{admit_ack, admit_rel, is_to, judge_ack_of, judge_rel_of, pushed_in, rel_effects, reported, restart_effects}
+use Rattle.sp_rules.specs.Rel.{pushed_in, settled}
 use Rattle.sp_rules.specs.Sends.{after_take_prio, after_take_rel, edge_or, mask_in, own_prio, prio_body, prio_sent, rel_body, rel_number, rel_refusal, rel_sent}
 use Rattle.sp_rules.specs.Sends.{send_prio_refusal, signed_effect, signer_refusal, weight_body, weight_number, weight_refusal, weight_refusal_at, weight_sent}
-use Rattle.sp_rules.specs.Steps.{Input, NodeStep, Output, Poll, Datagram, Tick, SendRel, SendPrio, SetWeight, TakeRel, TakePrio, Publish, Frame, accepted}
+use Rattle.sp_rules.specs.Steps.{Input, NodeStep, Output, Poll, Datagram, Tick, SendRel, SendPrio, SetWeight, TakeRel, TakePrio, SendKrel, TakeKrel, Publish}
+use Rattle.sp_rules.specs.Steps.{Frame}
+use Rattle.sp_rules.specs.Steps.{accepted}
 use Rattle.sp_rules.specs.Steps.{arrived, document_effects, refused_call, refused_send, replied}
 use Rattle.sp_rules.specs.Store.{oldest}
-use Rattle.sp_rules.specs.Lives.{are_held, is_dated, judge_epoch, origin_said}
-use Rattle.sp_rules.specs.Ticks.{ack_effects, at_time, due_now, settled_by, time_after}
+use Rattle.sp_rules.specs.Ticks.{ack_effects, after_plain, after_tick, at_time, due_now, second_refusal, settled_by, tick_effects, time_after}
 use Rattle.sp_rules.specs.Topologies.{removed_of, weights_in}
-use Rattle.sp_rules.specs.Weights.{WeightState, held, held_in, minimum, offer, replaced, row_for, row_in, row_of, weight_of}
-use Rattle.sp_rules.specs.declared.answers.Item.TheVariants as items
-use Rattle.sp_rules.specs.declared.answers.PrioAnswer.{PrioAnswer}
-use Rattle.sp_rules.specs.declared.answers.PrioAnswer.TheVariants as prios
+use Rattle.sp_rules.specs.Weights.{WeightState, held, minimum, replaced, row_for, row_in}
+use Rattle.sp_rules.specs.declared.kflow.FlowKind.{FlowKind}
+use Rattle.sp_rules.specs.declared.kflow.FlowKind.TheVariants.{Plain, Paths}
 use Rattle.sp_rules.specs.declared.node.NodeRefused.{NodeRefused}
-use Rattle.sp_rules.specs.declared.weights.Offer.TheVariants as offers
-use Rattle.sp_rules.specs.declared.weights.TheConstants.{MAX_OWN_HEARD}
 use Rattle.sp_topology.specs.Ranges.{ids_of}
 use Rattle.sp_topology.specs.declared.topology.Edge.{Edge}
 use Rattle.sp_topology.specs.declared.topology.Topology.{Topology}
-use Rattle.laws_node.specs.HeldUpdates.{last_weight}
 use Rattle.laws_node.specs.LifeLaws.{WeightsOfLives}
 use Rattle.laws_node.specs.Lives.{Life, effects_of_life, last_told}
 use Rattle.laws_node.specs.Shapes.{Shape}
 use Rattle.laws_node.proofs.Adopting.{publishing, reading}
+use Rattle.laws_node.proofs.FlowKinds.{weights_beside}
 use Rattle.laws_node.proofs.GreatestWeights.{high_row, low_row}
-use Rattle.laws_node.proofs.Handles.{new_weight}
-use Rattle.laws_node.proofs.LastWeights.{At, HasRows, IsUpdateAt, held_said, length_stays, new_at, said as row_said}
+use Rattle.laws_node.proofs.LastWeights.{HasRows, said as row_said}
 use Rattle.laws_node.proofs.Shapes.{shapes_stay}
 use Rattle.laws_node.proofs.UpdateRows.{ends_differ, nothing_held}
 use Rattle.laws_node.proofs.Updates.{own_row}
-use Rattle.laws_node.proofs.SilentEffects.{Silent, last_both, silent_both, silent_closed, silent_either, silent_expired, silent_gone, silent_left, silent_prio}
-use Rattle.laws_node.proofs.SilentEffects.{silent_rel}
-use Rattle.laws_node.proofs.SilentEffects.{silent_restart}
-
--- ---- what is told of a change of the weights
-
--- the rows are there, and each says the last weight that was told of its end
-pub record Turns (old : WeightState) (told : List Effect) (new : WeightState) : Type 0 where
-  pub edges : new.edges ≡ old.edges
-  pub rows : HasRows new
-  pub said : (edge end row : ℕ) → At old edge end row → row_said new row ≡ last_told edge end (row_said old row) told
-
-pub at_later : (old new : WeightState) (edge end row : ℕ) → new.edges ≡ old.edges → At old edge end row → At new edge end row
-at_later old new edge end row e at =
-    record { joined = at.joined; there = ap (λ (es : List Edge). slice_get es edge) e ∙ at.there; placed = at.placed }
-
-stays : (old new : WeightState) (es : List Effect) → Silent es → new.edges ≡ old.edges → new.rows ≡ old.rows → HasRows old → Turns old es new
-stays old new es none e f h = record {
-  edges = e;
-  rows = record { rows = ap (λ (rs : List (Option Kept)). length rs) f ∙ h.rows ∙ ap (λ (x : List Edge). 2 * length x) (sym e) };
-  said = λ edge end row at. ap (λ (rs : List (Option Kept)). weight_of (held_in rs row)) f ∙ sym (none edge end (row_said old row));
-}
-
-on : (old mid new : WeightState) (xs ys : List Effect) → Turns old xs mid → Turns mid ys new → Turns old (xs ++ ys) new
-on old mid new xs ys one two = record {
-  edges = two.edges ∙ one.edges;
-  rows = two.rows;
-  said = λ edge end row at.
-      two.said edge end row (at_later old mid edge end row one.edges at) ∙ ap (λ (w : ℕ). last_told edge end w ys) (one.said edge end row at)
-      ∙ sym (last_both edge end xs ys (row_said old row));
-}
-
--- an update is held
-held_turns : (s : WeightState) (o : Kept) → IsUpdateAt s o.body → HasRows s → Turns s (weight_effects o.body) (held s o)
-held_turns s o at h = record {
-  edges = refl;
-  rows = record { rows = length_stays s.rows o (row_for s.edges o.body) ∙ h.rows };
-  said = λ edge end row here. held_said s o edge end row h here at ∙ same edge end (row_said s row) o.body at.update at.is;
-}
-  where
-    same : (edge end w : ℕ) (body : Body) (u : WeightBody) → body ≡ bodies.Weight u
-        → last_weight edge end w (record { body = body; signature = o.signature } ∷ []) ≡ last_told edge end w (weight_effects body)
-    same edge end w (bodies.Weight v) u e = refl
-    same edge end w (bodies.Prio v) u e = absurd (cc)
-    same edge end w (bodies.Rel v) u e = absurd (cc)
-    same edge end w (bodies.Ack v) u e = absurd (cc)
-    same edge end w (bodies.Krel v) u e = absurd (cc)
-    same edge end w (bodies.Kack v) u e = absurd (cc)
-    same edge end w (bodies.Epoch v) u e = absurd (cc)
-
-pub offered : (me : NodeId) (s : WeightState) (body : Body) → offer_to me s body ≡ offers.New → offer_of s body ≡ offers.New
-offered me s (bodies.Weight u) e = go ((u.origin.0 == me.0) && nat_lt MAX_OWN_HEARD u.seq) e
-  where
-    go : (t : Bool) → cond t offers.Foreign (offer s u) ≡ offers.New → offer s u ≡ offers.New
-    go true e = absurd (cc)
-    go false e = e
-offered me s (bodies.Prio u) e = absurd (cc)
-offered me s (bodies.Rel u) e = absurd (cc)
-offered me s (bodies.Ack u) e = absurd (cc)
-offered me s (bodies.Krel u) e = absurd (cc)
-offered me s (bodies.Kack u) e = absurd (cc)
-offered me s (bodies.Epoch u) e = absurd (cc)
-
--- the row of an own update is there
-own_at : (s : WeightState) (u : WeightBody) (row : ℕ) → row_for s.edges (bodies.Weight u) ≡ Some row → IsUpdateAt s (bodies.Weight u)
-own_at s u row e = go (slice_get s.edges u.edge.0) refl e
-  where
-    go : (o : Option Edge) → slice_get s.edges u.edge.0 ≡ o → option_and_then (λ (f : Edge). row_of u.edge.0 f u.origin.0) o ≡ Some row
-        → IsUpdateAt s (bodies.Weight u)
-    go None there e = absurd (cc)
-    go (Some f) there e = record { update = u; is = refl; edge = f; there = there; row = row; placed = e }
-
--- ---- a datagram
-
-either : (t : Bool) (x p : Parts) → x.weights ≡ p.weights → (cond t x p).weights ≡ p.weights
-either true x p e = e
-either false x p e = refl
-
-heard : (answer : PrioAnswer) (v : NodeId) (number : ℕ) (p : Parts) → (heard_where answer v number p).weights ≡ p.weights
-heard prios.New v number p = refl
-heard prios.Seen v number p = refl
-heard prios.BadEnd v number p = refl
-heard prios.Expired v number p = refl
-heard prios.BadSig v number p = refl
-heard prios.Epoch v number p = refl
-
-still : (p : Parts) (w : WeightState) (es : List Effect) → Silent es → w ≡ p.weights → HasRows p.weights → Turns p.weights es w
-still p w es none e h = stays p.weights w es none (ap (λ (s : WeightState). s.edges) e) (ap (λ (s : WeightState). s.rows) e) h
-
-nothing : Silent []
-nothing = λ edge end w. refl
-
-one_turns : (arts : Arts) (at : Arrival) (p : Parts) (piece : Piece) → HasRows p.weights
-    → Turns p.weights (handle arts at p piece).effects (handle arts at p piece).parts.weights
-one_turns arts at p (WeightPiece o) h =
-    elim (cases_Bool (is_new (items.Weight (weight_answer (is_signed arts at.fixed o) (offer_to at.fixed.me p.weights o.body))))) [
-      | inl t ↦
-          let is = new_weight (is_signed arts at.fixed o) (offer_to at.fixed.me p.weights o.body) t in
-          let done = held_turns p.weights o (new_at p.weights o.body (offered at.fixed.me p.weights o.body is.1)) h in
-          rw t done
-      | inr t ↦ let same = still p p.weights [] nothing refl h in rw t same
-    ]
-one_turns arts at p (PrioAckPiece number) h =
-    let q = prio.peer_in p.prio at.from.0 in
-    still p p.weights (rows.acked_effects q number) (silent_left q.peer q.store (rows.landed q number)) refl h
-one_turns arts at p (PrioPiece number o) h =
-    let answer = prio_answer (is_signed arts at.fixed o) (is_dated p.lives o.body) (judge_prio p.prio o.body at.now) in
-    let t = is_new (items.Prio answer) in
-    let admitted = record p { prio = admit_prio p.prio o (Some at.from) } in
-    still p (heard_where answer at.from number (cond t admitted p)).weights (cond t (prio_effects p.prio o (Some at.from)) [])
-    (silent_either t (prio_effects p.prio o (Some at.from)) (silent_prio p.prio o (Some at.from)))
-    (heard answer at.from number (cond t admitted p) ∙ either t admitted p refl) h
-one_turns arts at p (ReportPiece flow sboot dboot base have) h =
-    let t = are_held p.lives flow sboot dboot in
-    still p (reported_where t at.from flow base have p).weights [] nothing (either t (record p { rel = reported p.rel at.from flow base have }) p refl) h
-one_turns arts at p (AckPiece flow o) h =
-    let t = is_new (items.Ack (ack_answer (is_signed arts at.fixed o) (is_dated p.lives o.body) (judge_ack_of p.rel flow o.body))) in
-    still p (cond t (record p { rel = admit_ack p.rel o }) p).weights (cond t [] []) (silent_either t [] nothing)
-    (either t (record p { rel = admit_ack p.rel o }) p refl) h
-one_turns arts at p (RelPiece flow o) h =
-    let t = is_new (items.Rel (rel_answer (is_signed arts at.fixed o) (is_dated p.lives o.body) (judge_rel_of p.rel flow o.body))) in
-    still p (cond t (record p { rel = admit_rel p.rel o }) p).weights (cond t (rel_effects p.rel o) [])
-    (silent_either t (rel_effects p.rel o) (silent_rel (is_to p.rel (flow_said o.body)) o.body)) (either t (record p { rel = admit_rel p.rel o }) p refl) h
-one_turns arts at p (EpochPiece o) h =
-    let t = is_new (items.Epoch (epoch_answer (is_signed arts at.fixed o) (judge_epoch at.fixed.me p.lives o.body))) in
-    still p (cond t (met p o) p).weights (cond t (restart_effects p.rel (origin_said o.body)) [])
-    (silent_either t (restart_effects p.rel (origin_said o.body)) (silent_restart p.rel (origin_said o.body))) (either t (met p o) p refl) h
-
--- another life of a neighbour changes no weight
-greeted_weights : (epochs risen : Bool) (v : NodeId) (p : Parts) → (greeted epochs risen v p).weights ≡ p.weights
-greeted_weights true true v p = refl
-greeted_weights true false v p = refl
-greeted_weights false risen v p = refl
-
-all_turns : (arts : Arts) (at : Arrival) (p : Parts) (pieces : List Piece) → HasRows p.weights
-    → Turns p.weights (handle_all arts at p pieces).effects (handle_all arts at p pieces).parts.weights
-all_turns arts at p [] h = still p p.weights [] nothing refl h
-all_turns arts at p (piece ∷ pieces) h =
-    let first = handle arts at p piece in
-    let others = handle_all arts at first.parts pieces in
-    let one = one_turns arts at p piece h in
-    on p.weights first.parts.weights others.parts.weights first.effects others.effects one (all_turns arts at first.parts pieces one.rows)
+use Rattle.laws_node.proofs.SilentEffects.{Silent, silent_both, silent_closed, silent_expired, silent_gone, silent_prio}
+use Rattle.laws_node.proofs.WeightTurns.{Turns, all_turns, greeted_weights, held_turns, nothing, on, own_at, stays, still}
 
 -- ---- each step
 
@@ -242,6 +93,16 @@ adopted_turns n t h =
     let gone = removed_of (nodes_of t) t.edges in
     stays n.parts.weights (replaced n.parts.weights least) (version_effects n t) (λ edge end w. silent_closed n.parts least gone edge end w) refl refl h
 
+-- an acknowledgement that is signed tells of no held weight, and leaves what is held
+settled_turns : (arts : Arts) (kind : FlowKind) (n : NodeState) (o : Option Ack) (r : Option SendRefused) → HasRows n.parts.weights
+    → Turns n.parts.weights (ack_effects arts kind o r) (settled_by arts kind n o r).parts.weights
+settled_turns arts kind n None r h = plain n [] nothing h
+settled_turns arts kind n (Some ack) (Some refusal) h = plain n [] nothing h
+settled_turns arts kind n (Some ack) None h =
+    let body = ack_body kind ack in
+    still n.parts (settled_by arts kind n (Some ack) None).parts.weights (signed_effect arts body ∷ []) (signed_alone arts body)
+    (weights_beside kind (settled (flows_of kind n.parts) (signed_now arts n body)) n.parts) h
+
 pub step_turns : (arts : Arts) (n : NodeState) (input : Input) (output : Output) (new : NodeState) → NodeStep arts n input output new
     → n.parts.weights.edges ≡ n.fixed.topology.edges → HasRows n.parts.weights → Done n output new
 step_turns arts n (Poll v) output new s same h = go (call_refusal n v) (ap (λ (o : Output). o.effects) s.0) s.1
@@ -279,19 +140,13 @@ step_turns arts n (Datagram v bytes) output new s same h = go (call_refusal n v)
         (λ document d is reads by. adopted_turns met_at d.topology first.rows)))
     go (Some refused) e f = by n output new n [] e f (plain n [] nothing h)
 step_turns arts n (Tick now) output new s same h =
-    by n output new (settled_by arts (at_time n now) (due_now n) (signer_refusal n.signer))
-    (prio.expired_effects n.parts.prio (time_after n now) ++ ack_effects arts (due_now n) (signer_refusal n.signer)) (ap (λ (o : Output). o.effects) s.0) s.1
-    (go (due_now n) (signer_refusal n.signer))
-  where
-    expired : List Effect
-    expired = prio.expired_effects n.parts.prio (time_after n now)
-
-    go : (o : Option Ack) (r : Option SendRefused) → Turns n.parts.weights (expired ++ ack_effects arts o r) (settled_by arts (at_time n now) o r).parts.weights
-    go None r = plain n (expired ++ []) (silent_both expired [] (silent_expired n.parts.prio (time_after n now)) nothing) h
-    go (Some ack) (Some refusal) = plain n (expired ++ []) (silent_both expired [] (silent_expired n.parts.prio (time_after n now)) nothing) h
-    go (Some ack) None =
-        plain n (expired ++ signed_effect arts (bodies.Ack ack) ∷ [])
-        (silent_both expired (signed_effect arts (bodies.Ack ack) ∷ []) (silent_expired n.parts.prio (time_after n now)) (signed_alone arts (bodies.Ack ack))) h
+    let first = settled_turns arts Plain (at_time n now) (due_now Plain n) (signer_refusal n.signer) h in
+    let second = settled_turns arts Paths (after_plain arts n now) (due_now Paths n) (second_refusal arts n now) first.rows in
+    by n output new (after_tick arts n now) (tick_effects arts n now) (ap (λ (o : Output). o.effects) s.0) s.1
+    (on n.parts.weights n.parts.weights (after_tick arts n now).parts.weights (prio.expired_effects n.parts.prio (time_after n now)) _
+    (plain n (prio.expired_effects n.parts.prio (time_after n now)) (silent_expired n.parts.prio (time_after n now)) h)
+    (on n.parts.weights (after_plain arts n now).parts.weights (after_tick arts n now).parts.weights
+    (ack_effects arts Plain (due_now Plain n) (signer_refusal n.signer)) (ack_effects arts Paths (due_now Paths n) (second_refusal arts n now)) first second))
 step_turns arts n (SendRel dst payload) output new s same h = go (rel_refusal n dst) (ap (λ (o : Output). o.effects) s.0) s.1
   where
     done : NodeState
@@ -339,6 +194,19 @@ step_turns arts n (SetWeight v weight) output new s same h = go (weight_refusal 
         (held_turns n.parts.weights (signed_now arts n body) (own_at n.parts.weights _ placed.0 placed.1) h))
     go (Some refused) free e f = by n output new n [] e f (plain n [] nothing h)
 step_turns arts n (TakeRel src) output new s same h = by n output new (after_take_rel n src) [] (ap (λ (o : Output). o.effects) s.0) s.1 (plain n [] nothing h)
+step_turns arts n (SendKrel m) output new s same h = go (send_krel_refusal n m s.choice) (ap (λ (o : Output). o.effects) s.output_is) s.new_is
+  where
+    done : NodeState
+    done = signed_once n (record n.parts { kflow = pushed n.parts.kflow (signed_now arts n (krel_sends n m s.choice)) m.paths })
+
+    go : (r : Option SendRefused) → output.effects ≡ (refused_send r (accepted (krel_number n m.dst) (krel_sent arts n m s.choice))).effects
+        → new ≡ kept_or r n done
+        → Done n output new
+    go None e f =
+        by n output new done (krel_sent arts n m s.choice) e f (plain n (krel_sent arts n m s.choice) (signed_alone arts (krel_sends n m s.choice)) h)
+    go (Some refused) e f = by n output new n [] e f (plain n [] nothing h)
+step_turns arts n (TakeKrel src) output new s same h =
+    by n output new (after_take_krel n src) [] (ap (λ (o : Output). o.effects) s.0) s.1 (plain n [] nothing h)
 step_turns arts n TakePrio output new s same h =
     by n output new (after_take_prio n) (rows.gone 0 whys.Taken (oldest n.parts.prio.inbox)) (ap (λ (o : Output). o.effects) s.0) s.1
     (plain n (rows.gone 0 whys.Taken (oldest n.parts.prio.inbox)) (silent_gone 0 whys.Taken (oldest n.parts.prio.inbox)) h)

@@ -1,286 +1,47 @@
 -- What each step marks of a source, and a life of all of them.
-use Rattle.std.proofs.Common.{Bool, true, false, ◌≡◌, ℕ, ◌==◌, true, false, cond, List, [], ◌∷◌, ◌++◌, length, Option, Some, None}
-use Rattle.std.proofs.Common.{refl, sym, ap, subst, ◌∙◌, inl, inr}
+use Rattle.std.proofs.Common.{Bool, true, false, ◌≡◌, ℕ, true, false, cond, List, [], ◌∷◌, length, Option, Some, None}
+use Rattle.std.proofs.Common.{refl, sym, ap, subst, ◌∙◌}
 use Rattle.std.specs.Prelude.{fold}
-use Rattle.std.specs.List.{flat_map}
-use Rattle.std.proofs.lemmas.Bool.{cases_Bool, eqb-true, eq-eqb}
-use Rattle.std.proofs.lemmas.List.{append-nil, length-replicate}
-use Rattle.std.proofs.lemmas.List.Concat.{flat_map-append}
-use Rattle.std.proofs.lemmas.List.Sums.{fold-append}
-use Rattle.sp_base.specs.declared.id.Flow.{Flow}
+use Rattle.std.proofs.lemmas.List.{length-replicate}
 use Rattle.sp_base.specs.declared.id.NodeId.{NodeId}
 use Rattle.sp_msg.specs.declared.body.Ack.{Ack}
-use Rattle.sp_msg.specs.declared.body.Body.{Body}
-use Rattle.sp_msg.specs.declared.body.Body.TheVariants as bodies
-use Rattle.sp_msg.specs.declared.kept.Kept.{Kept}
 use Rattle.sp_msg.specs.declared.refused.SendRefused.{SendRefused}
-use Rattle.sp_rules.specs.Answers.{ack_answer, epoch_answer, is_new, prio_answer, rel_answer, weight_answer}
-use Rattle.sp_rules.specs.Arrivals.{arrival_at, before_document, document_at, greeted, handled, parts_met, pieces_in, pieces_where, read_by, reply_at, rises}
+use Rattle.sp_rules.specs.Arrivals.{arrival_at, before_document, document_at, handled, parts_met, pieces_in, pieces_where, read_by, reply_at, rises}
 use Rattle.sp_rules.specs.Arrivals.{sections_in}
 use Rattle.sp_rules.specs.Arts.{Arts}
 use Rattle.sp_rules.specs.Documents.{under_topology}
-use Rattle.sp_rules.specs.Handle.{Arrival, handle, handle_all, heard_where, met, offer_to, reported_where}
-use Rattle.sp_rules.specs.Lives.{are_held, is_dated, judge_epoch, origin_said}
+use Rattle.sp_rules.specs.Kflow.{ack_body, pushed}
+use Rattle.sp_rules.specs.KflowSends.{krel_number, krel_sends, krel_sent, send_krel_refusal}
 use Rattle.sp_rules.specs.Link.{advanced}
 use Rattle.sp_rules.specs.Node.{NodeState, announced, booted, call_refusal, called, kept_or, link_in, signed_now, signed_once, with_link}
-use Rattle.sp_rules.specs.Parts.{Parts, is_signed, nodes_of}
-use Rattle.sp_rules.specs.Pieces.{Piece, WeightPiece, PrioAckPiece, PrioPiece, ReportPiece, AckPiece, RelPiece, EpochPiece}
+use Rattle.sp_rules.specs.Parts.{Parts, flows_of, nodes_of}
 use Rattle.sp_rules.specs.Polls.{frame_to, is_served, parts_after, polled}
 use Rattle.sp_rules.specs.Prio as prio
 use Rattle.sp_rules.specs.Prio.{PrioState, admit_prio, is_here, is_node, judge_prio, marked, place_of, spread, window_at, window_in, windows_less, windows_with}
-use Rattle.sp_rules.specs.Rel.{RelState, admit_ack, admit_rel, judge_ack_of, judge_rel_of, pushed_in}
+use Rattle.sp_rules.specs.Rel.{pushed_in, settled}
 use Rattle.sp_rules.specs.Sends.{own_prio, prio_sent, rel_body, rel_number, rel_refusal, rel_sent, send_prio_refusal, signer_refusal, weight_body}
 use Rattle.sp_rules.specs.Sends.{weight_number, weight_refusal, weight_sent}
-use Rattle.sp_rules.specs.Steps.{Input, NodeStep, Output, Poll, Datagram, Tick, SendRel, SendPrio, SetWeight, TakeRel, TakePrio, Publish, Frame, accepted}
+use Rattle.sp_rules.specs.Steps.{Input, NodeStep, Output, Poll, Datagram, Tick, SendRel, SendPrio, SetWeight, TakeRel, TakePrio, SendKrel, TakeKrel, Publish}
+use Rattle.sp_rules.specs.Steps.{Frame}
+use Rattle.sp_rules.specs.Steps.{accepted}
 use Rattle.sp_rules.specs.Steps.{arrived, refused_call, refused_send, replied}
-use Rattle.sp_rules.specs.Store.{put, said}
-use Rattle.sp_rules.specs.Ticks.{at_time, due_now, settled_by}
-use Rattle.sp_rules.specs.Weights.{WeightState, held}
-use Rattle.sp_rules.specs.declared.answers.Item.{Item}
-use Rattle.sp_rules.specs.declared.answers.Item.TheVariants as items
-use Rattle.sp_rules.specs.declared.answers.PrioAnswer.{PrioAnswer}
-use Rattle.sp_rules.specs.declared.answers.PrioAnswer.TheVariants as prios
+use Rattle.sp_rules.specs.Ticks.{after_plain, after_tick, at_time, due_now, second_refusal, settled_by}
+use Rattle.sp_rules.specs.Weights.{held}
+use Rattle.sp_rules.specs.declared.kflow.FlowKind.{FlowKind}
+use Rattle.sp_rules.specs.declared.kflow.FlowKind.TheVariants.{Plain, Paths}
 use Rattle.sp_rules.specs.declared.node.NodeRefused.{NodeRefused}
-use Rattle.sp_rules.specs.declared.prio.PrioJudged.TheVariants as judged
-use Rattle.sp_rules.specs.declared.rel.AckJudged.TheVariants as acks
-use Rattle.sp_rules.specs.declared.rel.RelJudged.TheVariants as rels
-use Rattle.sp_rules.specs.declared.weights.Offer.TheVariants as offers
 use Rattle.sp_topology.specs.declared.topology.Topology.{Topology}
-use Rattle.laws_node.specs.HeldBoots.{IsEpochOf}
 use Rattle.laws_node.specs.LifeLaws.{WindowsOfLives}
-use Rattle.laws_node.specs.Lives.{Life, mark_told, marks_of_life, marks_told, number_of}
+use Rattle.laws_node.specs.Lives.{Life, marks_of_life, marks_told}
 use Rattle.laws_node.specs.Shapes.{Shape}
 use Rattle.laws_node.proofs.Adopting.{publishing, reading}
-use Rattle.laws_node.proofs.Handles.{new_ack, new_prio, new_rel, new_start, new_weight}
-use Rattle.laws_node.proofs.HeldBoots.{new_epoch}
 use Rattle.laws_node.proofs.LifeMarks.{from_empty, mark_on}
 use Rattle.laws_node.proofs.Shapes.{shapes_stay}
 use Rattle.laws_node.proofs.Tables.{cond_either}
-use Rattle.laws_node.proofs.WindowPlaces.{empty_window, less_here, less_there, long_less, long_with, mark_here, mark_there}
-
--- ---- what was marked of a source
-
--- a window for each node
-record HasWindows (s : PrioState) : Type 0 where
-  long : length s.windows ≡ length s.nodes
-
-record Marks (src : ℕ) (old : PrioState) (qs : List (Option ℕ)) (new : PrioState) : Type 0 where
-  nodes : new.nodes ≡ old.nodes
-  long : length new.windows ≡ length old.windows
-  window : window_in new src ≡ fold mark_on (window_in old src) qs
+use Rattle.laws_node.proofs.WindowPlaces.{empty_window}
+use Rattle.laws_node.proofs.WindowPieces.{HasWindows, Marks, admitted, all_pieces, beside, greeted_marks, none, on, told, windows_on}
 
 module _ (src : ℕ) where
-  none : (old new : PrioState) → new.nodes ≡ old.nodes → new.windows ≡ old.windows → Marks src old [] new
-  none old new nodes windows = record {
-    nodes = nodes;
-    long = ap (λ (ws : List (List ℕ)). length ws) windows;
-    window = ap (λ (ws : List (List ℕ)). window_at ws (place_of new.nodes src)) windows
-        ∙ ap (λ (ns : List NodeId). window_at old.windows (place_of ns src)) nodes;
-  }
-
-  on : (old mid new : PrioState) (xs ys : List (Option ℕ)) → Marks src old xs mid → Marks src mid ys new → Marks src old (xs ++ ys) new
-  on old mid new xs ys one two = record {
-    nodes = two.nodes ∙ one.nodes;
-    long = two.long ∙ one.long;
-    window = two.window ∙ ap (λ (w : List ℕ). fold mark_on w ys) one.window ∙ sym (fold-append mark_on (window_in old src) xs ys);
-  }
-
-  windows_on : (old new : PrioState) (qs : List (Option ℕ)) → Marks src old qs new → HasWindows old → HasWindows new
-  windows_on old new qs m h = record { long = m.long ∙ h.long ∙ ap (λ (ns : List NodeId). length ns) (sym m.nodes) }
-
-  -- ---- a message comes
-
-  spread_marks : (s : PrioState) (o : Kept) (came : Option NodeId) → Marks src s [] (spread s o came)
-  spread_marks s o came =
-      elim (cases_Bool (is_here s o.body)) [ inl t ↦ rw t (none s (record s { inbox = put s.inbox o }) refl refl) | inr t ↦ rw t (none s _ refl refl) ]
-
-  marked_marks : (s : PrioState) (body : Body) (came : Option NodeId) → HasWindows s → is_node s.nodes src ≡ true
-      → Marks src s (cond (said (λ p. p.src.0) body == src) (Some (said (λ p. p.seq) body) ∷ []) []) (marked s body came)
-  marked_marks s body came h there =
-      let id = said (λ p. p.src.0) body in
-      let q = said (λ p. p.seq) body in
-      let long = long_with s.windows (place_of s.nodes id) q in
-      elim (cases_Bool (id == src)) [
-        | inl t ↦
-            let same : id ≡ src = eqb-true id src t in
-            let here = ap (λ (x : ℕ). window_at (windows_with s.windows (place_of s.nodes x) q) (place_of s.nodes src)) same
-            ∙ mark_here s.windows s.nodes src q h.long there in
-            rw t (record { nodes = refl; long = long; window = here })
-        | inr t ↦
-            let other : id ≡ src → ⊥ = λ same. absurd (let wrong : true ≡ false = sym (eq-eqb id src same) ∙ t in cc) in
-            rw t (record { nodes = refl; long = long; window = mark_there s.windows s.nodes id src q other })
-      ]
-
-  admitted : (s : PrioState) (o : Kept) (came : Option NodeId) → HasWindows s → is_node s.nodes src ≡ true
-      → Marks src s (cond (said (λ p. p.src.0) o.body == src) (Some (said (λ p. p.seq) o.body) ∷ []) []) (admit_prio s o came)
-  admitted s o came h there =
-      let qs = cond (said (λ p. p.src.0) o.body == src) (Some (said (λ p. p.seq) o.body) ∷ []) [] in
-      subst (λ (xs : List (Option ℕ)). Marks src s xs (admit_prio s o came)) (append-nil qs)
-      (on s (marked s o.body came) (admit_prio s o came) qs [] (marked_marks s o.body came h there) (spread_marks (marked s o.body came) o came))
-
-  number_is : (s : PrioState) (body : Body) (now : ℕ) → judge_prio s body now ≡ judged.New
-      → cond (said (λ p. p.src.0) body == src) (Some (said (λ p. p.seq) body) ∷ []) [] ≡ number_of src body
-  number_is s (bodies.Prio p) now new = refl
-  number_is s (bodies.Rel r) now new = absurd (cc)
-  number_is s (bodies.Ack a) now new = absurd (cc)
-  number_is s (bodies.Weight u) now new = absurd (cc)
-  number_is s (bodies.Krel u) now new = absurd (cc)
-  number_is s (bodies.Kack u) now new = absurd (cc)
-  number_is s (bodies.Epoch u) now new = absurd (cc)
-
-  -- what else is new has no such number
-  ack_number : (r : RelState) (flow : Flow) (body : Body) → judge_ack_of r flow body ≡ acks.New → number_of src body ≡ []
-  ack_number r flow (bodies.Ack a) new = refl
-  ack_number r flow (bodies.Prio p) new = absurd (cc)
-  ack_number r flow (bodies.Rel m) new = refl
-  ack_number r flow (bodies.Weight u) new = refl
-  ack_number r flow (bodies.Krel u) new = refl
-  ack_number r flow (bodies.Kack u) new = refl
-  ack_number r flow (bodies.Epoch u) new = absurd (cc)
-
-  rel_number_of : (r : RelState) (flow : Flow) (body : Body) → judge_rel_of r flow body ≡ rels.New → number_of src body ≡ []
-  rel_number_of r flow (bodies.Ack a) new = refl
-  rel_number_of r flow (bodies.Prio p) new = absurd (cc)
-  rel_number_of r flow (bodies.Rel m) new = refl
-  rel_number_of r flow (bodies.Weight u) new = refl
-  rel_number_of r flow (bodies.Krel u) new = refl
-  rel_number_of r flow (bodies.Kack u) new = refl
-  rel_number_of r flow (bodies.Epoch u) new = absurd (cc)
-
-  weight_number_of : (me : NodeId) (w : WeightState) (body : Body) → offer_to me w body ≡ offers.New → number_of src body ≡ []
-  weight_number_of me w (bodies.Ack a) new = refl
-  weight_number_of me w (bodies.Prio p) new = absurd (cc)
-  weight_number_of me w (bodies.Rel m) new = refl
-  weight_number_of me w (bodies.Weight u) new = refl
-  weight_number_of me w (bodies.Krel u) new = refl
-  weight_number_of me w (bodies.Kack u) new = refl
-  weight_number_of me w (bodies.Epoch u) new = absurd (cc)
-
-  -- ---- a datagram
-
-  abbrev told : List (Kept × Item) → List (Option ℕ)
-  told answered = flat_map (mark_told src) answered
-
-  -- another life of a source began
-  renewed_marks : (s : PrioState) (id : ℕ) → HasWindows s → is_node s.nodes src ≡ true → Marks src s (cond (id == src) (None ∷ []) []) (prio.renewed s id)
-  renewed_marks s id h there =
-      let long = long_less s.windows (place_of s.nodes id) in
-      elim (cases_Bool (id == src)) [
-        | inl t ↦
-            let same : id ≡ src = eqb-true id src t in
-            let here = ap (λ (x : ℕ). window_at (windows_less s.windows (place_of s.nodes x)) (place_of s.nodes src)) same
-            ∙ less_here s.windows s.nodes src h.long there in
-            rw t (record { nodes = refl; long = long; window = here })
-        | inr t ↦
-            let other : id ≡ src → ⊥ = λ same. absurd (let wrong : true ≡ false = sym (eq-eqb id src same) ∙ t in cc) in
-            rw t (record { nodes = refl; long = long; window = less_there s.windows s.nodes id src other })
-      ]
-
-  began : (body : Body) → IsEpochOf (origin_said body) body → cond ((origin_said body).0 == src) (None ∷ []) [] ≡ number_of src body
-  began (bodies.Epoch e) is = refl
-  began (bodies.Prio p) is = absurd is
-  began (bodies.Rel p) is = absurd is
-  began (bodies.Ack p) is = absurd is
-  began (bodies.Weight p) is = absurd is
-  began (bodies.Krel p) is = absurd is
-  began (bodies.Kack p) is = absurd is
-
-  one_told : (o : Kept) (item : Item) → told ((o, item) ∷ []) ≡ cond (is_new item) (number_of src o.body) []
-  one_told o item = append-nil (mark_told src (o, item))
-
-  unmarked : (p : Parts) (o : Kept) (item : Item) (new old : Parts) → new.prio ≡ p.prio → old.prio ≡ p.prio → (is_new item ≡ true → number_of src o.body ≡ [])
-      → Marks src p.prio (told ((o, item) ∷ [])) (cond (is_new item) new old).prio
-  unmarked p o item new old one two number = elim (cases_Bool (is_new item)) [
-    | inl t ↦
-        let qs : told ((o, item) ∷ []) ≡ [] = one_told o item ∙ rw t (number t) in
-        subst (λ (xs : List (Option ℕ)). Marks src p.prio xs (cond (is_new item) new old).prio) (sym qs)
-        (rw t (subst (λ (s : PrioState). Marks src p.prio [] s) (sym one) (none p.prio p.prio refl refl)))
-    | inr t ↦
-        let qs : told ((o, item) ∷ []) ≡ [] = one_told o item ∙ rw t refl in
-        subst (λ (xs : List (Option ℕ)). Marks src p.prio xs (cond (is_new item) new old).prio) (sym qs)
-        (rw t (subst (λ (s : PrioState). Marks src p.prio [] s) (sym two) (none p.prio p.prio refl refl)))
-  ]
-
-  heard : (answer : PrioAnswer) (v : NodeId) (number : ℕ) (p : Parts) → Marks src p.prio [] (heard_where answer v number p).prio
-  heard prios.New v number p = none p.prio (prio.heard p.prio v.0 number) refl refl
-  heard prios.Seen v number p = none p.prio (prio.heard p.prio v.0 number) refl refl
-  heard prios.BadEnd v number p = none p.prio p.prio refl refl
-  heard prios.Expired v number p = none p.prio p.prio refl refl
-  heard prios.BadSig v number p = none p.prio p.prio refl refl
-  heard prios.Epoch v number p = none p.prio p.prio refl refl
-
-  one_piece : (arts : Arts) (at : Arrival) (p : Parts) (piece : Piece) → HasWindows p.prio → is_node p.prio.nodes src ≡ true
-      → Marks src p.prio (told (handle arts at p piece).answered) (handle arts at p piece).parts.prio
-  one_piece arts at p (WeightPiece o) h there =
-      let right = is_signed arts at.fixed o in
-      let offer = offer_to at.fixed.me p.weights o.body in
-      unmarked p o (items.Weight (weight_answer right offer)) (record p { weights = held p.weights o }) p refl refl
-      (λ new. weight_number_of at.fixed.me p.weights o.body (new_weight right offer new).1)
-  one_piece arts at p (PrioAckPiece number) h there = none p.prio (prio.acked p.prio at.from.0 number) refl refl
-  one_piece arts at p (PrioPiece number o) h there =
-      let right = is_signed arts at.fixed o in
-      let answer = prio_answer right (is_dated p.lives o.body) (judge_prio p.prio o.body at.now) in
-      let new = record p { prio = admit_prio p.prio o (Some at.from) } in
-      let t = is_new (items.Prio answer) in
-      let qs = told ((o, items.Prio answer) ∷ []) in
-      let first : Marks src p.prio qs (cond t new p).prio =
-      elim (cases_Bool t) [
-        | inl is ↦
-            let judge = (new_prio right (is_dated p.lives o.body) (judge_prio p.prio o.body at.now) is).1 in
-            let same : cond (said (λ p. p.src.0) o.body == src) (Some (said (λ p. p.seq) o.body) ∷ []) [] ≡ qs =
-            number_is p.prio o.body at.now judge ∙ sym (one_told o (items.Prio answer) ∙ rw is refl) in
-            subst (λ (xs : List (Option ℕ)). Marks src p.prio xs (cond t new p).prio) same (rw is (admitted p.prio o (Some at.from) h there))
-        | inr is ↦
-            let same : [] ≡ qs = sym (one_told o (items.Prio answer) ∙ rw is refl) in
-            subst (λ (xs : List (Option ℕ)). Marks src p.prio xs (cond t new p).prio) same (rw is (none p.prio p.prio refl refl))
-      ] in
-      subst (λ (xs : List (Option ℕ)). Marks src p.prio xs (heard_where answer at.from number (cond t new p)).prio) (append-nil qs)
-      (on p.prio (cond t new p).prio (heard_where answer at.from number (cond t new p)).prio qs [] first (heard answer at.from number (cond t new p)))
-  one_piece arts at p (ReportPiece flow sboot dboot base have) h there = by (are_held p.lives flow sboot dboot)
-    where
-      by : (t : Bool) → Marks src p.prio [] (reported_where t at.from flow base have p).prio
-      by true = none p.prio p.prio refl refl
-      by false = none p.prio p.prio refl refl
-  one_piece arts at p (AckPiece flow o) h there =
-      let right = is_signed arts at.fixed o in
-      unmarked p o (items.Ack (ack_answer right (is_dated p.lives o.body) (judge_ack_of p.rel flow o.body))) (record p { rel = admit_ack p.rel o }) p refl refl
-      (λ new. ack_number p.rel flow o.body (new_ack right (is_dated p.lives o.body) (judge_ack_of p.rel flow o.body) new).1)
-  one_piece arts at p (RelPiece flow o) h there =
-      let right = is_signed arts at.fixed o in
-      unmarked p o (items.Rel (rel_answer right (is_dated p.lives o.body) (judge_rel_of p.rel flow o.body))) (record p { rel = admit_rel p.rel o }) p refl refl
-      (λ new. rel_number_of p.rel flow o.body (new_rel right (is_dated p.lives o.body) (judge_rel_of p.rel flow o.body) new).1)
-  one_piece arts at p (EpochPiece o) h there =
-      let right = is_signed arts at.fixed o in
-      let judge = judge_epoch at.fixed.me p.lives o.body in
-      let item = items.Epoch (epoch_answer right judge) in
-      elim (cases_Bool (is_new item)) [
-        | inl t ↦
-            let start = new_epoch at.fixed.me p.lives o.body (new_start right judge t).1 in
-            let qs : cond ((origin_said o.body).0 == src) (None ∷ []) [] ≡ told ((o, item) ∷ []) = began o.body start ∙ sym (one_told o item ∙ rw t refl) in
-            subst (λ (xs : List (Option ℕ)). Marks src p.prio xs (cond (is_new item) (met p o) p).prio) qs
-            (rw t (renewed_marks p.prio (origin_said o.body).0 h there))
-        | inr t ↦
-            let qs : [] ≡ told ((o, item) ∷ []) = sym (one_told o item ∙ rw t refl) in
-            subst (λ (xs : List (Option ℕ)). Marks src p.prio xs (cond (is_new item) (met p o) p).prio) qs (rw t (none p.prio p.prio refl refl))
-      ]
-
-  greeted_marks : (epochs risen : Bool) (v : NodeId) (p : Parts) → Marks src p.prio [] (greeted epochs risen v p).prio
-  greeted_marks true true v p = none p.prio (prio.unheard p.prio v.0) refl refl
-  greeted_marks true false v p = none p.prio p.prio refl refl
-  greeted_marks false risen v p = none p.prio p.prio refl refl
-
-  all_pieces : (arts : Arts) (at : Arrival) (p : Parts) (pieces : List Piece) → HasWindows p.prio → is_node p.prio.nodes src ≡ true
-      → Marks src p.prio (told (handle_all arts at p pieces).answered) (handle_all arts at p pieces).parts.prio
-  all_pieces arts at p [] h there = none p.prio p.prio refl refl
-  all_pieces arts at p (piece ∷ pieces) h there =
-      let first = handle arts at p piece in
-      let others = handle_all arts at first.parts pieces in
-      let one = one_piece arts at p piece h there in
-      let rest = all_pieces arts at first.parts pieces (windows_on p.prio first.parts.prio (told first.answered) one h)
-      (ap (λ (ns : List NodeId). is_node ns src) one.nodes ∙ there) in
-      subst (λ (xs : List (Option ℕ)). Marks src p.prio xs others.parts.prio) (sym (flat_map-append (mark_told src) first.answered others.answered))
-      (on p.prio first.parts.prio others.parts.prio (told first.answered) (told others.answered) one rest)
-
   -- ---- each step
 
   abbrev Done : NodeState → Input → Output → NodeState → Type 0
@@ -292,7 +53,14 @@ module _ (src : ℕ) where
 
   -- a document leaves the windows
   adopted_marks : (n : NodeState) (bytes : List ℕ) (t : Topology) → Marks src n.parts.prio [] (under_topology n bytes t).parts.prio
-  adopted_marks n bytes t = none n.parts.prio (under_topology n bytes t).parts.prio refl refl
+  adopted_marks n bytes t = none src n.parts.prio (under_topology n bytes t).parts.prio refl refl
+
+  -- an acknowledgement that is signed marks nothing
+  settled_marks : (arts : Arts) (kind : FlowKind) (n : NodeState) (a : Option Ack) (r : Option SendRefused)
+      → Marks src n.parts.prio [] (settled_by arts kind n a r).parts.prio
+  settled_marks arts kind n None r = none src n.parts.prio n.parts.prio refl refl
+  settled_marks arts kind n (Some ack) (Some refusal) = none src n.parts.prio n.parts.prio refl refl
+  settled_marks arts kind n (Some ack) None = beside src kind (settled (flows_of kind n.parts) (signed_now arts n (ack_body kind ack))) n.parts
 
   step_marks : (arts : Arts) (n : NodeState) (input : Input) (output : Output) (new : NodeState) → NodeStep arts n input output new
       → HasWindows n.parts.prio → is_node n.parts.prio.nodes src ≡ true → Done n input output new
@@ -304,8 +72,8 @@ module _ (src : ℕ) where
       go : (r : Option NodeRefused) → Done n (Poll v) (refused_call r (replied (Frame (frame_to arts n v)))) (kept_or r n done)
       go None =
           cond_either (λ (p : Parts). Marks src n.parts.prio [] p.prio) (is_served n v) (polled n.fixed n.parts v) n.parts
-          (none n.parts.prio (polled n.fixed n.parts v).prio refl refl) (none n.parts.prio n.parts.prio refl refl)
-      go (Some refused) = none n.parts.prio n.parts.prio refl refl
+          (none src n.parts.prio (polled n.fixed n.parts v).prio refl refl) (none src n.parts.prio n.parts.prio refl refl)
+      go (Some refused) = none src n.parts.prio n.parts.prio refl refl
   step_marks arts n (Datagram v bytes) output new s h there = by n (Datagram v bytes) output _ new _ s.0 s.1 (go (call_refusal n v))
     where
       left : NodeState
@@ -318,23 +86,23 @@ module _ (src : ℕ) where
       met_at = parts_met arts n v bytes
 
       greeting : Marks src n.parts.prio [] met_at.prio
-      greeting = greeted_marks n.fixed.epochs (rises arts n v bytes) v n.parts
+      greeting = greeted_marks src n.fixed.epochs (rises arts n v bytes) v n.parts
 
       go : (r : Option NodeRefused) → Done n (Datagram v bytes) (refused_call r (arrived arts n v bytes)) (kept_or r n done)
       go None =
-          on n.parts.prio left.parts.prio done.parts.prio (told (handled arts n v bytes).answered) []
-          (on n.parts.prio met_at.prio left.parts.prio [] (told (handled arts n v bytes).answered) greeting
-          (all_pieces arts (arrival_at n v) met_at (pieces_where (reply_at arts n v bytes) (pieces_in n.fixed (sections_in arts n.fixed bytes)))
-          (windows_on n.parts.prio met_at.prio [] greeting h) (ap (λ (ns : List NodeId). is_node ns src) greeting.nodes ∙ there)))
+          on src n.parts.prio left.parts.prio done.parts.prio (told src (handled arts n v bytes).answered) []
+          (on src n.parts.prio met_at.prio left.parts.prio [] (told src (handled arts n v bytes).answered) greeting
+          (all_pieces src arts (arrival_at n v) met_at (pieces_where (reply_at arts n v bytes) (pieces_in n.fixed (sections_in arts n.fixed bytes)))
+          (windows_on src n.parts.prio met_at.prio [] greeting h) (ap (λ (ns : List NodeId). is_node ns src) greeting.nodes ∙ there)))
           (reading arts left (document_at arts n v bytes) (λ m caused. Marks src left.parts.prio [] m.parts.prio)
-          (none left.parts.prio left.parts.prio refl refl) (λ document d is reads by. adopted_marks left document d.topology))
-      go (Some refused) = none n.parts.prio n.parts.prio refl refl
-  step_marks arts n (Tick now) output new s h there = by n (Tick now) output _ new _ s.0 s.1 (go (due_now n) (signer_refusal n.signer))
-    where
-      go : (a : Option Ack) (r : Option SendRefused) → Marks src n.parts.prio [] (settled_by arts (at_time n now) a r).parts.prio
-      go None r = none n.parts.prio (at_time n now).parts.prio refl refl
-      go (Some ack) (Some refusal) = none n.parts.prio (at_time n now).parts.prio refl refl
-      go (Some ack) None = none n.parts.prio (at_time n now).parts.prio refl refl
+          (none src left.parts.prio left.parts.prio refl refl) (λ document d is reads by. adopted_marks left document d.topology))
+      go (Some refused) = none src n.parts.prio n.parts.prio refl refl
+  step_marks arts n (Tick now) output new s h there =
+      by n (Tick now) output _ new _ s.0 s.1
+      (on src n.parts.prio (after_plain arts n now).parts.prio (after_tick arts n now).parts.prio [] []
+      (on src n.parts.prio (at_time n now).parts.prio (after_plain arts n now).parts.prio [] [] (none src n.parts.prio (at_time n now).parts.prio refl refl)
+      (settled_marks arts Plain (at_time n now) (due_now Plain n) (signer_refusal n.signer)))
+      (settled_marks arts Paths (after_plain arts n now) (due_now Paths n) (second_refusal arts n now)))
   step_marks arts n (SendRel dst payload) output new s h there = by n (SendRel dst payload) output _ new _ s.0 s.1 (go (rel_refusal n dst))
     where
       done : NodeState
@@ -342,16 +110,16 @@ module _ (src : ℕ) where
 
       go : (r : Option SendRefused)
           → Done n (SendRel dst payload) (refused_send r (accepted (rel_number n dst) (rel_sent arts n dst payload))) (kept_or r n done)
-      go None = none n.parts.prio n.parts.prio refl refl
-      go (Some refused) = none n.parts.prio n.parts.prio refl refl
+      go None = none src n.parts.prio n.parts.prio refl refl
+      go (Some refused) = none src n.parts.prio n.parts.prio refl refl
   step_marks arts n (SendPrio m) output new s h there = by n (SendPrio m) output _ new _ s.output_is s.new_is (go (send_prio_refusal n m s.choice))
     where
       done : NodeState
       done = signed_once n (record n.parts { prio = admit_prio n.parts.prio (own_prio arts n m s.choice) None })
 
       go : (r : Option SendRefused) → Done n (SendPrio m) (refused_send r (accepted n.parts.prio.next (prio_sent arts n m s.choice))) (kept_or r n done)
-      go None = admitted n.parts.prio (own_prio arts n m s.choice) None h there
-      go (Some refused) = none n.parts.prio n.parts.prio refl refl
+      go None = admitted src n.parts.prio (own_prio arts n m s.choice) None h there
+      go (Some refused) = none src n.parts.prio n.parts.prio refl refl
   step_marks arts n (SetWeight v weight) output new s h there = by n (SetWeight v weight) output _ new _ s.0 s.1 (go (weight_refusal n v weight))
     where
       done : NodeState
@@ -359,13 +127,23 @@ module _ (src : ℕ) where
 
       go : (r : Option SendRefused)
           → Done n (SetWeight v weight) (refused_send r (accepted (weight_number n v) (weight_sent arts n v weight))) (kept_or r n done)
-      go None = none n.parts.prio n.parts.prio refl refl
-      go (Some refused) = none n.parts.prio n.parts.prio refl refl
-  step_marks arts n (TakeRel from) output new s h there = by n (TakeRel from) output _ new _ s.0 s.1 (none n.parts.prio n.parts.prio refl refl)
-  step_marks arts n TakePrio output new s h there = by n TakePrio output _ new _ s.0 s.1 (none n.parts.prio (prio.taken n.parts.prio) refl refl)
+      go None = none src n.parts.prio n.parts.prio refl refl
+      go (Some refused) = none src n.parts.prio n.parts.prio refl refl
+  step_marks arts n (TakeRel from) output new s h there = by n (TakeRel from) output _ new _ s.0 s.1 (none src n.parts.prio n.parts.prio refl refl)
+  step_marks arts n (SendKrel m) output new s h there = by n (SendKrel m) output _ new _ s.output_is s.new_is (go (send_krel_refusal n m s.choice))
+    where
+      done : NodeState
+      done = signed_once n (record n.parts { kflow = pushed n.parts.kflow (signed_now arts n (krel_sends n m s.choice)) m.paths })
+
+      go : (r : Option SendRefused)
+          → Done n (SendKrel m) (refused_send r (accepted (krel_number n m.dst) (krel_sent arts n m s.choice))) (kept_or r n done)
+      go None = none src n.parts.prio n.parts.prio refl refl
+      go (Some refused) = none src n.parts.prio n.parts.prio refl refl
+  step_marks arts n (TakeKrel from) output new s h there = by n (TakeKrel from) output _ new _ s.0 s.1 (none src n.parts.prio n.parts.prio refl refl)
+  step_marks arts n TakePrio output new s h there = by n TakePrio output _ new _ s.0 s.1 (none src n.parts.prio (prio.taken n.parts.prio) refl refl)
   step_marks arts n (Publish document) output new s h there =
       by n (Publish document) output _ new _ s.0 s.1
-      (publishing arts n document (λ m caused. Marks src n.parts.prio [] m.parts.prio) (none n.parts.prio n.parts.prio refl refl)
+      (publishing arts n document (λ m caused. Marks src n.parts.prio [] m.parts.prio) (none src n.parts.prio n.parts.prio refl refl)
       (λ d reads is. adopted_marks n document d.topology))
 
   -- ---- a life
@@ -373,14 +151,14 @@ module _ (src : ℕ) where
   life_marks : (arts : Arts) (n : NodeState) (steps : List (Input × Output)) (last : NodeState) → Life arts n steps last → HasWindows n.parts.prio
       → is_node n.parts.prio.nodes src ≡ true → Marks src n.parts.prio (marks_of_life n.fixed.me.0 src steps) last.parts.prio
   life_marks arts n [] last life h there =
-      subst (λ (m : NodeState). Marks src n.parts.prio [] m.parts.prio) (sym life) (none n.parts.prio n.parts.prio refl refl)
+      subst (λ (m : NodeState). Marks src n.parts.prio [] m.parts.prio) (sym life) (none src n.parts.prio n.parts.prio refl refl)
   life_marks arts n (step ∷ steps) last life h there =
       let next = life.0 in
       let me : next.fixed.me.0 ≡ n.fixed.me.0 = ap (λ (x : Shape). x.fixed.me.0) (shapes_stay arts n step.0 step.1 next life.1) in
       let one = step_marks arts n step.0 step.1 next life.1 h there in
-      let rest = life_marks arts next steps last life.2 (windows_on n.parts.prio next.parts.prio _ one h)
+      let rest = life_marks arts next steps last life.2 (windows_on src n.parts.prio next.parts.prio _ one h)
       (ap (λ (ns : List NodeId). is_node ns src) one.nodes ∙ there) in
-      on n.parts.prio next.parts.prio last.parts.prio (marks_told n.fixed.me.0 src step.0 step.1) (marks_of_life n.fixed.me.0 src steps) one
+      on src n.parts.prio next.parts.prio last.parts.prio (marks_told n.fixed.me.0 src step.0 step.1) (marks_of_life n.fixed.me.0 src steps) one
       (subst (λ (id : ℕ). Marks src next.parts.prio (marks_of_life id src steps) last.parts.prio) me rest)
 
 pub windows_of_lives : WindowsOfLives

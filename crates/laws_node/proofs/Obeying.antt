@@ -19,9 +19,10 @@ use Rattle.sp_rules.specs.Answers.{ack_answer, epoch_answer, is_new, prio_answer
 use Rattle.sp_rules.specs.Arrivals.{greeted}
 use Rattle.sp_rules.specs.Arts.{Arts}
 use Rattle.sp_rules.specs.Flow.{FlowState, acknowledged_by, ends, flow_said, is_flow, no_flow, pushed, received}
-use Rattle.sp_rules.specs.Handle.{Arrival, handle, handle_all, heard_where, met, offer_to}
+use Rattle.sp_rules.specs.Handle.{Arrival, ack_item, handle, handle_all, heard_where, met, offer_to, rel_item}
+use Rattle.sp_rules.specs.Kflow.{came_over}
 use Rattle.sp_rules.specs.Lives.{are_held, is_dated, judge_epoch, origin_said}
-use Rattle.sp_rules.specs.Parts.{Parts, is_signed}
+use Rattle.sp_rules.specs.Parts.{Parts, flows_of, is_signed, with_flows}
 use Rattle.sp_rules.specs.Pieces.{Piece, WeightPiece, PrioAckPiece, PrioPiece, ReportPiece, AckPiece, RelPiece, EpochPiece}
 use Rattle.sp_rules.specs.Prio.{PrioState, is_node, is_there}
 use Rattle.sp_rules.specs.Prio as prio
@@ -35,6 +36,8 @@ use Rattle.sp_rules.specs.declared.answers.Item.TheVariants as items
 use Rattle.sp_rules.specs.declared.answers.PrioAnswer.{PrioAnswer}
 use Rattle.sp_rules.specs.declared.answers.PrioAnswer.TheVariants as prios
 use Rattle.sp_rules.specs.Weights.{held}
+use Rattle.sp_rules.specs.declared.kflow.FlowKind.{FlowKind}
+use Rattle.sp_rules.specs.declared.kflow.FlowKind.TheVariants.{Plain, Paths}
 use Rattle.sp_rules.specs.declared.rel.AckJudged.TheVariants as acks
 use Rattle.sp_rules.specs.declared.rel.RelJudged.TheVariants as rels
 use Rattle.sp_rules.specs.declared.prio.PrioJudged.{PrioJudged}
@@ -298,16 +301,21 @@ module _ (weights : List ℕ) (gone : List NodeId) where
   Whole p = PartsObey weights gone p
 
   pub of_prio : (p : Parts) (s : PrioState) → PrioObeys s → Whole p → Whole (record p { prio = s })
-  of_prio p s k h = record { least = h.least; prio = k.known; rows = k.rows_are; rel = h.rel; flows = h.flows }
+  of_prio p s k h =
+      record { least = h.least; prio = k.known; rows = k.rows_are; rel = h.rel; flows = h.flows; kflow = h.kflow; on_paths = h.on_paths }
 
-  pub of_rel : (p : Parts) (r : RelState) → RelObeys r → Whole p → Whole (record p { rel = r })
-  of_rel p r k h = record { least = h.least; prio = h.prio; rows = h.rows; rel = k.known; flows = k.flows_are }
+  pub of_flows : (kind : FlowKind) (p : Parts) (r : RelState) → RelObeys r → Whole p → Whole (with_flows kind r p)
+  of_flows Plain p r k h =
+      record { least = h.least; prio = h.prio; rows = h.rows; rel = k.known; flows = k.flows_are; kflow = h.kflow; on_paths = h.on_paths }
+  of_flows Paths p r k h =
+      record { least = h.least; prio = h.prio; rows = h.rows; rel = h.rel; flows = h.flows; kflow = k.known; on_paths = k.flows_are }
 
   pub prio_part : (p : Parts) → Whole p → PrioObeys p.prio
   prio_part p h = record { known = h.prio; rows_are = h.rows }
 
-  pub rel_part : (p : Parts) → Whole p → RelObeys p.rel
-  rel_part p h = record { known = h.rel; flows_are = h.flows }
+  pub flows_part : (kind : FlowKind) (p : Parts) → Whole p → RelObeys (flows_of kind p)
+  flows_part Plain p h = record { known = h.rel; flows_are = h.flows }
+  flows_part Paths p h = record { known = h.kflow; flows_are = h.on_paths }
 
   where_new_obeys : (t : Bool) (new old : Parts) → (t ≡ true → Whole new) → Whole old → Whole (cond t new old)
   where_new_obeys true new old n o = n refl
@@ -315,13 +323,14 @@ module _ (weights : List ℕ) (gone : List NodeId) where
 
   met_obeys : (p : Parts) (o : Kept) → Whole p → Whole (met p o)
   met_obeys p o h =
-      let r = restarted_obeys p.rel (origin_said o.body) (rel_part p h) in
-      record { least = h.least; prio = h.prio; rows = h.rows; rel = r.known; flows = r.flows_are }
+      let r = restarted_obeys p.rel (origin_said o.body) (flows_part Plain p h) in
+      let f = restarted_obeys p.kflow.flows (origin_said o.body) (flows_part Paths p h) in
+      record { least = h.least; prio = h.prio; rows = h.rows; rel = r.known; flows = r.flows_are; kflow = f.known; on_paths = f.flows_are }
 
   pub greeted_obeys : (epochs risen : Bool) (v : NodeId) (p : Parts) → Whole p → Whole (greeted epochs risen v p)
   greeted_obeys true true v p h =
       let q = one_peer p.prio v.0 rows.unheard (λ x k. record { shut = k.shut; empty = k.empty; ends = k.ends }) (prio_part p h) in
-      record { least = h.least; prio = q.known; rows = q.rows_are; rel = h.rel; flows = h.flows }
+      record { least = h.least; prio = q.known; rows = q.rows_are; rel = h.rel; flows = h.flows; kflow = h.kflow; on_paths = h.on_paths }
   greeted_obeys true false v p h = h
   greeted_obeys false risen v p h = h
 
@@ -338,7 +347,8 @@ module _ (weights : List ℕ) (gone : List NodeId) where
   piece_obeys : (arts : Arts) (at : Arrival) (p : Parts) (x : Piece) → Whole p → Whole (handle arts at p x).parts
   piece_obeys arts at p (WeightPiece o) h =
       where_new_obeys (is_new (items.Weight (weight_answer (is_signed arts at.fixed o) (offer_to at.fixed.me p.weights o.body))))
-      (record p { weights = held p.weights o }) p (λ new. record { least = h.least; prio = h.prio; rows = h.rows; rel = h.rel; flows = h.flows }) h
+      (record p { weights = held p.weights o }) p
+      (λ new. record { least = h.least; prio = h.prio; rows = h.rows; rel = h.rel; flows = h.flows; kflow = h.kflow; on_paths = h.on_paths }) h
   piece_obeys arts at p (PrioAckPiece number) h =
       of_prio p (prio.acked p.prio at.from.0 number) (one_peer p.prio at.from.0 (λ q. rows.acked q number) (acked_obeys number) (prio_part p h)) h
   piece_obeys arts at p (PrioPiece number o) h =
@@ -351,21 +361,25 @@ module _ (weights : List ℕ) (gone : List NodeId) where
       (where_new_obeys (is_new (items.Prio answer)) admitted p
       (λ new. of_prio p (prio.admit_prio p.prio o (Some at.from)) (admitted_obeys p.prio o (Some at.from)
       (new_between p.prio o at.now (prio_part p h) (new_prio right dated j new).1) (prio_part p h)) h) h)
-  piece_obeys arts at p (ReportPiece flow sboot dboot base have) h =
-      where_new_obeys (are_held p.lives flow sboot dboot) (record p { rel = rel.reported p.rel at.from flow base have }) p
-      (λ dated. of_rel p (rel.reported p.rel at.from flow base have) (reported_obeys p.rel at.from flow base have (rel_part p h)) h) h
-  piece_obeys arts at p (AckPiece flow o) h =
+  piece_obeys arts at p (ReportPiece kind flow sboot dboot base have) h =
+      let r = rel.reported (flows_of kind p) at.from flow base have in
+      where_new_obeys (are_held p.lives flow sboot dboot) (with_flows kind r p) p
+      (λ dated. of_flows kind p r (reported_obeys (flows_of kind p) at.from flow base have (flows_part kind p h)) h) h
+  piece_obeys arts at p (AckPiece kind flow o) h =
       let right = is_signed arts at.fixed o in
       let dated = is_dated p.lives o.body in
-      let j = rel.judge_ack_of p.rel flow o.body in
-      where_new_obeys (is_new (items.Ack (ack_answer right dated j))) (record p { rel = rel.admit_ack p.rel o }) p
-      (λ new. of_rel p (rel.admit_ack p.rel o) (ack_obeys p.rel flow o (rel_part p h) (new_ack right dated j new).1) h) h
-  piece_obeys arts at p (RelPiece flow o) h =
+      let r = flows_of kind p in
+      let j = rel.judge_ack_of r flow o.body in
+      where_new_obeys (is_new (ack_item kind (ack_answer right dated j))) (with_flows kind (rel.admit_ack r o) p) p
+      (λ new. of_flows kind p (rel.admit_ack r o) (ack_obeys r flow o (flows_part kind p h) (new_ack kind right dated j new).1) h) h
+  piece_obeys arts at p (RelPiece kind flow o) h =
       let right = is_signed arts at.fixed o in
       let dated = is_dated p.lives o.body in
-      let j = rel.judge_rel_of p.rel flow o.body in
-      where_new_obeys (is_new (items.Rel (rel_answer right dated j))) (record p { rel = rel.admit_rel p.rel o }) p
-      (λ new. of_rel p (rel.admit_rel p.rel o) (rel_obeys p.rel flow o (rel_part p h) (new_rel right dated j new).1) h) h
+      let over = came_over p.kflow at.from o.body in
+      let r = flows_of kind p in
+      let j = rel.judge_rel_of r flow o.body in
+      where_new_obeys (is_new (rel_item kind (rel_answer right dated over j))) (with_flows kind (rel.admit_rel r o) p) p
+      (λ new. of_flows kind p (rel.admit_rel r o) (rel_obeys r flow o (flows_part kind p h) (new_rel kind right dated over j new).1) h) h
   piece_obeys arts at p (EpochPiece o) h =
       where_new_obeys (is_new (items.Epoch (epoch_answer (is_signed arts at.fixed o) (judge_epoch at.fixed.me p.lives o.body)))) (met p o) p
       (λ new. met_obeys p o h) h

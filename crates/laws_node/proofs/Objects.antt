@@ -19,9 +19,9 @@ one : (arts : Arts) (at : Arrival) (p : Parts) (piece : Piece) → firsts (handl
 one arts at p (WeightPiece o) = refl
 one arts at p (PrioAckPiece number) = refl
 one arts at p (PrioPiece number o) = refl
-one arts at p (ReportPiece flow sboot dboot base have) = refl
-one arts at p (AckPiece flow o) = refl
-one arts at p (RelPiece flow o) = refl
+one arts at p (ReportPiece kind flow sboot dboot base have) = refl
+one arts at p (AckPiece kind flow o) = refl
+one arts at p (RelPiece kind flow o) = refl
 one arts at p (EpochPiece o) = refl
 
 pub objects_are_answered : ObjectsAreAnswered

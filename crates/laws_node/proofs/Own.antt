@@ -8,7 +8,7 @@ use Rattle.sp_base.specs.Cursor.{or_else}
 use Rattle.sp_base.specs.Formats.{max_edges}
 use Rattle.sp_base.specs.declared.id.Flow.{Flow}
 use Rattle.sp_base.specs.declared.id.NodeId.{NodeId}
-use Rattle.sp_base.specs.declared.limits.TheConstants.{MAX_PAYLOAD_BYTES, MAX_WEIGHT}
+use Rattle.sp_base.specs.declared.limits.TheConstants.{MAX_PAYLOAD_BYTES, MAX_SEQ, MAX_WEIGHT}
 use Rattle.sp_msg.proofs.GoodFields.{GoodMask, prio_is_good, rel_is_good, weight_is_good}
 use Rattle.sp_msg.specs.Bodies.{HasGoodFieldsIn}
 use Rattle.sp_msg.specs.Masks.{mask_from}
@@ -22,23 +22,27 @@ use Rattle.sp_rules.proofs.FlowJudged.{both_nodes, found_ends, room_is}
 use Rattle.sp_rules.specs.Arts.{Arts}
 use Rattle.sp_rules.specs.Masks.{Choice, IsChoice, Mask, OnlyPaths, graph_of}
 use Rattle.sp_rules.specs.Node.{NodeState, Signer, signed_now}
-use Rattle.sp_rules.specs.Parts.{edge_to, is_signed, is_signed_by}
+use Rattle.sp_rules.specs.Parts.{Fixed, edge_to, flows_of, is_signed, is_signed_by}
 use Rattle.sp_rules.specs.Prio.{PrioState, is_node, is_there}
 use Rattle.sp_rules.specs.Rel as rel
 use Rattle.sp_rules.specs.Rel.{IsNextOwn, RelState, flow_in, own_flow, room}
 use Rattle.sp_rules.specs.Sends.{PrioSend, edge_or, is_unmet, mask_in, no_life, no_paths, no_room, prio_body, prio_of, prio_refusal, rel_body, rel_of}
 use Rattle.sp_rules.specs.Sends.{rel_refusal, send_prio_refusal, signer_refusal, weight_body, weight_refusal, weight_refusal_at}
 use Rattle.sp_rules.specs.Weights.{is_withdrawn, minimum, next_seq, row_for, row_in}
+use Rattle.sp_rules.specs.declared.kflow.FlowKind.{FlowKind}
+use Rattle.sp_rules.specs.declared.kflow.FlowKind.TheVariants.{Plain}
 use Rattle.sp_rules.specs.declared.rel.RelRefused.{RelRefused}
 use Rattle.sp_rules.specs.declared.rel.RelRefused.TheVariants as rels
 use Rattle.sp_rules.specs.declared.weights.TheConstants.{MAX_OWN_HEARD}
 use Rattle.sp_topology.specs.Neighbours.{joins}
 use Rattle.sp_topology.specs.Keys.{key_of}
 use Rattle.sp_topology.specs.declared.topology.Edge.{Edge}
+use Rattle.laws_node.specs.Flows.{FlowHolds}
 use Rattle.laws_node.specs.Inputs.{ArtsFit, PrioSendFits}
 use Rattle.laws_node.specs.Nodes.{NodeHolds, SignerHolds}
-use Rattle.laws_node.specs.Sizes.{Fits, Sizes}
+use Rattle.laws_node.specs.Sizes.{Fits, IsNode, Sizes}
 use Rattle.laws_node.specs.Updates.{OwnUpTo}
+use Rattle.laws_node.proofs.FlowKinds.{flows_hold}
 use Rattle.laws_node.proofs.HeldBoots.{boot_fits}
 use Rattle.laws_node.proofs.Masks.{good_mask}
 use Rattle.laws_node.proofs.Reliable.{in_range, read}
@@ -88,6 +92,20 @@ own_is_signed arts n body arts_fit left mine =
     is_valid key is = subst (λ (o : Option (List ℕ)). IsTrue (is_signed_by arts o (arts.spell body) (signed_now arts n body).signature)) (sym is)
         (arts_fit.valid n.signer.index (arts.spell body) left)
 
+-- the arts fit the signer at another index
+pub fits_at : (arts : Arts) (f : Fixed) (s : Signer) (index : ℕ) → ArtsFit arts f s → ArtsFit arts f (record s { index = index })
+fits_at arts f s index fits = record {
+  long = fits.long;
+  key = fits.key;
+  is_mine = fits.is_mine;
+  valid = fits.valid;
+  heads = fits.heads;
+  sections = fits.sections;
+  own = fits.own;
+  documents = fits.documents;
+  carried = fits.carried;
+}
+
 -- who isn't removed is a node
 
 both_true : (a b : Bool) → (a && b) ≡ true → a ≡ true
@@ -116,6 +134,42 @@ rel_free n dst e =
     either (no_room (room n.parts.rel dst)) (signer_refusal n.signer)
     (either (no_life (is_unmet n dst)) (or_else (no_room (room n.parts.rel dst)) (signer_refusal n.signer)) e).1
 
+-- what the next message of an own flow of a kind has
+pub record OwnNext (kind : FlowKind) (k : Sizes) (n : NodeState) (dst : NodeId) : Type 0 where
+  pub from : (flows_of kind n.parts).me ≡ n.fixed.me
+  pub to : IsNode k.format dst
+  pub there : FlowHolds kind k n.signer.index (flow_in (flows_of kind n.parts).flows (own_flow (flows_of kind n.parts) dst))
+  pub mine : ((flow_in (flows_of kind n.parts).flows (own_flow (flows_of kind n.parts) dst)).src.0 == k.me.0) ≡ true
+  pub room_is : room (flows_of kind n.parts) dst ≡ Ok ((flow_in (flows_of kind n.parts).flows (own_flow (flows_of kind n.parts) dst)).at.have + 1)
+  pub small : (flow_in (flows_of kind n.parts).flows (own_flow (flows_of kind n.parts) dst)).at.have + 1 ≤ MAX_SEQ
+
+-- where a flow has room, its next message fits
+pub own_next : (kind : FlowKind) (k : Sizes) (n : NodeState) (dst : NodeId) (number : ℕ) → room (flows_of kind n.parts) dst ≡ Ok number → NodeHolds k n
+    → OwnNext kind k n dst
+own_next kind k n dst number e h =
+    let r = flows_of kind n.parts in
+    let within = flows_hold kind k n.parts h.parts in
+    let facts = room_is r dst number e in
+    let nodes = both_nodes r (own_flow r dst) r.me dst facts.0 in
+    let to = in_range k.format r.nodes dst within.nodes (listed r dst nodes.1) in
+    let from = in_range k.format r.nodes r.me within.nodes (listed r r.me nodes.0) in
+    let f = flow_in r.flows (own_flow r dst) in
+    let there = read kind k n.signer.index r.flows (own_flow r dst) from to within.flows in
+    let same : f.src.0 ≡ k.me.0 = ap (λ (e : Flow). e.src.0) (found_ends r.flows (own_flow r dst)) ∙ ap (λ (u : NodeId). u.0) within.me in
+    let mine = is_same f.src.0 k.me.0 same in
+    let own = there.own mine in
+    record {
+      from = within.me ∙ sym h.fixed.me;
+      to = to;
+      there = there;
+      mine = mine;
+      room_is = e ∙ ap (λ (q : ℕ). Ok q) facts.1;
+      small = omega (arith, own, h.signer.index, h.signer.bound, h.signer.total);
+    }
+  where
+    is_same : (a b : ℕ) → a ≡ b → (a == b) ≡ true
+    is_same a b e = grind (arith, nat_tests, e)
+
 -- what a reliable message that is sent fits
 pub record RelSent (k : Sizes) (n : NodeState) (dst : NodeId) (payload : List ℕ) : Type 0 where
   pub free : signer_refusal n.signer ≡ None
@@ -126,33 +180,21 @@ pub record RelSent (k : Sizes) (n : NodeState) (dst : NodeId) (payload : List �
 pub rel_sent_fits : (k : Sizes) (n : NodeState) (dst : NodeId) (payload : List ℕ) → length payload ≤ MAX_PAYLOAD_BYTES → rel_refusal n dst ≡ None
     → NodeHolds k n → RelSent k n dst payload
 rel_sent_fits k n dst payload short e h =
-    let r = n.parts.rel in
     let both = rel_free n dst e in
-    let number = there_is_room (room r dst) both.0 in
-    let facts = room_is r dst number.0 number.1 in
-    let nodes = both_nodes r (own_flow r dst) r.me dst facts.0 in
-    let me_too : r.me ≡ n.fixed.me = h.parts.rel.me ∙ sym h.fixed.me in
-    let to = in_range k.format r.nodes dst h.parts.rel.nodes (listed r dst nodes.1) in
-    let from = in_range k.format r.nodes r.me h.parts.rel.nodes (listed r r.me nodes.0) in
-    let f = flow_in r.flows (own_flow r dst) in
-    let there = read k n.signer.index r.flows (own_flow r dst) from to h.parts.rel.flows in
-    let same : f.src.0 ≡ k.me.0 = ap (λ (e : Flow). e.src.0) (found_ends r.flows (own_flow r dst)) ∙ ap (λ (u : NodeId). u.0) h.parts.rel.me in
-    let own = there.own (is_same f.src.0 k.me.0 same) in
+    let number = there_is_room (room n.parts.rel dst) both.0 in
+    let next = own_next Plain k n dst number.0 number.1 h in
     record {
       free = both.1;
-      next = (sym me_too, number.1 ∙ ap (λ (q : ℕ). Ok q) facts.1);
+      next = (sym next.from, next.room_is);
       fields = rel_is_good k.format (rel_of n dst payload) (record {
         src = h.fixed.is_node;
-        dst = to;
+        dst = next.to;
         sboot = boot_fits k n.parts.lives n.fixed.me h.parts.lives;
         dboot = boot_fits k n.parts.lives dst h.parts.lives;
-        seq = (omega arith, omega (arith, own, h.signer.index, h.signer.bound, h.signer.total));
+        seq = (omega arith, next.small);
         payload = short;
       });
     }
-  where
-    is_same : (a b : ℕ) → a ≡ b → (a == b) ≡ true
-    is_same a b e = grind (arith, nat_tests, e)
 
 -- ---- a priority message
 
@@ -181,14 +223,15 @@ prio_free n m e =
     let there = split away (is_there s m.dst.0) (is_there s n.fixed.me.0) (is_unmet n m.dst) one.0 in
     record { dst = there.0; me = there.1; free = two.1 }
 
-mask_fits : (k : Sizes) (n : NodeState) (m : PrioSend) (choice : Choice) → no_paths choice ≡ None → NodeHolds k n
-    → IsChoice n.parts.weights (graph_of n.fixed.topology n.parts.weights) n.fixed.me m.dst m.paths choice
+-- the mask of a choice has room in its field
+pub mask_fits : (k : Sizes) (n : NodeState) (dst : NodeId) (paths : ℕ) (choice : Choice) → no_paths choice ≡ None → NodeHolds k n
+    → IsChoice n.parts.weights (graph_of n.fixed.topology n.parts.weights) n.fixed.me dst paths choice
     → GoodMask k.format (mask_from (mask_in choice))
-mask_fits k n m (Mask mask) e h is =
-    good_mask k.format n.fixed.topology n.parts.weights (graph_of n.fixed.topology n.parts.weights) n.fixed.me m.dst m.paths mask
+mask_fits k n dst paths (Mask mask) e h is =
+    good_mask k.format n.fixed.topology n.parts.weights (graph_of n.fixed.topology n.parts.weights) n.fixed.me dst paths mask
     (subst (λ (f : ℕ). length n.fixed.topology.edges ≤ max_edges f) h.fixed.format h.fixed.topology.ranges.graph.edge_count)
     (h.parts.weights.edges ∙ sym h.fixed.edges) (h.parts.weights.least ∙ ap length (sym h.fixed.edges)) is
-mask_fits k n m (OnlyPaths found) e h is = absurd (cc)
+mask_fits k n dst paths (OnlyPaths found) e h is = absurd (cc)
 
 -- a priority message that isn't refused fits
 pub prio_sent_fits : (k : Sizes) (n : NodeState) (m : PrioSend) (choice : Choice) → PrioSendFits m → send_prio_refusal n m choice ≡ None
@@ -197,7 +240,7 @@ prio_sent_fits k n m choice fits e is h =
     let both = either (prio_refusal n m) (no_paths choice) e in
     let can = prio_free n m both.0 in
     let to = in_range k.format n.parts.prio.nodes m.dst h.parts.prio.nodes (listed_prio n.parts.prio m.dst.0 can.dst) in
-    let mask = mask_fits k n m choice both.1 h is in
+    let mask = mask_fits k n m.dst m.paths choice both.1 h is in
     record {
       free = can.free;
       fields = prio_is_good k.format (prio_of n m (mask_in choice)) (record {

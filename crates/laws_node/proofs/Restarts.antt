@@ -12,6 +12,8 @@ use Rattle.sp_rules.specs.Prio.{PrioState, no_peer, peer_in, renewed}
 use Rattle.sp_rules.specs.PrioPeer as rows
 use Rattle.sp_rules.specs.Rel as rel
 use Rattle.sp_rules.specs.Rel.{RelPeer, RelState, View, flow_less, is_end, no_view, restarted, view_less, viewed, views_less}
+use Rattle.sp_rules.specs.declared.kflow.FlowKind.{FlowKind}
+use Rattle.sp_rules.specs.declared.kflow.FlowKind.TheVariants.{Plain, Paths}
 use Rattle.laws_node.specs.Flows.{Differ, FlowHolds, RelHolds}
 use Rattle.laws_node.specs.Nodes.{PartsHold}
 use Rattle.laws_node.specs.Shapes.{RelPeerShape, rel_peer_shape, rel_shape, view_ends}
@@ -34,34 +36,36 @@ pub less_all_ends : (v : NodeId) (fs : List FlowState) → map ends (map (flow_l
 less_all_ends v [] = refl
 less_all_ends v (f ∷ fs) = ap₂ (λ (x : Flow) (xs : List Flow). x ∷ xs) (less_ends v f) (less_all_ends v fs)
 
-less_holds : (k : Sizes) (index : ℕ) (v : NodeId) (f : FlowState) → FlowHolds k index f → FlowHolds k index (flow_less v f)
-less_holds k index v f h = go (is_end v (ends f))
+less_holds : (kind : FlowKind) (k : Sizes) (index : ℕ) (v : NodeId) (f : FlowState) → FlowHolds kind k index f → FlowHolds kind k index (flow_less v f)
+less_holds kind k index v f h = go (is_end v (ends f))
   where
-    go : (t : Bool) → FlowHolds k index (cond t (no_flow (ends f)) f)
+    go : (t : Bool) → FlowHolds kind k index (cond t (no_flow (ends f)) f)
     go false = h
-    go true = no_flow_holds k index (ends f) h.src h.dst
+    go true = no_flow_holds kind k index (ends f) h.src h.dst
 
-less_all : (k : Sizes) (index : ℕ) (v : NodeId) (fs : List FlowState) → All (FlowHolds k index) fs → All (FlowHolds k index) (map (flow_less v) fs)
-less_all k index v [] h = h
-less_all k index v (f ∷ fs) h =
-    All-cons (FlowHolds k index) (flow_less v f) (map (flow_less v) fs) (less_holds k index v f (All-head (FlowHolds k index) f fs h))
-    (less_all k index v fs (All-tail (FlowHolds k index) f fs h))
+less_all : (kind : FlowKind) (k : Sizes) (index : ℕ) (v : NodeId) (fs : List FlowState) → All (FlowHolds kind k index) fs
+    → All (FlowHolds kind k index) (map (flow_less v) fs)
+less_all kind k index v [] h = h
+less_all kind k index v (f ∷ fs) h =
+    All-cons (FlowHolds kind k index) (flow_less v f) (map (flow_less v) fs) (less_holds kind k index v f (All-head (FlowHolds kind k index) f fs h))
+    (less_all kind k index v fs (All-tail (FlowHolds kind k index) f fs h))
 
 -- flows with a node that lives anew
-pub restarted_holds : (k : Sizes) (index : ℕ) (r : RelState) (v : NodeId) → RelHolds k index r → RelHolds k index (restarted r v)
-restarted_holds k index r v h = record {
+pub restarted_holds : (kind : FlowKind) (k : Sizes) (index : ℕ) (r : RelState) (v : NodeId) → RelHolds kind k index r → RelHolds kind k index (restarted r v)
+restarted_holds kind k index r v h = record {
   me = h.me;
   bound = h.bound;
   nodes = h.nodes;
   known = h.known;
-  flows = less_all k index v r.flows h.flows;
+  flows = less_all kind k index v r.flows h.flows;
   keys = less_all_ends v r.flows ∙ h.keys;
   once = subst (AllPairs Differ) (sym (less_all_ends v r.flows)) h.once;
 }
 
 -- a neighbour that lives anew
-pub unheard_rel_holds : (k : Sizes) (index : ℕ) (r : RelState) (v : NodeId) → RelHolds k index r → RelHolds k index (rel.unheard r v)
-unheard_rel_holds k index r v h = record { me = h.me; bound = h.bound; nodes = h.nodes; known = h.known; flows = h.flows; keys = h.keys; once = h.once }
+pub unheard_rel_holds : (kind : FlowKind) (k : Sizes) (index : ℕ) (r : RelState) (v : NodeId) → RelHolds kind k index r
+    → RelHolds kind k index (rel.unheard r v)
+unheard_rel_holds kind k index r v h = record { me = h.me; bound = h.bound; nodes = h.nodes; known = h.known; flows = h.flows; keys = h.keys; once = h.once }
 
 -- ---- priority messages
 
@@ -97,7 +101,8 @@ pub greeted_holds : (k : Sizes) (numbers ids index : ℕ) (epochs risen : Bool) 
 greeted_holds k numbers ids index true true v p h = record {
   weights = h.weights;
   prio = unheard_prio_holds k numbers ids index p.prio v.0 h.prio;
-  rel = unheard_rel_holds k index p.rel v h.rel;
+  rel = unheard_rel_holds Plain k index p.rel v h.rel;
+  kflow = unheard_rel_holds Paths k index p.kflow.flows v h.kflow;
   lives = h.lives;
   origins = h.origins;
 }

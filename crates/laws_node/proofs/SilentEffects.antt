@@ -2,6 +2,7 @@
 use Rattle.std.proofs.Common.{◌≡◌, ℕ, ◌+◌, ◌&&◌, Bool, true, false, cond, List, [], ◌∷◌, ◌++◌, filter, map, Option, Some, None, refl, ap, ◌∙◌, inl, inr}
 use Rattle.std.specs.List.{flat_map}
 use Rattle.std.proofs.lemmas.Bool.{cases_Bool}
+use Rattle.sp_base.specs.declared.id.Flow.{Flow}
 use Rattle.sp_base.specs.declared.id.NodeId.{NodeId}
 use Rattle.sp_msg.specs.declared.body.Body.{Body}
 use Rattle.sp_msg.specs.declared.body.Body.TheVariants as bodies
@@ -11,15 +12,18 @@ use Rattle.sp_msg.specs.declared.effect.Why.{Why}
 use Rattle.sp_msg.specs.declared.effect.Why.TheVariants as whys
 use Rattle.sp_msg.specs.declared.kept.Kept.{Kept}
 use Rattle.sp_rules.specs.Flow.{FlowState, ends}
+use Rattle.sp_rules.specs.Handle.{met_effects}
 use Rattle.sp_rules.specs.Parts.{Parts, closed_effects}
 use Rattle.sp_rules.specs.Prio as prio
 use Rattle.sp_rules.specs.Prio.{PrioState, prio_effects}
 use Rattle.sp_rules.specs.PrioPeer as rows
 use Rattle.sp_rules.specs.PrioPeer.{PrioPeer, leaves}
 use Rattle.sp_rules.specs.Rel as rel
-use Rattle.sp_rules.specs.Rel.{RelState, delivery, ended_by, ended_effect, is_end, is_over, restart_effects}
+use Rattle.sp_rules.specs.Rel.{RelState, delivery, ended_by, ended_effect, ending, is_end, is_over, restart_effects}
 use Rattle.sp_rules.specs.Store.{Store, entry_in, evicted, expired_entries, removed}
 use Rattle.sp_rules.specs.Topologies.{is_shut}
+use Rattle.sp_rules.specs.declared.kflow.FlowKind.{FlowKind}
+use Rattle.sp_rules.specs.declared.kflow.FlowKind.TheVariants.{Plain, Paths}
 use Rattle.sp_rules.specs.declared.store.Entry.{Entry}
 use Rattle.laws_node.specs.Lives.{last_told, weight_told}
 
@@ -98,23 +102,43 @@ silent_expired p now =
     (silent_leaving 0 whys.Expired (expired_entries p.inbox now))
     (silent_flat (λ (q : PrioPeer). rows.expired_effects q.peer q.store now) (λ q. silent_leaving q.peer whys.Expired (expired_entries q.store now)) p.peers)
 
+silent_delivery : (body : Body) → Silent (delivery body ∷ [])
+silent_delivery (bodies.Rel b) = λ edge end w. refl
+silent_delivery (bodies.Krel b) = λ edge end w. refl
+silent_delivery (bodies.Prio b) = λ edge end w. refl
+silent_delivery (bodies.Ack b) = λ edge end w. refl
+silent_delivery (bodies.Weight b) = λ edge end w. refl
+silent_delivery (bodies.Kack b) = λ edge end w. refl
+silent_delivery (bodies.Epoch b) = λ edge end w. refl
+
 pub silent_rel : (t : Bool) (body : Body) → Silent (cond t (delivery body ∷ []) [])
-silent_rel true body = λ edge end w. refl
-silent_rel false body = λ edge end w. refl
+silent_rel t body = silent_either t (delivery body ∷ []) (silent_delivery body)
 
-pub silent_ended : (v : NodeId) (f : FlowState) → Silent (ended_by v f)
-silent_ended v f = silent_either (is_end v (ends f) && f.active) (effects.Ended (ends f) ∷ []) (λ edge end w. refl)
+-- a flow of either kind ends
+silent_end : (kind : FlowKind) (flow : Flow) → Silent (ending kind flow ∷ [])
+silent_end Plain flow = λ edge end w. refl
+silent_end Paths flow = λ edge end w. refl
 
-pub silent_restart : (r : RelState) (v : NodeId) → Silent (restart_effects r v)
-silent_restart r v = silent_flat (ended_by v) (silent_ended v) r.flows
+pub silent_ended : (kind : FlowKind) (v : NodeId) (f : FlowState) → Silent (ended_by kind v f)
+silent_ended kind v f = silent_either (is_end v (ends f) && f.active) (ending kind (ends f) ∷ []) (silent_end kind (ends f))
+
+pub silent_restart : (kind : FlowKind) (r : RelState) (v : NodeId) → Silent (restart_effects kind r v)
+silent_restart kind r v = silent_flat (ended_by kind v) (silent_ended kind v) r.flows
+
+-- another life of a node began
+pub silent_met : (p : Parts) (v : NodeId) → Silent (met_effects p v)
+silent_met p v =
+    silent_both (restart_effects Plain p.rel v) (restart_effects Paths p.kflow.flows v) (silent_restart Plain p.rel v) (silent_restart Paths p.kflow.flows v)
 
 -- another version of the topology
-silent_ending : (gone : List NodeId) (f : FlowState) → Silent (ended_effect gone f)
-silent_ending gone f = silent_either (f.active && is_over gone (ends f)) (effects.Ended (ends f) ∷ []) (λ edge end w. refl)
+silent_ending : (kind : FlowKind) (gone : List NodeId) (f : FlowState) → Silent (ended_effect kind gone f)
+silent_ending kind gone f = silent_either (f.active && is_over gone (ends f)) (ending kind (ends f) ∷ []) (silent_end kind (ends f))
 
 pub silent_closed : (p : Parts) (least : List ℕ) (gone : List NodeId) → Silent (closed_effects p least gone)
 silent_closed p least gone =
-    silent_both (prio.closed_effects p.prio least gone) (rel.closed_effects p.rel gone)
+    silent_both (prio.closed_effects p.prio least gone) (rel.closed_effects Plain p.rel gone ++ rel.closed_effects Paths p.kflow.flows gone)
     (silent_flat (rows.closed_effects least gone)
     (λ q. silent_leaving q.peer whys.Withdrawn (filter (leaves (is_shut least q.edge) gone) q.store.entries)) p.prio.peers)
-    (silent_flat (ended_effect gone) (silent_ending gone) p.rel.flows)
+    (silent_both (rel.closed_effects Plain p.rel gone) (rel.closed_effects Paths p.kflow.flows gone)
+    (silent_flat (ended_effect Plain gone) (silent_ending Plain gone) p.rel.flows)
+    (silent_flat (ended_effect Paths gone) (silent_ending Paths gone) p.kflow.flows.flows))

@@ -6,6 +6,7 @@ use Rattle.sp_msg.specs.Bodies.{HasGoodFieldsIn}
 use Rattle.sp_rules.specs.Arts.{Arts}
 use Rattle.sp_rules.specs.Node.{NodeState, Signer, announced, booted, own_epoch, signed_now}
 use Rattle.sp_rules.specs.Parts.{Fixed, is_signed}
+use Rattle.sp_rules.specs.declared.kflow.FlowKind.TheVariants.{Plain, Paths}
 use Rattle.laws_node.specs.About.{IsAbout}
 use Rattle.laws_node.specs.Inputs.{ArtsFit}
 use Rattle.laws_node.specs.Laws.{StartKeeps}
@@ -15,8 +16,8 @@ use Rattle.laws_node.proofs.About.{me_is_there}
 use Rattle.laws_node.proofs.Boot.{boot_holds}
 use Rattle.laws_node.proofs.HeldBoots.{held_epoch_holds}
 use Rattle.laws_node.proofs.Own.{own_fits, own_is_signed}
-use Rattle.laws_node.proofs.Reliable.{rel_more}
-use Rattle.laws_node.proofs.Steps.{signed_beside, signed_once_holds}
+use Rattle.laws_node.proofs.FlowRows.{rel_more}
+use Rattle.laws_node.proofs.Signing.{signed_beside, signed_once_holds}
 use Rattle.laws_node.proofs.Updates.{weights_more}
 
 -- what a node says of its start is in its ranges
@@ -49,7 +50,8 @@ announced_holds k arts n fits below two keeps h =
       parts = record {
         weights = weights_more k n.signer.index (n.signer.index + 1) n.parts.weights (omega arith) h.parts.weights;
         prio = signed_beside k n h.parts.prio;
-        rel = rel_more k n.signer.index (n.signer.index + 1) n.parts.rel (omega arith) h.parts.rel;
+        rel = rel_more Plain k n.signer.index (n.signer.index + 1) n.parts.rel (omega arith) h.parts.rel;
+        kflow = rel_more Paths k n.signer.index (n.signer.index + 1) n.parts.kflow.flows (omega arith) h.parts.kflow;
         lives = held_epoch_holds k n.parts.lives o refl own h.parts.lives;
         origins = h.parts.origins;
       };

@@ -6,10 +6,13 @@ use Rattle.sp_msg.specs.declared.kept.Kept.{Kept}
 use Rattle.sp_rules.specs.Flow.{FlowState, ends}
 use Rattle.sp_rules.specs.Node.{NodeState}
 use Rattle.sp_rules.specs.PrioPeer.{PrioPeer}
+use Rattle.sp_rules.specs.Rel.{RelState}
 use Rattle.sp_rules.specs.Store.{Store}
+use Rattle.sp_rules.specs.declared.kflow.FlowKind.{FlowKind}
+use Rattle.sp_rules.specs.declared.kflow.FlowKind.TheVariants.{Plain, Paths}
 use Rattle.sp_rules.specs.declared.lives.Life.{Life}
 use Rattle.sp_rules.specs.declared.store.Entry.{Entry}
-use Rattle.laws_node.specs.Flows.{AckKept, FlowHolds}
+use Rattle.laws_node.specs.Flows.{AckKept, FlowHolds, RelHolds}
 use Rattle.laws_node.specs.HeldBoots.{EpochKept, LifeHolds}
 use Rattle.laws_node.specs.Nodes.{NodeHolds}
 use Rattle.laws_node.specs.Sizes.{Fits, Sizes, numbers_after}
@@ -25,21 +28,34 @@ module _ (k : Sizes) (Q : Kept → Type 0) (less : (o : Kept) → k.keeps o → 
   fits_weaker : (o : Kept) → Fits k o → Fits (asking Q k) o
   fits_weaker o h = record { fields = h.fields; long = h.long; holds = less o h.holds }
 
-  ack_weaker : (f : FlowState) (o : Option Kept) → IfSome o (AckKept k (ends f)) → IfSome o (AckKept (asking Q k) (ends f))
-  ack_weaker f None h = tt
-  ack_weaker f (Some o) h = record { kind = h.kind; fits = fits_weaker o h.fits }
+  ack_weaker : (kind : FlowKind) (f : FlowState) (o : Option Kept) → IfSome o (AckKept kind k (ends f)) → IfSome o (AckKept kind (asking Q k) (ends f))
+  ack_weaker kind f None h = tt
+  ack_weaker kind f (Some o) h = record { is_ack = h.is_ack; fits = fits_weaker o h.fits }
 
-  flow_weaker : (index : ℕ) (f : FlowState) → FlowHolds k index f → FlowHolds (asking Q k) index f
-  flow_weaker index f h = record {
+  flow_weaker : (kind : FlowKind) (index : ℕ) (f : FlowState) → FlowHolds kind k index f → FlowHolds kind (asking Q k) index f
+  flow_weaker kind index f h = record {
     src = h.src;
     dst = h.dst;
     standing = h.standing;
+    later = h.later;
     busy = h.busy;
     own = h.own;
     messages = all_weaker (Fits k) (Fits (asking Q k)) f.at.list fits_weaker h.messages;
     reliable = h.reliable;
-    ack = ack_weaker f f.ack h.ack;
+    within = h.within;
+    ack = ack_weaker kind f f.ack h.ack;
     inbox = h.inbox;
+  }
+
+  rel_weaker : (kind : FlowKind) (index : ℕ) (r : RelState) → RelHolds kind k index r → RelHolds kind (asking Q k) index r
+  rel_weaker kind index r h = record {
+    me = h.me;
+    bound = h.bound;
+    nodes = h.nodes;
+    known = h.known;
+    flows = all_weaker (FlowHolds kind k index) (FlowHolds kind (asking Q k) index) r.flows (flow_weaker kind index) h.flows;
+    keys = h.keys;
+    once = h.once;
   }
 
   entry_weaker : (last : ℕ) (e : Entry) → EntryHolds k last e → EntryHolds (asking Q k) last e
@@ -103,16 +119,8 @@ module _ (k : Sizes) (Q : Kept → Type 0) (less : (o : Kept) → k.keeps o → 
         least = h.parts.prio.least;
         next = h.parts.prio.next;
       };
-      rel = record {
-        me = h.parts.rel.me;
-        bound = h.parts.rel.bound;
-        nodes = h.parts.rel.nodes;
-        known = h.parts.rel.known;
-        flows = all_weaker (FlowHolds k n.signer.index) (FlowHolds (asking Q k) n.signer.index) n.parts.rel.flows (flow_weaker n.signer.index)
-            h.parts.rel.flows;
-        keys = h.parts.rel.keys;
-        once = h.parts.rel.once;
-      };
+      rel = rel_weaker Plain n.signer.index n.parts.rel h.parts.rel;
+      kflow = rel_weaker Paths n.signer.index n.parts.kflow.flows h.parts.kflow;
       lives = all_weaker (LifeHolds k) (LifeHolds (asking Q k)) n.parts.lives life_weaker h.parts.lives;
       origins = h.parts.origins;
     };

@@ -14,6 +14,8 @@ use Rattle.sp_rules.specs.Rel as rel
 use Rattle.sp_rules.specs.Topologies.{is_shut}
 use Rattle.sp_rules.specs.Weights.{WeightState, replaced}
 use Rattle.sp_rules.proofs.Standing.{standing_ended}
+use Rattle.sp_rules.specs.declared.kflow.FlowKind.{FlowKind}
+use Rattle.sp_rules.specs.declared.kflow.FlowKind.TheVariants.{Plain, Paths}
 use Rattle.laws_node.specs.Flows.{Differ, FlowHolds, RelHolds}
 use Rattle.laws_node.specs.Nodes.{PartsHold}
 use Rattle.laws_node.specs.Sizes.{Fits, Sizes}
@@ -63,22 +65,25 @@ prio_closed_holds k numbers ids index p least removed h = record {
 
 -- ---- flows
 
-ended_holds : (k : Sizes) (index : ℕ) (f : FlowState) → FlowHolds k index f → FlowHolds k index (ended f)
-ended_holds k index f h = record {
+ended_holds : (kind : FlowKind) (k : Sizes) (index : ℕ) (f : FlowState) → FlowHolds kind k index f → FlowHolds kind k index (ended f)
+ended_holds kind k index f h = record {
   src = h.src;
   dst = h.dst;
   standing = standing_ended k.me k.buffer f h.standing;
+  later = λ on. absurd (cc);
   busy = λ on. absurd (cc);
   own = λ mine. omega arith;
   messages = All-nil (Fits k);
   reliable = λ i d within. absurd (omega (arith, within));
+  within = λ mine i d below. absurd (omega (arith, below));
   ack = tt;
   inbox = h.inbox;
 }
 
-flow_closed_holds : (k : Sizes) (index : ℕ) (removed : List NodeId) (f : FlowState) → FlowHolds k index f → FlowHolds k index (ended_where removed f)
-flow_closed_holds k index removed f h =
-    cond_either (FlowHolds k index) (f.active && is_over removed (ends f)) (ended f) f (ended_holds k index f h) h
+flow_closed_holds : (kind : FlowKind) (k : Sizes) (index : ℕ) (removed : List NodeId) (f : FlowState) → FlowHolds kind k index f
+    → FlowHolds kind k index (ended_where removed f)
+flow_closed_holds kind k index removed f h =
+    cond_either (FlowHolds kind k index) (f.active && is_over removed (ends f)) (ended f) f (ended_holds kind k index f h) h
 
 -- it is the same flow
 pub same_ends_closed : (removed : List NodeId) (f : FlowState) → ends (ended_where removed f) ≡ ends f
@@ -87,13 +92,14 @@ same_ends_closed removed f = cond_either (λ g. ends g ≡ ends f) (f.active && 
 pub ends_closed : (removed : List NodeId) (flows : List FlowState) → map ends (map (ended_where removed) flows) ≡ map ends flows
 ends_closed removed flows = each_same ends (ended_where removed) (same_ends_closed removed) flows
 
-rel_closed_holds : (k : Sizes) (index : ℕ) (r : RelState) (removed : List NodeId) → RelHolds k index r → RelHolds k index (rel.closed r removed)
-rel_closed_holds k index r removed h = record {
+rel_closed_holds : (kind : FlowKind) (k : Sizes) (index : ℕ) (r : RelState) (removed : List NodeId) → RelHolds kind k index r
+    → RelHolds kind k index (rel.closed r removed)
+rel_closed_holds kind k index r removed h = record {
   me = h.me;
   bound = h.bound;
   nodes = h.nodes;
   known = h.known;
-  flows = all_map (FlowHolds k index) (FlowHolds k index) (ended_where removed) (flow_closed_holds k index removed) r.flows h.flows;
+  flows = all_map (FlowHolds kind k index) (FlowHolds kind k index) (ended_where removed) (flow_closed_holds kind k index removed) r.flows h.flows;
   keys = ends_closed removed r.flows ∙ h.keys;
   once = subst (AllPairs Differ) (sym (ends_closed removed r.flows)) h.once;
 }
@@ -105,7 +111,8 @@ pub closed_holds : (k : Sizes) (numbers ids index : ℕ) (p : Parts) (least : Li
 closed_holds k numbers ids index p least removed count h = record {
   weights = replaced_holds k index p.weights least count h.weights;
   prio = prio_closed_holds k numbers ids index p.prio least removed h.prio;
-  rel = rel_closed_holds k index p.rel removed h.rel;
+  rel = rel_closed_holds Plain k index p.rel removed h.rel;
+  kflow = rel_closed_holds Paths k index p.kflow.flows removed h.kflow;
   lives = h.lives;
   origins = h.origins;
 }

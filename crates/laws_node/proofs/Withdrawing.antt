@@ -1,11 +1,9 @@
 -- The parts of a node obey its topology: at the start, and over any step.
-use Rattle.std.proofs.Common.{All, ap, ap₂, cond, Bool, ◌&&◌, ◌||◌, ◌≡◌, ◌∙◌, ℕ, true, false, not, List, [], ◌∷◌, filter, length, map, Option, Some, None}
+use Rattle.std.proofs.Common.{All, ap, ap₂, cond, Bool, ◌&&◌, ◌||◌, ◌≡◌, ◌∙◌, ℕ, true, false, not, List, [], ◌∷◌, filter, length, map, Option, Some, None, Ok}
 use Rattle.std.proofs.Common.{refl, subst, sym}
 use Rattle.std.proofs.lemmas.List.Elements.{All-cons, All-nil}
-use Rattle.sp_base.specs.declared.id.Flow.{Flow}
 use Rattle.sp_base.specs.declared.id.NodeId.{NodeId}
 use Rattle.sp_msg.specs.declared.body.Ack.{Ack}
-use Rattle.sp_msg.specs.declared.body.Body.TheVariants as bodies
 use Rattle.sp_msg.specs.declared.kept.Kept.{Kept}
 use Rattle.sp_msg.specs.declared.refused.SendRefused.{SendRefused}
 use Rattle.sp_rules.proofs.FlowJudged.{both_nodes, found_ends, room_is}
@@ -13,21 +11,26 @@ use Rattle.sp_rules.specs.Arrivals.{arrival_at, before_document, document_at, pa
 use Rattle.sp_rules.specs.Arts.{Arts, Document}
 use Rattle.sp_rules.specs.Documents.{under_topology}
 use Rattle.sp_rules.specs.Flow.{FlowState, after_take, concluded, ended, ends, flow_said, pushed}
+use Rattle.sp_rules.specs.Kflow as kflow
+use Rattle.sp_rules.specs.Kflow.{ack_body, waiting_mask}
+use Rattle.sp_rules.specs.KflowSends.{krel_refusal, krel_sends, no_mask, send_krel_refusal}
 use Rattle.sp_rules.specs.Link.{advanced}
 use Rattle.sp_rules.specs.Node.{NodeState, Signer, announced, booted, call_refusal, called, kept_or, link_in, signed_now, signed_once, topology_now, with_link}
 use Rattle.sp_rules.specs.Parts as parts
-use Rattle.sp_rules.specs.Parts.{Fixed, Parts, bare_parts, nodes_of}
+use Rattle.sp_rules.specs.Parts.{Fixed, Parts, bare_parts, flows_of, nodes_of, with_flows}
 use Rattle.sp_rules.specs.Polls.{is_served, parts_after, polled}
 use Rattle.sp_rules.specs.Prio as prio
 use Rattle.sp_rules.specs.PrioPeer as rows
 use Rattle.sp_rules.specs.PrioPeer.{PrioPeer, has_end_in, leaves}
 use Rattle.sp_rules.specs.Rel as rel
-use Rattle.sp_rules.specs.Rel.{ended_where, flow_in, is_over, own_flow, room}
+use Rattle.sp_rules.specs.Rel.{RelState, ended_where, flow_in, is_over, own_flow, room}
 use Rattle.sp_rules.specs.Sends.{no_paths, own_prio, prio_refusal, rel_body, rel_refusal, send_prio_refusal, signer_refusal, weight_body, weight_refusal}
-use Rattle.sp_rules.specs.Steps.{Poll, Datagram, Tick, SendRel, SendPrio, SetWeight, TakeRel, TakePrio, Publish}
-use Rattle.sp_rules.specs.Ticks.{at_time, due_now, settled_by, time_after}
+use Rattle.sp_rules.specs.Steps.{Poll, Datagram, Tick, SendRel, SendPrio, SetWeight, TakeRel, TakePrio, SendKrel, TakeKrel, Publish}
+use Rattle.sp_rules.specs.Ticks.{after_plain, at_time, due_now, second_refusal, settled_by, time_after}
 use Rattle.sp_rules.specs.Topologies.{is_shut, removed_of, under, weights_in}
 use Rattle.sp_rules.specs.Weights.{held}
+use Rattle.sp_rules.specs.declared.kflow.FlowKind.{FlowKind}
+use Rattle.sp_rules.specs.declared.kflow.FlowKind.TheVariants.{Plain, Paths}
 use Rattle.sp_rules.specs.declared.store.Entry.{Entry}
 use Rattle.sp_topology.specs.declared.topology.Edge.{Edge}
 use Rattle.sp_topology.specs.declared.topology.NodeKey.{NodeKey}
@@ -35,9 +38,10 @@ use Rattle.laws_node.specs.Nodes.{NodeHolds}
 use Rattle.laws_node.specs.Sizes.{Sizes}
 use Rattle.laws_node.specs.Withdrawals.{EachStepObeys, FlowObeys, IsSized, Obeys, PartsObey, RowObeys, StartObeys, removed_now}
 use Rattle.laws_node.proofs.Adopting.{IsAdopted, publishing, reading}
-use Rattle.laws_node.proofs.Obeying.{admitted_obeys, between, carried_obeys, expired_obeys, greeted_obeys, live_flow, not_over, of_prio, of_rel, one_peer}
-use Rattle.laws_node.proofs.Obeying.{pieces_obey, prio_part, rel_part, same_flow, served_obeys}
+use Rattle.laws_node.proofs.Obeying.{RelObeys, admitted_obeys, between, carried_obeys, expired_obeys, flows_part, greeted_obeys, live_flow, not_over, of_flows}
+use Rattle.laws_node.proofs.Obeying.{of_prio, one_peer, pieces_obey, prio_part, same_flow, served_obeys}
 use Rattle.laws_node.proofs.Own.{either, prio_free, rel_free, there_is_room}
+use Rattle.laws_node.proofs.OwnPaths.{krel_free, room_of}
 use Rattle.laws_node.proofs.Priority.{all_map}
 use Rattle.laws_node.proofs.Successors.{later, under_later}
 use Rattle.laws_node.proofs.Tables.{all_weaker, cond_either}
@@ -91,6 +95,8 @@ closed_obeys p least removed = record {
   rows = every (RowObeys least removed) (rows.closed least removed) (row_closed least removed) p.prio.peers;
   rel = refl;
   flows = every (FlowObeys removed) (ended_where removed) (flow_closed removed) p.rel.flows;
+  kflow = refl;
+  on_paths = every (FlowObeys removed) (ended_where removed) (flow_closed removed) p.kflow.flows.flows;
 }
 
 -- the first edges under their own weights
@@ -113,6 +119,8 @@ start_obeys arts f signer keys buffer store = cond_either Obeys f.epochs (announ
   rows = h.rows;
   rel = h.rel;
   flows = h.flows;
+  kflow = h.kflow;
+  on_paths = h.on_paths;
 }) h
   where
     n : NodeState
@@ -141,31 +149,41 @@ or_obeys P old done None h new = new refl
 
 -- what a node keeps has it
 pub sized : (k : Sizes) (n : NodeState) → NodeHolds k n → IsSized n
-sized k n h = record { weights = h.live.count ∙ sym (ap length h.fixed.edges); me = h.parts.rel.me ∙ sym h.fixed.me }
+sized k n h =
+    record { weights = h.live.count ∙ sym (ap length h.fixed.edges); me = h.parts.rel.me ∙ sym h.fixed.me; on_paths = h.parts.kflow.me ∙ sym h.fixed.me }
 
 polled_obeys : (n : NodeState) (v : NodeId) → Obeys n → PartsObey n.live.weights (removed_now n) (parts_after n v)
 polled_obeys n v h =
     let weights = n.live.weights in
     let gone = removed_now n in
     let q = one_peer weights gone n.parts.prio v.0 rows.carried (carried_obeys weights gone) (prio_part weights gone n.parts h) in
-    let r = served_obeys weights gone n.parts.rel v (rel.next_place n.parts.rel v) (rel_part weights gone n.parts h) in
+    let r = served_obeys weights gone n.parts.rel v (rel.next_place n.parts.rel v) (flows_part weights gone Plain n.parts h) in
+    let f = served_obeys weights gone n.parts.kflow.flows v (rel.next_place n.parts.kflow.flows v) (flows_part weights gone Paths n.parts h) in
     cond_either (PartsObey weights gone) (is_served n v) (polled n.fixed n.parts v) n.parts
-    (record { least = h.least; prio = q.known; rows = q.rows_are; rel = r.known; flows = r.flows_are }) h
+    (record { least = h.least; prio = q.known; rows = q.rows_are; rel = r.known; flows = r.flows_are; kflow = f.known; on_paths = f.flows_are }) h
 
-settled_obeys : (arts : Arts) (n : NodeState) (o : Option Ack) (r : Option SendRefused) → Obeys n → Obeys (settled_by arts n o r)
-settled_obeys arts n None r h = h
-settled_obeys arts n (Some ack) (Some refusal) h = h
-settled_obeys arts n (Some ack) None h = go (rel.due_place n.parts.rel)
+settled_obeys : (kind : FlowKind) (arts : Arts) (n : NodeState) (o : Option Ack) (r : Option SendRefused) → Obeys n → Obeys (settled_by arts kind n o r)
+settled_obeys kind arts n None r h = h
+settled_obeys kind arts n (Some ack) (Some refusal) h = h
+settled_obeys kind arts n (Some ack) None h = of_flows weights gone kind n.parts (rel.settled r o) (go (rel.due_place r)) h
   where
-    o : Kept
-    o = signed_now arts n (bodies.Ack ack)
+    weights : List ℕ
+    weights = n.live.weights
 
-    go : (place : Option ℕ) → PartsObey n.live.weights (removed_now n) (record n.parts { rel = rel.settled_at n.parts.rel o place })
-    go None = h
+    gone : List NodeId
+    gone = removed_now n
+
+    r : RelState
+    r = flows_of kind n.parts
+
+    o : Kept
+    o = signed_now arts n (ack_body kind ack)
+
+    go : (place : Option ℕ) → RelObeys weights gone (rel.settled_at r o place)
+    go None = flows_part weights gone kind n.parts h
     go (Some place) =
-        let k = same_flow n.live.weights (removed_now n) n.parts.rel (flow_said o.body) (λ f. concluded f o) (λ f ok. ok)
-        (rel_part n.live.weights (removed_now n) n.parts h) in
-        record { least = h.least; prio = h.prio; rows = h.rows; rel = k.known; flows = k.flows_are }
+        let k = same_flow weights gone r (flow_said o.body) (λ f. concluded f o) (λ f ok. ok) (flows_part weights gone kind n.parts h) in
+        record { known = k.known; flows_are = k.flows_are }
 
 -- what the pieces of a frame leave
 pub left_obeys : (arts : Arts) (n : NodeState) (v : NodeId) (bytes : List ℕ) → Obeys n → Obeys (before_document arts n v bytes)
@@ -175,6 +193,16 @@ left_obeys arts n v bytes h =
     pieces_obey weights gone arts (arrival_at n v) (parts_met arts n v bytes)
     (pieces_where (reply_at arts n v bytes) (pieces_in n.fixed (sections_in arts n.fixed bytes)))
     (greeted_obeys weights gone n.fixed.epochs (rises arts n v bytes) v n.parts h)
+
+-- the next message of an own flow is kept
+pushed_obeys : (weights : List ℕ) (gone : List NodeId) (r : RelState) (me dst : NodeId) (number : ℕ) (o : Kept)
+    → flow_said o.body ≡ record { src = me; dst = dst } → r.me ≡ me → room r dst ≡ Ok number → RelObeys weights gone r
+    → RelObeys weights gone (rel.pushed_in r o)
+pushed_obeys weights gone r me dst number o said mine e k =
+    let nodes = both_nodes r (own_flow r dst) r.me dst (room_is r dst number e).0 in
+    let free : is_over gone (flow_said o.body) ≡ false =
+    ap (is_over gone) (said ∙ ap (λ (u : NodeId). record { src = u; dst = dst }) (sym mine)) ∙ not_over weights gone r (own_flow r dst) k nodes.0 nodes.1 in
+    live_flow weights gone r (flow_said o.body) (pushed (flow_in r.flows (flow_said o.body)) o) (found_ends r.flows (flow_said o.body)) free k
 
 pub step_obeys : EachStepObeys
 step_obeys arts n (Poll v) output new kept s h =
@@ -195,22 +223,30 @@ step_obeys arts n (Tick now) output new kept s h =
           (expired_obeys n.live.weights (removed_now n) time) n.parts.prio.peers h.rows;
       rel = h.rel;
       flows = h.flows;
+      kflow = h.kflow;
+      on_paths = h.on_paths;
     } in
-    subst Obeys (sym s.1) (settled_obeys arts (at_time n now) (due_now n) (signer_refusal n.signer) older)
+    subst Obeys (sym s.1) (settled_obeys Paths arts (after_plain arts n now) (due_now Paths n) (second_refusal arts n now)
+    (settled_obeys Plain arts (at_time n now) (due_now Plain n) (signer_refusal n.signer) older))
 step_obeys arts n (SendRel dst payload) output new kept s h =
-    let r = n.parts.rel in
     let o = signed_now arts n (rel_body n dst payload) in
-    let flow : Flow = record { src = n.fixed.me; dst = dst } in
-    let weights = n.live.weights in
-    let gone = removed_now n in
-    subst Obeys (sym s.1) (or_obeys Obeys n (signed_once n (record n.parts { rel = rel.pushed_in r o })) (rel_refusal n dst) h
+    subst Obeys (sym s.1) (or_obeys Obeys n (signed_once n (record n.parts { rel = rel.pushed_in n.parts.rel o })) (rel_refusal n dst) h
     (λ e.
-    let number = there_is_room (room r dst) (rel_free n dst e).0 in
-    let nodes = both_nodes r (own_flow r dst) r.me dst (room_is r dst number.0 number.1).0 in
-    let k = rel_part weights gone n.parts h in
-    let free = not_over weights gone r flow k (subst (λ (u : NodeId). rel.is_node r u ≡ true) kept.me nodes.0) nodes.1 in
-    of_rel weights gone n.parts (rel.pushed_in r o)
-    (live_flow weights gone r flow (pushed (flow_in r.flows flow) o) (found_ends r.flows flow) free k) h))
+    let number = there_is_room (room n.parts.rel dst) (rel_free n dst e).0 in
+    of_flows n.live.weights (removed_now n) Plain n.parts (rel.pushed_in n.parts.rel o)
+    (pushed_obeys n.live.weights (removed_now n) n.parts.rel n.fixed.me dst number.0 o refl kept.me number.1
+    (flows_part n.live.weights (removed_now n) Plain n.parts h)) h))
+step_obeys arts n (SendKrel m) output new kept s h =
+    let r = n.parts.kflow.flows in
+    let o = signed_now arts n (krel_sends n m s.choice) in
+    subst Obeys (sym s.new_is)
+    (or_obeys Obeys n (signed_once n (record n.parts { kflow = kflow.pushed n.parts.kflow o m.paths })) (send_krel_refusal n m s.choice) h
+    (λ e.
+    let can = krel_free n m (either (krel_refusal n m) (no_mask (waiting_mask n.parts.kflow m.dst) s.choice) e).0 in
+    let number = (room_of n.parts.kflow m.dst m.paths can.place can.there).number in
+    let k = pushed_obeys n.live.weights (removed_now n) r n.fixed.me m.dst can.place.seq o refl kept.on_paths number
+    (flows_part n.live.weights (removed_now n) Paths n.parts h) in
+    record { least = h.least; prio = h.prio; rows = h.rows; rel = h.rel; flows = h.flows; kflow = k.known; on_paths = k.flows_are }))
 step_obeys arts n (SendPrio m) output new kept s h =
     let p = n.parts.prio in
     let o = own_prio arts n m s.choice in
@@ -225,12 +261,20 @@ step_obeys arts n (SendPrio m) output new kept s h =
 step_obeys arts n (SetWeight v weight) output new kept s h =
     let o = signed_now arts n (weight_body n v weight) in
     subst Obeys (sym s.1) (or_obeys Obeys n (signed_once n (record n.parts { weights = held n.parts.weights o })) (weight_refusal n v weight) h
-    (λ e. record { least = h.least; prio = h.prio; rows = h.rows; rel = h.rel; flows = h.flows }))
+    (λ e. record { least = h.least; prio = h.prio; rows = h.rows; rel = h.rel; flows = h.flows; kflow = h.kflow; on_paths = h.on_paths }))
 step_obeys arts n (TakeRel src) output new kept s h =
     let k = same_flow n.live.weights (removed_now n) n.parts.rel (rel.flow_to_me n.parts.rel src) after_take (λ f ok. ok)
-    (rel_part n.live.weights (removed_now n) n.parts h) in
-    subst Obeys (sym s.1) (record { least = h.least; prio = h.prio; rows = h.rows; rel = k.known; flows = k.flows_are })
+    (flows_part n.live.weights (removed_now n) Plain n.parts h) in
+    subst Obeys (sym s.1)
+    (record { least = h.least; prio = h.prio; rows = h.rows; rel = k.known; flows = k.flows_are; kflow = h.kflow; on_paths = h.on_paths })
+step_obeys arts n (TakeKrel src) output new kept s h =
+    let r = n.parts.kflow.flows in
+    let k = same_flow n.live.weights (removed_now n) r (rel.flow_to_me r src) after_take (λ f ok. ok)
+    (flows_part n.live.weights (removed_now n) Paths n.parts h) in
+    subst Obeys (sym s.1)
+    (record { least = h.least; prio = h.prio; rows = h.rows; rel = h.rel; flows = h.flows; kflow = k.known; on_paths = k.flows_are })
 step_obeys arts n TakePrio output new kept s h =
-    subst Obeys (sym s.1) (record { least = h.least; prio = h.prio; rows = h.rows; rel = h.rel; flows = h.flows })
+    subst Obeys (sym s.1)
+    (record { least = h.least; prio = h.prio; rows = h.rows; rel = h.rel; flows = h.flows; kflow = h.kflow; on_paths = h.on_paths })
 step_obeys arts n (Publish document) output new kept s h =
     subst Obeys (sym s.1) (publishing arts n document (λ m told. Obeys m) h (λ d reads by. adopted_obeys arts n document d kept.weights by))

@@ -9,12 +9,13 @@ use Rattle.sp_rules.specs.Flow.{no_flow}
 use Rattle.sp_rules.specs.Handle.{Arrival, handle}
 use Rattle.sp_rules.specs.Lives.{boot_said, held_boot, judge_epoch, origin_said}
 use Rattle.sp_rules.specs.Node.{NodeState}
-use Rattle.sp_rules.specs.Parts.{Parts, is_signed}
+use Rattle.sp_rules.specs.Parts.{Parts, flows_of, is_signed}
 use Rattle.sp_rules.specs.Pieces.{EpochPiece}
 use Rattle.sp_rules.specs.Prio.{window_in}
 use Rattle.sp_rules.specs.Rel.{flow_in, is_end}
 use Rattle.sp_rules.specs.Steps.{Input, NodeStep, Output}
 use Rattle.sp_rules.specs.declared.answers.EpochAnswer.TheVariants as epoch
+use Rattle.sp_rules.specs.declared.kflow.FlowKind.{FlowKind}
 
 -- one life of a node came after another
 pub record Follows (v : NodeId) (boot : ℕ) (old new : Parts) : Type 0 where
@@ -24,7 +25,8 @@ pub record Follows (v : NodeId) (boot : ℕ) (old new : Parts) : Type 0 where
   pub others : (u : NodeId) → u.0 ≢ v.0 → held_boot new.lives u ≡ held_boot old.lives u
   -- none of its numbers was seen; its flows are as before their first message, and other flows stay
   pub window : window_in new.prio v.0 ≡ []
-  pub flows : (flow : Flow) → flow_in new.rel.flows flow ≡ (if is_end v flow then no_flow flow else flow_in old.rel.flows flow)
+  pub flows : (kind : FlowKind) (flow : Flow)
+      → flow_in (flows_of kind new).flows flow ≡ (if is_end v flow then no_flow flow else flow_in (flows_of kind old).flows flow)
 
 -- the law of what a new Epoch object leaves: its boot is held, and flows with that end begin anew
 abbrev pub EpochTaken : Type 0

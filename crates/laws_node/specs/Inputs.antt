@@ -11,7 +11,7 @@ use Rattle.sp_rules.specs.Arts.{Arts, Document}
 use Rattle.sp_rules.specs.Node.{Signer}
 use Rattle.sp_rules.specs.Parts.{Fixed}
 use Rattle.sp_rules.specs.Sends.{PrioSend}
-use Rattle.sp_rules.specs.Steps.{Input, Poll, Datagram, Tick, SendRel, SendPrio, SetWeight, TakeRel, TakePrio, Publish}
+use Rattle.sp_rules.specs.Steps.{Input, Poll, Datagram, Tick, SendRel, SendPrio, SetWeight, TakeRel, TakePrio, SendKrel, TakeKrel, Publish}
 use Rattle.sp_rules.specs.Topologies.{IsRunnable, weights_in}
 use Rattle.sp_topology.specs.Keys.{key_of}
 use Rattle.sp_topology.specs.declared.topology.Topology.{Topology}
@@ -57,6 +57,8 @@ InputFits (SendPrio message) = PrioSendFits message
 InputFits (SetWeight peer weight) = (1 ≤ weight) × (weight ≤ MAX_WEIGHT)
 InputFits (TakeRel src) = Unit {0}
 InputFits TakePrio = Unit {0}
+InputFits (SendKrel message) = length message.payload ≤ MAX_PAYLOAD_BYTES
+InputFits (TakeKrel src) = Unit {0}
 InputFits (Publish document) = FitsAFrame document
 
 -- what a life begins with is in its ranges

@@ -11,6 +11,7 @@ use Rattle.sp_rules.specs.Node.{NodeState, Signer}
 use Rattle.sp_rules.specs.Parts.{Fixed, Parts, is_signed, nodes_of}
 use Rattle.sp_rules.specs.Topologies.{IsRunnable}
 use Rattle.sp_rules.specs.Versions.{Live}
+use Rattle.sp_rules.specs.declared.kflow.FlowKind.TheVariants as kinds
 use Rattle.sp_rules.specs.declared.node.TheConstants.{MAX_CALLS}
 use Rattle.laws_node.specs.Flows.{RelHolds}
 use Rattle.laws_node.specs.HeldBoots.{LifeHolds}
@@ -48,7 +49,8 @@ pub record SignerHolds (s : Signer) : Type 0 where
 pub record PartsHold (k : Sizes) (numbers ids index : ℕ) (p : Parts) : Type 0 where
   pub weights : WeightsHold k index p.weights
   pub prio : PrioHolds k numbers ids index p.prio
-  pub rel : RelHolds k index p.rel
+  pub rel : RelHolds kinds.Plain k index p.rel
+  pub kflow : RelHolds kinds.Paths k index p.kflow.flows
   pub lives : All (LifeHolds k) p.lives
   -- for each node the place in its cycle of Epoch objects
   pub origins : length p.origins ≡ length k.nodes

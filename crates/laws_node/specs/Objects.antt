@@ -11,9 +11,9 @@ abbrev pub objects_of : Piece → List Kept
 objects_of (WeightPiece o) = o ∷ []
 objects_of (PrioAckPiece number) = []
 objects_of (PrioPiece number o) = o ∷ []
-objects_of (ReportPiece flow sboot dboot base have) = []
-objects_of (AckPiece flow o) = o ∷ []
-objects_of (RelPiece flow o) = o ∷ []
+objects_of (ReportPiece kind flow sboot dboot base have) = []
+objects_of (AckPiece kind flow o) = o ∷ []
+objects_of (RelPiece kind flow o) = o ∷ []
 objects_of (EpochPiece o) = o ∷ []
 
 -- the objects of pieces, in their order

@@ -6,12 +6,14 @@ use Rattle.sp_rules.specs.Arts.{Arts}
 use Rattle.sp_rules.specs.Flow.{ends}
 use Rattle.sp_rules.specs.Link.{Link}
 use Rattle.sp_rules.specs.Node.{NodeState, Signer, booted, started}
-use Rattle.sp_rules.specs.Parts.{Fixed, neighbours_of, nodes_of}
+use Rattle.sp_rules.specs.Kflow.{KState}
+use Rattle.sp_rules.specs.Parts.{Fixed, as_neighbour, neighbours_of, nodes_of}
 use Rattle.sp_rules.specs.Prio.{PrioState}
 use Rattle.sp_rules.specs.PrioPeer.{PrioPeer}
 use Rattle.sp_rules.specs.Rel.{RelPeer, RelState, View, pairs_of}
 use Rattle.sp_rules.specs.Steps.{Input, NodeStep, Output}
 use Rattle.sp_rules.specs.Weights.{WeightState}
+use Rattle.sp_rules.specs.declared.prio.Neighbour.{Neighbour}
 use Rattle.sp_topology.specs.declared.topology.Edge.{Edge}
 
 pub record LinkShape : Type 0 where
@@ -81,6 +83,16 @@ pub record RelShape : Type 0 where
 abbrev pub rel_shape : RelState → RelShape
 rel_shape r = record { me = r.me; nodes = r.nodes; bound = r.bound; flows = map ends r.flows; peers = map rel_peer_shape r.peers }
 
+-- what doesn't change of flows on paths
+pub record KShape : Type 0 where
+  pub flows : RelShape
+  pub edges : List Neighbour
+  pub nodes : List NodeId
+
+-- the flows, the edge to each neighbour, and the nodes that have a number of paths
+abbrev pub kflow_shape : KState → KShape
+kflow_shape f = record { flows = rel_shape f.flows; edges = f.edges; nodes = map (λ row. row.dst) f.paths }
+
 -- what doesn't change of a node
 pub record Shape : Type 0 where
   pub fixed : Fixed
@@ -92,6 +104,7 @@ pub record Shape : Type 0 where
   pub weights : WeightShape
   pub prio : PrioShape
   pub rel : RelShape
+  pub kflow : KShape
   pub lives : List NodeId
   pub origins : ℕ
 
@@ -107,6 +120,7 @@ shape_of n = record {
   weights = weight_shape n.parts.weights;
   prio = prio_shape n.parts.prio;
   rel = rel_shape n.parts.rel;
+  kflow = kflow_shape n.parts.kflow;
   lives = map (λ l. l.node) n.parts.lives;
   origins = length n.parts.origins;
 }
@@ -117,6 +131,18 @@ shape_of n = record {
 abbrev pub ShapesStay : Type 0
 ShapesStay = (arts : Arts) (old : NodeState) (input : Input) (output : Output) (new : NodeState) → NodeStep arts old input output new
     → shape_of new ≡ shape_of old
+
+-- rows for the ordered pairs of two nodes and for the neighbours
+abbrev pub flows_at_start : Fixed → (buffer : ℕ) → RelShape
+flows_at_start f buffer =
+    let pairs = pairs_of (nodes_of f.topology) in
+    record {
+      me = f.me;
+      nodes = nodes_of f.topology;
+      bound = buffer;
+      flows = pairs;
+      peers = map (λ n. record { peer = n.0; views = pairs }) (neighbours_of f);
+    }
 
 -- rows for the ordered pairs of two nodes and for the neighbours, each with a view of each pair and a kept version, a window, a life and a cycle for each
 -- node, and the bounds that were given
@@ -139,13 +165,8 @@ shape_at_start f signer keys buffer store =
         peers = map (λ n. record { peer = n.0.0; edge = n.1.0; capacity = store }) ns;
         windows = length nodes;
       };
-      rel = record {
-        me = f.me;
-        nodes = nodes;
-        bound = buffer;
-        flows = pairs_of nodes;
-        peers = map (λ n. record { peer = n.0; views = pairs_of nodes }) ns;
-      };
+      rel = flows_at_start f buffer;
+      kflow = record { flows = flows_at_start f buffer; edges = map as_neighbour ns; nodes = nodes };
       lives = nodes;
       origins = length f.topology.nodes;
     }

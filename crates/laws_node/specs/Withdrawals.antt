@@ -20,6 +20,7 @@ removed_now n = removed_of (nodes_of n.fixed.topology) (topology_now n).edges
 pub record IsSized (n : NodeState) : Type 0 where
   pub weights : length n.live.weights ≡ length n.fixed.topology.edges
   pub me : n.parts.rel.me ≡ n.fixed.me
+  pub on_paths : n.parts.kflow.flows.me ≡ n.fixed.me
 
 -- ---- who changes a topology
 
@@ -70,6 +71,8 @@ pub record PartsObey (weights : List ℕ) (removed : List NodeId) (p : Parts) : 
   pub rows : All (RowObeys weights removed) p.prio.peers
   pub rel : p.rel.removed ≡ removed
   pub flows : All (FlowObeys removed) p.rel.flows
+  pub kflow : p.kflow.flows.removed ≡ removed
+  pub on_paths : All (FlowObeys removed) p.kflow.flows.flows
 
 -- the parts know of the topology what it is now, and keep nothing that it withdraws
 abbrev pub Obeys : NodeState → Type 0

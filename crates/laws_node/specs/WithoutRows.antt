@@ -11,6 +11,7 @@ use Rattle.sp_rules.specs.Node.{NodeState}
 use Rattle.sp_rules.specs.Prio.{PrioState, admit_prio, judge_prio}
 use Rattle.sp_rules.specs.Rel.{RelState, admit_rel, judge_rel_of, rel_effects, start}
 use Rattle.sp_rules.specs.Store.{empty_store}
+use Rattle.sp_rules.specs.declared.kflow.FlowKind.TheVariants.{Plain}
 use Rattle.sp_rules.specs.declared.prio.PrioJudged.TheVariants as prios
 use Rattle.sp_rules.specs.declared.rel.RelJudged.TheVariants as rels
 use Rattle.laws_node.specs.Flows.{RelHolds}
@@ -67,7 +68,7 @@ pub record RowsAreNeeded : Type 0 where
   pub prio_new : judge_prio blind urgent.body 0 ≡ prios.New
   pub prio_again : judge_prio (admit_prio blind urgent (Some (node 1))) urgent.body 0 ≡ prios.New
   -- what a node keeps always has the rows, and no step leads from a node with rows and bounds to one without these rows, or with other bounds
-  pub not_kept : ¬ (RelHolds sizes 0 hollow)
+  pub not_kept : ¬ (RelHolds Plain sizes 0 hollow)
   pub not_left : rel_shape hollow ≢ rel_shape whole
   pub not_wider : rel_shape wider ≢ rel_shape whole
   -- nor does one lose its windows

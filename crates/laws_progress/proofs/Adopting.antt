@@ -57,7 +57,7 @@ node_follows arts x es js old new e j fits reads run u b n at (Remains c there r
 node_follows arts x es js old new e j fits reads run u b n at (Acts acts c there m readied after none) =
     let same : c ≡ b = same_Some c b (sym there ∙ at) in
     let is = (signs arts x es js old fits reads run).nodes u c there in
-    let size = readied_keeps x old c m.node IsSized (λ upto h. record { weights = h.weights; me = h.me }) readied
+    let size = readied_keeps x old c m.node IsSized (λ upto h. record { weights = h.weights; me = h.me; on_paths = h.on_paths }) readied
     (sized (sizes_at x (Good arts x es js) u) c is.holds) in
     let first = readied_keeps x old c m.node (Follows c) (λ upto h. record { version = h.version; removed = h.removed; live = h.live }) readied
     (same_follows c) in

@@ -102,10 +102,10 @@ counted_on W Next Hop at place bound least s d facts before es w y g c = λ u v 
 
 room : (W : Type 0) (Next : W → Event → W → Type 0) (Hop : NodeId → NodeId → Type 0) (at : Sight W) (place bound least : ℕ) (s d : NodeId)
     → Facts W Next Hop at place bound least s d
-    → (es : List Event) (w y : W) → Goes W Next w es y → list_any (is_take d s) es ≡ true → at.have w d < at.taken y + bound
+    → (es : List Event) (w y : W) → Goes W Next w es y → list_any (is_take at.kind d s) es ≡ true → at.have w d < at.taken y + bound
 room W Next Hop at place bound least s d facts [] w y g is = absurd (let f : false ≡ true = is in cc)
 room W Next Hop at place bound least s d facts (e ∷ es) w y (Steps {x = x} step g) is =
-    elim (cases_Bool (is_take d s e)) [
+    elim (cases_Bool (is_take at.kind d s e)) [
       | inl t ↦
           let made = facts.makes_room w x e step t in
           let up = rises W Next at.taken facts.taken_rises es x y g in
@@ -143,7 +143,7 @@ stations W Next early back between forth late w y g =
 pub record HopRound (W : Type 0) (at : Sight W) (u v : NodeId) (w y : W) : Type 0 where
   pub base_on : at.base w u ≤ at.base y v
   pub base_back : at.base w v ≤ at.base y u
-  pub have_on : min (at.have w u) (at.have w v + 1) ≤ at.have y v
+  pub have_on : at.low ≤ at.base w u → min (min at.high (at.have w u)) (at.have w v + 1) ≤ at.have y v
 
 -- the numbers that the way back gives
 record Back (W : Type 0) (at : Sight W) (place : ℕ) (u v : NodeId) (w y : W) : Type 0 where
@@ -192,7 +192,7 @@ went_forth : (W : Type 0) (Next : W → Event → W → Type 0) (Hop : NodeId �
     → (u v : NodeId) (have_u have_v : ℕ) → Hop u v → (u ≡ d → ⊥) → (es : List Event) (w y : W) → Goes W Next w es y → are_passed u v (at.polled w u v) es ≡ true
     → 1 ≤ least → least ≤ polls es u v
     → at.knows w u v ≡ true → have_u ≤ at.have w u → (0 < have_u → have_v ≤ at.view_have w u v) → (v ≡ d → have_v < at.taken w + bound)
-    → (at.base w u ≤ at.base y v) × (min have_u (have_v + 1) ≤ at.have y v)
+    → (at.base w u ≤ at.base y v) × (at.low ≤ at.base w u → min (min at.high have_u) (have_v + 1) ≤ at.have y v)
 went_forth W Next Hop at place bound least s d facts u v have_u have_v hop inner es w y g passes one enough knows has view room =
     elim (cases_Bool (is_on (at.actives w u) place)) [
       | inl on ↦
@@ -207,26 +207,27 @@ went_forth W Next Hop at place bound least s d facts u v have_u have_v hop inner
           let b2 = rises W Next (λ x. at.base x v) (λ p q e n. facts.base_rises p q e v n) it.after it.came y it.then_ in
           let h2 = rises W Next (λ x. at.have x v) (λ p q e n. facts.have_rises p q e v n) it.after it.came y it.then_ in (
             omega (arith, b0, b1, b2),
-            elim (cases_lt 0 have_u) [
+            λ ready. elim (cases_lt 0 have_u) [
               | inr none ↦ omega (arith, none)
               | inl some ↦
                   let seen = view some in
                   elim (cases_node v d) [
-                    | inl is ↦ let h1 = it.heard.have_at_end k t.turn inner is in let r = room is in omega (arith, h0, h1, h2, v0, seen, has, r, t0)
-                    | inr other ↦ let h1 = it.heard.have k t.turn inner other in omega (arith, h0, h1, h2, v0, seen, has)
+                    | inl is ↦ let h1 = it.heard.have_at_end k t.turn inner is (omega (arith, ready, b0)) in let r = room is in omega
+                        (arith, h0, h1, h2, v0, seen, has, r, t0)
+                    | inr other ↦ let h1 = it.heard.have k t.turn inner other (omega (arith, ready, b0)) in omega (arith, h0, h1, h2, v0, seen, has)
                   ]
             ],
           )
       | inr off ↦
           let none = off_zero W Next Hop at place bound least s d facts w u off in
           let sound = facts.sound w u in
-          (omega (arith, none, sound), omega (arith, none, has))
+          (omega (arith, none, sound), λ ready. omega (arith, none, has))
     ]
 
 pub hop_round : (W : Type 0) (Next : W → Event → W → Type 0) (Hop : NodeId → NodeId → Type 0) (at : Sight W) (place bound least : ℕ) (s d : NodeId)
     → Facts W Next Hop at place bound least s d
     → (u v : NodeId) → Hop u v → Hop v u → (u ≡ d → ⊥) → (before during : List Event) (w y : W) → Goes W Next w during y → AreCounted W at Hop before w
-    → 1 ≤ least → IsHopServed least s d u v before during
+    → 1 ≤ least → IsHopServed at.kind least s d u v before during
     → at.knows w u v ≡ true → at.knows w v u ≡ true → HopRound W at u v w y
 hop_round W Next Hop at place bound least s d facts u v hop pho inner before during w y g counted one served known_u known_v =
     let t = stations W Next served.early served.back served.between served.forth served.late w y (rw served.parts at g) in
@@ -258,14 +259,14 @@ hop_round W Next Hop at place bound least s d facts u v hop pho inner before dur
     record {
       base_on = let f = forth.0 in omega (arith, base_u, f, base_e);
       base_back = let f = back.base in omega (arith, base_v, f, base_b);
-      have_on = let f = forth.1 in omega (arith, f, have_e);
+      have_on = λ ready. let f = forth.1 (omega (arith, ready, base_u)) in omega (arith, f, have_e);
     }
 
 -- after any round both ends of a hop know each other's boot
 pub hop_known : (W : Type 0) (Next : W → Event → W → Type 0) (Hop : NodeId → NodeId → Type 0) (at : Sight W) (place bound least : ℕ) (s d : NodeId)
     → Facts W Next Hop at place bound least s d
     → (u v : NodeId) → Hop u v → Hop v u → (before during : List Event) (w y : W) → Goes W Next w during y → AreCounted W at Hop before w → 1 ≤ least
-    → IsHopServed least s d u v before during
+    → IsHopServed at.kind least s d u v before during
     → (at.knows y u v ≡ true) × (at.knows y v u ≡ true)
 hop_known W Next Hop at place bound least s d facts u v hop pho before during w y g counted one served =
     let t = stations W Next served.early served.back served.between served.forth served.late w y (rw served.parts at g) in

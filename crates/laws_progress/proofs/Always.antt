@@ -1,7 +1,8 @@
 -- What holds of the frames and views between two watched nodes in every state, whichever nodes start and stop.
 use Rattle.laws_progress.proofs.Begins.{begins, fresh_start, lifted}
 use Rattle.laws_progress.proofs.Changes.{Acted, Away, Born, Course, Rests, Steps, Unmoved, course, flow_later, lit, same_read, dark}
-use Rattle.laws_progress.proofs.Hears.{Met, SameHere, hearing}
+use Rattle.laws_progress.proofs.Hears.{hearing}
+use Rattle.laws_progress.proofs.Meetings.{Met, SameHere}
 use Rattle.laws_progress.proofs.HopLemmas.{hops_hold}
 use Rattle.laws_progress.proofs.Hops.{HopHolds, IsDeaf, IsHearing, Lasting, SameView, Told}
 use Rattle.laws_progress.proofs.KnownRuns.{first_none}
@@ -25,6 +26,7 @@ use Rattle.sp_schedule_events.specs.declared.event.Event.{Event}
 use Rattle.std.proofs.Common.{Bool, List, Some, ap, arith, cond, false, inl, inr, refl, sym, true, ℕ, ◌&&◌, ◌+◌, ◌==◌, ◌∙◌, ◌≡◌, ◌⊎◌}
 use Rattle.std.proofs.lemmas.Bool.{ne_eqb}
 use Rattle.std.proofs.lemmas.Option.{slice_get_within}
+use Rattle.sp_rules.specs.Parts.{flows_of}
 
 module _ (arts : Arts) (x : Setting) (all : List Event) (era : Era) (flow : Flow) (fits : SettingFits arts x)
     (reads : ComesThrough x.topology.format arts x.signature_len)
@@ -62,7 +64,7 @@ module _ (arts : Arts) (x : Setting) (all : List Event) (era : Era) (flow : Flow
     unknown_view : (q : NodeState) → x.epochs ≡ true → ((link_in q u).peer_boot == era.life u) ≡ false → view_at x era flow v u q ≡ no_view flow
     unknown_view q epochs off = rw (epochs, off) (either (in_era era flow v q))
       where
-        either : (t : Bool) → cond (t && false) (view_in (peer_in q.parts.rel.peers u).views flow) (no_view flow) ≡ no_view flow
+        either : (t : Bool) → cond (t && false) (view_in (peer_in (flows_of era.kind q.parts).peers u).views flow) (no_view flow) ≡ no_view flow
         either true = refl
         either false = refl
 

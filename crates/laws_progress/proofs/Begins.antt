@@ -15,7 +15,7 @@ use Rattle.sp_runs.specs.Runs.{polls, Clean, Starts, Turned}
 use Rattle.sp_runs.specs.Settings.{SettingFits, Setting, fixed_of, link_keys}
 use Rattle.sp_runs.specs.Worlds.{frames_in, World, at_start, node_in}
 use Rattle.std.proofs.Common.{◌∙◌, Bool, arith, cond, false, true, ◌&&◌, ◌+◌, ◌≡◌, ℕ, List, [], ◌∷◌, ◌++◌, map, zip, Option, Some, None, refl, sym, ap}
-use Rattle.std.proofs.Common.{subst, ◌∙◌, inl, inr}
+use Rattle.std.proofs.Common.{subst, inl, inr}
 use Rattle.std.proofs.lemmas.Option.{slice_get_within}
 use Rattle.std.specs.Prelude.{slice_get}
 use Rattle.std.proofs.lemmas.Bool.{cases_Bool}
@@ -36,6 +36,11 @@ use Rattle.laws_progress.proofs.Hops.{IsFresh}
 use Rattle.laws_progress.proofs.Rows.{at_boot, near}
 use Rattle.laws_progress.proofs.Sweeps.{joined}
 use Rattle.laws_progress.proofs.Wires.{wires}
+use Rattle.sp_rules.specs.Parts.{flows_of, as_neighbour}
+use Rattle.sp_rules.specs.declared.kflow.FlowKind.{FlowKind}
+use Rattle.sp_rules.specs.declared.kflow.FlowKind.TheVariants.{Plain, Paths}
+use Rattle.sp_rules.specs.declared.prio.Neighbour.{Neighbour}
+use Rattle.sp_runs.specs.Settings.{node_at_boot}
 
 none_seen : (f : Fixed) (u v : NodeId) (zs : List ((NodeId × EdgeId) × List ℕ))
     → (first_where (is_link v) (new_link u v 0 []) (map (link_of f) zs)).seen ≡ (0, 0)
@@ -65,13 +70,20 @@ none_peer flows v flow (u ∷ us) = elim (cases_Bool (is_peer v (new_peer flows 
   | inr t ↦ rw t (none_peer flows v flow us)
 ]
 
-boot_view : (x : Setting) (u v : NodeId) (flow : Flow) (n : NodeState) → node_in (at_start x).nodes u ≡ Some n
-    → ((view_in (peer_in n.parts.rel.peers v).views flow).base ≡ 0) × ((view_in (peer_in n.parts.rel.peers v).views flow).have ≡ 0)
-boot_view x u v flow n at =
+boot_view : (kind : FlowKind) (x : Setting) (u v : NodeId) (flow : Flow) (n : NodeState) → node_in (at_start x).nodes u ≡ Some n
+    → ((view_in (peer_in (flows_of kind n.parts).peers v).views flow).base ≡ 0) × ((view_in (peer_in (flows_of kind n.parts).peers v).views flow).have ≡ 0)
+boot_view kind x u v flow n at =
     let is = at_boot x u n at in
-    subst (λ (m : NodeState). ((view_in (peer_in m.parts.rel.peers v).views flow).base ≡ 0) × ((view_in (peer_in m.parts.rel.peers v).views flow).have ≡ 0))
+    subst (λ (m : NodeState). ((view_in (peer_in (flows_of kind m.parts).peers v).views flow).base ≡ 0)
+    × ((view_in (peer_in (flows_of kind m.parts).peers v).views flow).have ≡ 0))
     (sym is)
-    (none_peer (pairs_of (nodes_of x.topology)) v flow (near x u))
+    (of_kind kind)
+  where
+    of_kind : (kind : FlowKind)
+        → ((view_in (peer_in (flows_of kind (node_at_boot x u).parts).peers v).views flow).base ≡ 0)
+        × ((view_in (peer_in (flows_of kind (node_at_boot x u).parts).peers v).views flow).have ≡ 0)
+    of_kind Plain = none_peer (pairs_of (nodes_of x.topology)) v flow (near x u)
+    of_kind Paths = none_peer (pairs_of (nodes_of x.topology)) v flow (map (λ (n : Neighbour). n.id) (map as_neighbour (neighbours_of (fixed_of x u))))
 
 pub record BegunAt (arts : Arts) (x : Setting) (all : List Event) (w : State arts x all) : Type 0 where
   pub first : State arts x all
@@ -207,8 +219,9 @@ module _ (arts : Arts) (x : Setting) (all : List Event) (era : Era) (fits : Sett
         → ((seen_at (no_view flow) (view_at x era flow v u) o).base ≡ 0) × ((seen_at (no_view flow) (view_at x era flow v u) o).have ≡ 0)
     view_none u v None at = (refl, refl)
     view_none u v (Some n) at =
-        let view = boot_view x v u flow n at in
-        cond_either (λ (z : View). (z.base ≡ 0) × (z.have ≡ 0)) (in_era era flow v n && has_met x era u n) (view_in (peer_in n.parts.rel.peers u).views flow)
+        let view = boot_view era.kind x v u flow n at in
+        cond_either (λ (z : View). (z.base ≡ 0) × (z.have ≡ 0)) (in_era era flow v n && has_met x era u n)
+        (view_in (peer_in (flows_of era.kind n.parts).peers u).views flow)
         (no_view flow)
         (view.0, view.1) (refl, refl)
 

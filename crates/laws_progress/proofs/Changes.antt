@@ -31,8 +31,11 @@ use Rattle.laws_runs.proofs.Ready.{Readied, readied_is}
 use Rattle.laws_runs.proofs.Running.{found_there}
 use Rattle.laws_progress.proofs.Becomes.{Acts, Becomes, Begins, MovesNobody, Remains, becomes, readied_keeps}
 use Rattle.laws_progress.proofs.LastBoots.{held_below, last_boot, last_rises, running_boot, held_none}
-use Rattle.laws_progress.proofs.Rises.{Begins_anew, FlowLater, Goes_on, PartsGo, same_later, step_go}
+use Rattle.laws_progress.proofs.Rises.{Begins_anew, FlowLater, Goes_on, PartsGo, same_later}
+use Rattle.laws_progress.proofs.StepGoes.{step_go}
 use Rattle.laws_progress.proofs.States.{Era, Follow, IsEra, Leads, Watched, flow_of, flow_seen, in_era, in_life, seen_at}
+use Rattle.sp_rules.specs.Parts.{flows_of}
+use Rattle.laws_progress.proofs.EitherKind.{obeyed}
 
 -- ---- reading nodes
 
@@ -83,11 +86,11 @@ same_read x w b n read same is = readied_keeps x w b n (λ m. read m ≡ read b)
 pub not_over : (arts : Arts) (x : Setting) (all : List Event) (era : Era) → SettingFits arts x → Carries x.topology.format arts → (flow : Flow)
     → IsEra x flow era
     → (z : Watched arts x all era) (u : NodeId) (n : NodeState) → node_in z.at.world.nodes u ≡ Some n → in_life era u n ≡ true
-    → is_over n.parts.rel.removed flow ≡ false
+    → is_over (flows_of era.kind n.parts).removed flow ≡ false
 not_over arts x all era fits reads flow is_era z u n at life =
     let its = life_is era u n life in
     let none = λ (v : NodeId) (on : era.on v ≡ true). z.joined u v its.0 on n at its.1 in
-    ap (λ gone. is_over gone flow) ((signs arts x z.at.events z.at.journal z.at.world fits reads z.at.run).nodes u n at).obeys.rel
+    ap (λ gone. is_over gone flow) (obeyed era.kind n ((signs arts x z.at.events z.at.journal z.at.world fits reads z.at.run).nodes u n at).obeys)
     ∙ ap₂ (λ (a b : Bool). a || b) (none flow.src is_era.source) (none flow.dst is_era.end)
 
 -- ---- one event
@@ -228,8 +231,9 @@ module _ (arts : Arts) (x : Setting) (all : List Event) (era : Era) (fits : Sett
 
     -- the boots that count stay where they are held, and the flow goes on
     pub era_goes : (u : NodeId) (n m : NodeState) → node_in y.at.world.nodes u ≡ Some m → holds n flow.src era.sboot flow.dst era.dboot ≡ true
-        → PartsGo flow n.parts m.parts
-        → (holds m flow.src era.sboot flow.dst era.dboot ≡ true) × FlowLater (flow_in n.parts.rel.flows flow) (flow_in m.parts.rel.flows flow)
+        → PartsGo era.kind flow n.parts m.parts
+        → (holds m flow.src era.sboot flow.dst era.dboot ≡ true)
+        × FlowLater (flow_in (flows_of era.kind n.parts).flows flow) (flow_in (flows_of era.kind m.parts).flows flow)
     era_goes u n m at held (Goes_on src dst later) =
         let h = holds_both n flow.src flow.dst era.sboot era.dboot held in
         (both_held m flow.src flow.dst era.sboot era.dboot (src ∙ h.0) (dst ∙ h.1), later)
@@ -243,7 +247,7 @@ module _ (arts : Arts) (x : Setting) (all : List Event) (era : Era) (fits : Sett
     none_later f = record { base = omega arith; have = omega arith; active = λ on. absurd (let z : false ≡ true = on in cc); taken = omega arith }
 
     pub step_flow : (u : NodeId) (n m : NodeState) → node_in y.at.world.nodes u ≡ Some m → in_life era u n ≡ true → in_life era u m ≡ true
-        → PartsGo flow n.parts m.parts
+        → PartsGo era.kind flow n.parts m.parts
         → FlowLater (flow_of era flow u n) (flow_of era flow u m)
     step_flow u n m at first second go = elim (cases_Bool (holds n flow.src era.sboot flow.dst era.dboot)) [
       | inl held ↦ let it = era_goes u n m at held go in let now = it.0 in rw (first, held, second, now) it.1
@@ -272,4 +276,4 @@ module _ (arts : Arts) (x : Setting) (all : List Event) (era : Era) (fits : Sett
             let same = same_read x w.at.world a.before a.node (flow_of era flow u) (λ upto. refl) a.readied in
             subst (λ f. FlowLater f (flow_seen arts x all era flow y u)) (same ∙ sym was)
             (subst (FlowLater (flow_of era flow u a.node)) (sym is) (step_flow u a.node a.after a.left first second
-            (step_go flow arts a.node a.input a.output a.after a.step (not_over arts x all era fits reads flow is_era y u a.after a.left second))))
+            (step_go era.kind flow arts a.node a.input a.output a.after a.step (not_over arts x all era fits reads flow is_era y u a.after a.left second))))

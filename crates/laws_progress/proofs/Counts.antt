@@ -37,9 +37,10 @@ and_more true b c less is = less is
 and_more false b c less is = is
 
 pub flow_counts_never_fall : FlowCountNeverFalls
-flow_counts_never_fall x es later =
-    let more = counts_more (λ flow. has_correct_ends x flow && list_any (is_send flow) es)
-    (λ flow. has_correct_ends x flow && list_any (is_send flow) (es ++ later))
-    (λ flow is. and_more (has_correct_ends x flow) (list_any (is_send flow) es) (list_any (is_send flow) (es ++ later)) (any_more (is_send flow) es later) is)
+flow_counts_never_fall kind x es later =
+    let more = counts_more (λ flow. has_correct_ends x flow && list_any (is_send kind flow) es)
+    (λ flow. has_correct_ends x flow && list_any (is_send kind flow) (es ++ later))
+    (λ flow is. and_more (has_correct_ends x flow) (list_any (is_send kind flow) es) (list_any (is_send kind flow) (es ++ later))
+    (any_more (is_send kind flow) es later) is)
     (pairs_of (nodes_of x.topology)) in
     omega (arith, more)

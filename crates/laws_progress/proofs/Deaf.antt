@@ -6,31 +6,20 @@ use Rattle.laws_progress.proofs.Slots.{one_same}
 use Rattle.laws_runs.proofs.NoStarts.{NoStart, pieces_at}
 use Rattle.sp_rules.specs.declared.node.NodeRefused.{NodeRefused}
 use Rattle.laws_runs.proofs.StartPieces.{StartLast, same_lives, greeted_lives, last_where}
-use Rattle.std.proofs.Common.{◌≡◌, ℕ, true, false, List, [], ◌∷◌, Option, Some, None, refl, sym, ap, subst, ◌∙◌, inl, inr, Bool}
+use Rattle.std.proofs.Common.{◌≡◌, ℕ, true, List, [], ◌∷◌, Option, Some, None, sym, ap, subst, ◌∙◌, inl, inr, Bool}
 use Rattle.sp_base.specs.declared.id.Flow.{Flow}
 use Rattle.sp_base.specs.declared.id.NodeId.{NodeId}
-use Rattle.sp_msg.specs.declared.body.Ack.{Ack}
-use Rattle.sp_msg.specs.declared.body.Body.TheVariants as bodies
 use Rattle.sp_msg.specs.declared.kept.Kept.{Kept}
-use Rattle.sp_msg.specs.declared.refused.SendRefused.{SendRefused}
-use Rattle.sp_rules.specs.Answers.{ack_answer, is_new, prio_answer, rel_answer, weight_answer}
 use Rattle.sp_rules.specs.Arts.{Arts}
-use Rattle.sp_rules.specs.Arrivals.{reply_at, arrival_at, parts_met, greeted, reply_at, sections_in, before_document, document_at, read_by, rises}
-use Rattle.sp_rules.specs.Handle.{Arrival, handle, handle_all, offer_to, prio_handled}
-use Rattle.sp_rules.specs.Lives.{are_held, is_dated, held_boot}
-use Rattle.sp_rules.specs.Node.{NodeState, call_refusal, kept_or, signed_now, called, with_link, link_in}
-use Rattle.sp_rules.specs.Parts.{Parts, is_signed}
+use Rattle.sp_rules.specs.Arrivals.{reply_at, arrival_at, parts_met, greeted, sections_in, before_document, document_at, read_by, rises}
+use Rattle.sp_rules.specs.Handle.{Arrival, handle, handle_all}
+use Rattle.sp_rules.specs.Lives.{held_boot}
+use Rattle.sp_rules.specs.Node.{NodeState, call_refusal, kept_or, called, with_link, link_in}
+use Rattle.sp_rules.specs.Parts.{Parts}
 use Rattle.sp_rules.specs.Pieces.{Piece, AckPiece, PrioAckPiece, PrioPiece, RelPiece, ReportPiece, WeightPiece, EpochPiece}
-use Rattle.sp_rules.specs.Rel.{RelState, admit_ack, admit_rel, due_place, flow_in, judge_ack_of, judge_rel_of, next_place, peer_in, reported, served, served_at}
+use Rattle.sp_rules.specs.Rel.{RelState, due_place, flow_in, next_place, peer_in, reported, served, served_at}
 use Rattle.sp_rules.specs.Rel.{settled, settled_at, told, with_peer, no_views}
-use Rattle.sp_rules.specs.Sends.{rel_refusal, send_prio_refusal, signer_refusal, weight_refusal}
-use Rattle.sp_rules.specs.Steps.{Input, NodeStep, Output, Poll, Datagram, Tick, SendRel, SendPrio, SetWeight, TakeRel, TakePrio, Publish}
-use Rattle.sp_rules.specs.Ticks.{at_time, due_now, settled_by}
-use Rattle.sp_rules.specs.Prio.{judge_prio}
-use Rattle.sp_rules.specs.Weights.{held}
-use Rattle.sp_rules.specs.declared.answers.Item.TheVariants as items
-use Rattle.sp_rules.specs.declared.answers.PrioAnswer.{PrioAnswer}
-use Rattle.sp_rules.specs.declared.answers.PrioAnswer.TheVariants as prios
+use Rattle.sp_rules.specs.Steps.{Input, NodeStep, Output, Poll, Datagram, Tick, SendRel, SendPrio, SetWeight, TakeRel, TakePrio, SendKrel, TakeKrel, Publish}
 use Rattle.laws_node.proofs.Tables.{cond_either}
 use Rattle.sp_base.specs.Rows.{replace_where}
 use Rattle.sp_rules.specs.Rel.{RelPeer, View, view_in, is_peer, new_peer}
@@ -40,6 +29,10 @@ use Rattle.laws_runs.proofs.FlowFacts.{first_replaced, other_replaced}
 use Rattle.laws_runs.proofs.Tables.{same_node}
 use Rattle.laws_progress.proofs.Keys.{peer_is}
 use Rattle.laws_progress.proofs.SlotHeeds.{view_of}
+use Rattle.sp_rules.specs.Parts.{flows_of, closed}
+use Rattle.sp_rules.specs.declared.kflow.FlowKind.{FlowKind}
+use Rattle.laws_runs.proofs.KindFacts.{closed_flows, polled_flows}
+use Rattle.laws_progress.proofs.EitherKind.{StepsKeep, greeted_either, own_flows, piece_flows}
 
 abbrev pub ViewIs : NodeId → Flow → View → RelState → Type 0
 ViewIs u flow w0 r = view_of r u flow ≡ w0
@@ -89,89 +82,80 @@ settled_view u flow w0 r o h = go (due_place r)
 
 -- ---- pieces and steps
 
-piece_view : (u : NodeId) (flow : Flow) (w0 : View) (arts : Arts) (at : Arrival) (p : Parts) (piece : Piece) → NoStart piece → (at.from ≡ u → ⊥)
-    → ViewIs u flow w0 p.rel → ViewIs u flow w0 (handle arts at p piece).parts.rel
-piece_view u flow w0 arts at p (WeightPiece o) none away h =
-    cond_either (λ (q : Parts). ViewIs u flow w0 q.rel)
-    (is_new (items.Weight (weight_answer (is_signed arts at.fixed o) (offer_to at.fixed.me p.weights o.body)))) (record p { weights = held p.weights o }) p h h
-piece_view u flow w0 arts at p (PrioAckPiece number) none away h = h
-piece_view u flow w0 arts at p (PrioPiece number o) none away h =
-    go (prio_answer (is_signed arts at.fixed o) (is_dated p.lives o.body) (judge_prio p.prio o.body at.now))
-  where
-    go : (answer : PrioAnswer) → ViewIs u flow w0 (prio_handled at.from answer number o p).parts.rel
-    go prios.New = h
-    go prios.Seen = h
-    go prios.BadEnd = h
-    go prios.Expired = h
-    go prios.BadSig = h
-    go prios.Epoch = h
-piece_view u flow w0 arts at p (ReportPiece fl sboot dboot base have) none away h =
-    cond_either (λ (q : Parts). ViewIs u flow w0 q.rel) (are_held p.lives fl sboot dboot) (record p { rel = reported p.rel at.from fl base have }) p
-    (reported_view u flow w0 p.rel at.from fl base have away h) h
-piece_view u flow w0 arts at p (AckPiece fl o) none away h =
-    cond_either (λ (q : Parts). ViewIs u flow w0 q.rel)
-    (is_new (items.Ack (ack_answer (is_signed arts at.fixed o) (is_dated p.lives o.body) (judge_ack_of p.rel fl o.body))))
-    (record p { rel = admit_ack p.rel o }) p h h
-piece_view u flow w0 arts at p (RelPiece fl o) none away h =
-    cond_either (λ (q : Parts). ViewIs u flow w0 q.rel)
-    (is_new (items.Rel (rel_answer (is_signed arts at.fixed o) (is_dated p.lives o.body) (judge_rel_of p.rel fl o.body))))
-    (record p { rel = admit_rel p.rel o }) p h h
-piece_view u flow w0 arts at p (EpochPiece o) none away h = absurd none
+piece_view : (kind : FlowKind) (u : NodeId) (flow : Flow) (w0 : View) (arts : Arts) (at : Arrival) (p : Parts) (piece : Piece) → NoStart piece
+    → (at.from ≡ u → ⊥) → ViewIs u flow w0 (flows_of kind p) → ViewIs u flow w0 (flows_of kind (handle arts at p piece).parts)
+piece_view kind u flow w0 arts at p piece none away h =
+    piece_flows (ViewIs u flow w0) kind arts at p piece none (record {
+      report = λ r fl base have is. reported_view u flow w0 r at.from fl base have away is;
+      ack = λ r o is. is;
+      message = λ r flow o new is. is;
+    }) h
 
 -- where the boots of the flow's ends stay
-pub pieces_view : (u : NodeId) (flow : Flow) (w0 : View) (arts : Arts) (at : Arrival) (p : Parts) (pieces : List Piece) → StartLast pieces → (at.from ≡ u → ⊥)
+pub pieces_view : (kind : FlowKind) (u : NodeId) (flow : Flow) (w0 : View) (arts : Arts) (at : Arrival) (p : Parts) (pieces : List Piece) → StartLast pieces
+    → (at.from ≡ u → ⊥)
     → held_boot (handle_all arts at p pieces).parts.lives flow.src ≡ held_boot p.lives flow.src
     → held_boot (handle_all arts at p pieces).parts.lives flow.dst ≡ held_boot p.lives flow.dst
-    → ViewIs u flow w0 p.rel → ViewIs u flow w0 (handle_all arts at p pieces).parts.rel
-pieces_view u flow w0 arts at p [] last away src dst h = h
-pieces_view u flow w0 arts at p (piece ∷ pieces) (inl plain) away src dst h =
+    → ViewIs u flow w0 (flows_of kind p) → ViewIs u flow w0 (flows_of kind (handle_all arts at p pieces).parts)
+pieces_view kind u flow w0 arts at p [] last away src dst h = h
+pieces_view kind u flow w0 arts at p (piece ∷ pieces) (inl plain) away src dst h =
     let first = (handle arts at p piece).parts in
     let same = same_lives arts at p piece plain.0 in
-    pieces_view u flow w0 arts at first pieces plain.1 away (src ∙ ap (λ ls. held_boot ls flow.src) (sym same))
+    pieces_view kind u flow w0 arts at first pieces plain.1 away (src ∙ ap (λ ls. held_boot ls flow.src) (sym same))
     (dst ∙ ap (λ ls. held_boot ls flow.dst) (sym same))
-    (piece_view u flow w0 arts at p piece plain.0 away h)
-pieces_view u flow w0 arts at p (piece ∷ pieces) (inr none) away src dst h =
+    (piece_view kind u flow w0 arts at p piece plain.0 away h)
+pieces_view kind u flow w0 arts at p (piece ∷ pieces) (inr none) away src dst h =
     let lone : held_boot (handle arts at p piece).parts.lives flow.src ≡ held_boot p.lives flow.src =
     ap (λ ps. held_boot (handle_all arts at (handle arts at p piece).parts ps).parts.lives flow.src) (sym none) ∙ src in
     let twin : held_boot (handle arts at p piece).parts.lives flow.dst ≡ held_boot p.lives flow.dst =
     ap (λ ps. held_boot (handle_all arts at (handle arts at p piece).parts ps).parts.lives flow.dst) (sym none) ∙ dst in
-    subst (λ ps. ViewIs u flow w0 (handle_all arts at (handle arts at p piece).parts ps).parts.rel) (sym none) (one_view piece lone twin)
+    subst (λ ps. ViewIs u flow w0 (flows_of kind (handle_all arts at (handle arts at p piece).parts ps).parts)) (sym none) (one_view piece lone twin)
   where
     one_view : (q : Piece) → held_boot (handle arts at p q).parts.lives flow.src ≡ held_boot p.lives flow.src
-        → held_boot (handle arts at p q).parts.lives flow.dst ≡ held_boot p.lives flow.dst → ViewIs u flow w0 (handle arts at p q).parts.rel
-    one_view (EpochPiece o) src dst = (one_same arts at p o flow src dst).views u ∙ h
-    one_view (WeightPiece o) src dst = piece_view u flow w0 arts at p (WeightPiece o) tt away h
-    one_view (PrioAckPiece number) src dst = piece_view u flow w0 arts at p (PrioAckPiece number) tt away h
-    one_view (PrioPiece number o) src dst = piece_view u flow w0 arts at p (PrioPiece number o) tt away h
-    one_view (ReportPiece fl sboot dboot base have) src dst = piece_view u flow w0 arts at p (ReportPiece fl sboot dboot base have) tt away h
-    one_view (AckPiece fl o) src dst = piece_view u flow w0 arts at p (AckPiece fl o) tt away h
-    one_view (RelPiece fl o) src dst = piece_view u flow w0 arts at p (RelPiece fl o) tt away h
+        → held_boot (handle arts at p q).parts.lives flow.dst ≡ held_boot p.lives flow.dst → ViewIs u flow w0 (flows_of kind (handle arts at p q).parts)
+    one_view (EpochPiece o) src dst = (one_same kind arts at p o flow src dst).views u ∙ h
+    one_view (WeightPiece o) src dst = piece_view kind u flow w0 arts at p (WeightPiece o) tt away h
+    one_view (PrioAckPiece number) src dst = piece_view kind u flow w0 arts at p (PrioAckPiece number) tt away h
+    one_view (PrioPiece number o) src dst = piece_view kind u flow w0 arts at p (PrioPiece number o) tt away h
+    one_view (ReportPiece k fl sboot dboot base have) src dst = piece_view kind u flow w0 arts at p (ReportPiece k fl sboot dboot base have) tt away h
+    one_view (AckPiece k fl o) src dst = piece_view kind u flow w0 arts at p (AckPiece k fl o) tt away h
+    one_view (RelPiece k fl o) src dst = piece_view kind u flow w0 arts at p (RelPiece k fl o) tt away h
 
 -- another neighbour's new life leaves it
-greeted_view : (u : NodeId) (flow : Flow) (w0 : View) (epochs risen : Bool) (v : NodeId) (p : Parts) → (v ≡ u → ⊥) → ViewIs u flow w0 p.rel
-    → ViewIs u flow w0 (greeted epochs risen v p).rel
-greeted_view u flow w0 true true v p away h =
-    ap (λ (q : RelPeer). view_in q.views flow) (other_peer u v (no_views (peer_in p.rel.peers v)) p.rel.peers (peer_is p.rel v) away) ∙ h
-greeted_view u flow w0 true false v p away h = h
-greeted_view u flow w0 false risen v p away h = h
+greeted_view : (kind : FlowKind) (u : NodeId) (flow : Flow) (w0 : View) (epochs risen : Bool) (v : NodeId) (p : Parts) → (v ≡ u → ⊥)
+    → ViewIs u flow w0 (flows_of kind p) → ViewIs u flow w0 (flows_of kind (greeted epochs risen v p))
+greeted_view kind u flow w0 epochs risen v p away h =
+    let r = flows_of kind p in
+    greeted_either (ViewIs u flow w0) kind epochs risen v p
+    (ap (λ (q : RelPeer). view_in q.views flow) (other_peer u v (no_views (peer_in r.peers v)) r.peers (peer_is r v) away) ∙ h) h
 
 -- ---- steps
 
-kept_view : {X : Type 0} (u : NodeId) (flow : Flow) (w0 : View) (r : Option X) (n m : NodeState) → ViewIs u flow w0 n.parts.rel → ViewIs u flow w0 m.parts.rel
-    → ViewIs u flow w0 (kept_or r n m).parts.rel
-kept_view u flow w0 None n m old new = new
-kept_view u flow w0 (Some x) n m old new = old
+kept_view : {X : Type 0} (kind : FlowKind) (u : NodeId) (flow : Flow) (w0 : View) (r : Option X) (n m : NodeState)
+    → ViewIs u flow w0 (flows_of kind n.parts) → ViewIs u flow w0 (flows_of kind m.parts) → ViewIs u flow w0 (flows_of kind (kept_or r n m).parts)
+kept_view kind u flow w0 None n m old new = new
+kept_view kind u flow w0 (Some x) n m old new = old
 
-pub step_view : (u : NodeId) (flow : Flow) (w0 : View) (arts : Arts) (n : NodeState) (input : Input) (output : Output) (new : NodeState)
+steps_keep : (u : NodeId) (flow : Flow) (w0 : View) (arts : Arts) (n : NodeState) (kind : FlowKind) → StepsKeep (ViewIs u flow w0) arts n kind
+steps_keep u flow w0 arts n kind = record { settle = λ r o h. settled_view u flow w0 r o h; push = λ o is h. h; take = λ r src h. h }
+
+-- another version leaves it
+closed_view : (kind : FlowKind) (u : NodeId) (flow : Flow) (w0 : View) (p : Parts) (least : List ℕ) (gone : List NodeId)
+    → ViewIs u flow w0 (flows_of kind p) → ViewIs u flow w0 (flows_of kind (closed p least gone))
+closed_view kind u flow w0 p least gone h = subst (ViewIs u flow w0) (sym (closed_flows kind p least gone)) h
+
+pub step_view : (kind : FlowKind) (u : NodeId) (flow : Flow) (w0 : View) (arts : Arts) (n : NodeState) (input : Input) (output : Output) (new : NodeState)
     → NodeStep arts n input output new
     → held_boot new.parts.lives flow.src ≡ held_boot n.parts.lives flow.src → held_boot new.parts.lives flow.dst ≡ held_boot n.parts.lives flow.dst
-    → list_any (is_peer u) n.parts.rel.peers ≡ true → NoHear u input → ViewIs u flow w0 n.parts.rel → ViewIs u flow w0 new.parts.rel
-step_view u flow w0 arts n (Poll v) output new s at_src at_dst there quiet h =
-    subst (λ (m : NodeState). ViewIs u flow w0 m.parts.rel) (sym s.1)
-    (kept_view u flow w0 (call_refusal n v) n (called n (with_link n v (advanced (link_in n v))) (parts_after n v)) h
-    (cond_either (λ (p : Parts). ViewIs u flow w0 p.rel) (is_served n v) (polled n.fixed n.parts v) n.parts (served_view u flow w0 n.parts.rel v there h) h))
-step_view u flow w0 arts n (Datagram v bytes) output new s at_src at_dst there quiet h =
-    subst (λ (m : NodeState). ViewIs u flow w0 m.parts.rel) (sym s.1)
+    → list_any (is_peer u) (flows_of kind n.parts).peers ≡ true → NoHear u input → ViewIs u flow w0 (flows_of kind n.parts)
+    → ViewIs u flow w0 (flows_of kind new.parts)
+step_view kind u flow w0 arts n (Poll v) output new s at_src at_dst there quiet h =
+    subst (λ (m : NodeState). ViewIs u flow w0 (flows_of kind m.parts)) (sym s.1)
+    (kept_view kind u flow w0 (call_refusal n v) n (called n (with_link n v (advanced (link_in n v))) (parts_after n v)) h
+    (cond_either (λ (p : Parts). ViewIs u flow w0 (flows_of kind p)) (is_served n v) (polled n.fixed n.parts v) n.parts
+    (subst (ViewIs u flow w0) (sym (polled_flows kind n.fixed n.parts v)) (served_view u flow w0 (flows_of kind n.parts) v there h)) h))
+step_view kind u flow w0 arts n (Datagram v bytes) output new s at_src at_dst there quiet h =
+    subst (λ (m : NodeState). ViewIs u flow w0 (flows_of kind m.parts)) (sym s.1)
     (go (call_refusal n v) (ap (λ (m : NodeState). held_boot m.parts.lives flow.src) (sym s.1) ∙ at_src)
     (ap (λ (m : NodeState). held_boot m.parts.lives flow.dst) (sym s.1) ∙ at_dst))
   where
@@ -182,34 +166,38 @@ step_view u flow w0 arts n (Datagram v bytes) output new s at_src at_dst there q
     Stays : NodeState → Type 0
     Stays m =
         held_boot m.parts.lives flow.src ≡ held_boot n.parts.lives flow.src → held_boot m.parts.lives flow.dst ≡ held_boot n.parts.lives flow.dst
-        → ViewIs u flow w0 m.parts.rel
+        → ViewIs u flow w0 (flows_of kind m.parts)
 
     first : Stays left
     first src dst =
         let risen = rises arts n v bytes in
         let lives = greeted_lives n.fixed.epochs risen v n.parts in
-        pieces_view u flow w0 arts (arrival_at n v) (parts_met arts n v bytes) (pieces_at arts n v bytes)
+        pieces_view kind u flow w0 arts (arrival_at n v) (parts_met arts n v bytes) (pieces_at arts n v bytes)
         (last_where (reply_at arts n v bytes) n.fixed (sections_in arts n.fixed bytes)) quiet
         (src ∙ ap (λ ls. held_boot ls flow.src) (sym lives)) (dst ∙ ap (λ ls. held_boot ls flow.dst) (sym lives))
-        (greeted_view u flow w0 n.fixed.epochs risen v n.parts quiet h)
+        (greeted_view kind u flow w0 n.fixed.epochs risen v n.parts quiet h)
 
     go : (r : Option NodeRefused) → Stays (kept_or r n (read_by arts left (document_at arts n v bytes)))
     go (Some refused) src dst = h
-    go None src dst = reading arts left (document_at arts n v bytes) (λ m told. Stays m) first (λ document d is reads by. first) src dst
-step_view u flow w0 arts n (Tick now) output new s at_src at_dst there quiet h =
-    subst (λ (m : NodeState). ViewIs u flow w0 m.parts.rel) (sym s.1) (go (due_now n) refl (signer_refusal n.signer))
-  where
-    go : (o : Option Ack) → due_now n ≡ o → (r : Option SendRefused) → ViewIs u flow w0 (settled_by arts (at_time n now) o r).parts.rel
-    go None e r = h
-    go (Some ack) e (Some refusal) = h
-    go (Some ack) e None = settled_view u flow w0 n.parts.rel (signed_now arts (at_time n now) (bodies.Ack ack)) h
-step_view u flow w0 arts n (SendRel dst payload) output new s at_src at_dst there quiet h =
-    subst (λ (m : NodeState). ViewIs u flow w0 m.parts.rel) (sym s.1) (kept_view u flow w0 (rel_refusal n dst) n _ h h)
-step_view u flow w0 arts n (SendPrio m) output new s at_src at_dst there quiet h =
-    subst (λ (m : NodeState). ViewIs u flow w0 m.parts.rel) (sym s.new_is) (kept_view u flow w0 (send_prio_refusal n m s.choice) n _ h h)
-step_view u flow w0 arts n (SetWeight v weight) output new s at_src at_dst there quiet h =
-    subst (λ (m : NodeState). ViewIs u flow w0 m.parts.rel) (sym s.1) (kept_view u flow w0 (weight_refusal n v weight) n _ h h)
-step_view u flow w0 arts n (TakeRel src) output new s at_src at_dst there quiet h = subst (λ (m : NodeState). ViewIs u flow w0 m.parts.rel) (sym s.1) h
-step_view u flow w0 arts n TakePrio output new s at_src at_dst there quiet h = subst (λ (m : NodeState). ViewIs u flow w0 m.parts.rel) (sym s.1) h
-step_view u flow w0 arts n (Publish document) output new s at_src at_dst there quiet h =
-    subst (λ (m : NodeState). ViewIs u flow w0 m.parts.rel) (sym s.1) (publishing arts n document (λ m told. ViewIs u flow w0 m.parts.rel) h (λ d reads by. h))
+    go None src dst =
+        reading arts left (document_at arts n v bytes) (λ m told. Stays m) first
+        (λ document d is reads by src dst. closed_view kind u flow w0 left.parts _ _ (first src dst)) src dst
+step_view kind u flow w0 arts n (Publish document) output new s at_src at_dst there quiet h =
+    subst (λ (m : NodeState). ViewIs u flow w0 (flows_of kind m.parts)) (sym s.1)
+    (publishing arts n document (λ m told. ViewIs u flow w0 (flows_of kind m.parts)) h (λ d reads by. closed_view kind u flow w0 n.parts _ _ h))
+step_view kind u flow w0 arts n (Tick now) output new s at_src at_dst there quiet h =
+    own_flows (ViewIs u flow w0) kind arts n (Tick now) output new tt s (steps_keep u flow w0 arts n kind) h
+step_view kind u flow w0 arts n (SendRel dst payload) output new s at_src at_dst there quiet h =
+    own_flows (ViewIs u flow w0) kind arts n (SendRel dst payload) output new tt s (steps_keep u flow w0 arts n kind) h
+step_view kind u flow w0 arts n (SendPrio m) output new s at_src at_dst there quiet h =
+    own_flows (ViewIs u flow w0) kind arts n (SendPrio m) output new tt s (steps_keep u flow w0 arts n kind) h
+step_view kind u flow w0 arts n (SetWeight v weight) output new s at_src at_dst there quiet h =
+    own_flows (ViewIs u flow w0) kind arts n (SetWeight v weight) output new tt s (steps_keep u flow w0 arts n kind) h
+step_view kind u flow w0 arts n (TakeRel src) output new s at_src at_dst there quiet h =
+    own_flows (ViewIs u flow w0) kind arts n (TakeRel src) output new tt s (steps_keep u flow w0 arts n kind) h
+step_view kind u flow w0 arts n (SendKrel m) output new s at_src at_dst there quiet h =
+    own_flows (ViewIs u flow w0) kind arts n (SendKrel m) output new tt s (steps_keep u flow w0 arts n kind) h
+step_view kind u flow w0 arts n (TakeKrel src) output new s at_src at_dst there quiet h =
+    own_flows (ViewIs u flow w0) kind arts n (TakeKrel src) output new tt s (steps_keep u flow w0 arts n kind) h
+step_view kind u flow w0 arts n TakePrio output new s at_src at_dst there quiet h =
+    own_flows (ViewIs u flow w0) kind arts n TakePrio output new tt s (steps_keep u flow w0 arts n kind) h

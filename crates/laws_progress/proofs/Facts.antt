@@ -7,6 +7,7 @@ use Rattle.sp_base.specs.Cursor.{next_after}
 use Rattle.laws_progress.proofs.Places.{nobody}
 use Rattle.laws_progress.proofs.Service.{is_on, number_on, IsWithin}
 use Rattle.sp_runs.specs.Rounds.{is_pass, is_take}
+use Rattle.sp_rules.specs.declared.kflow.FlowKind.{FlowKind}
 
 -- the events lead from the first state to the second
 pub data Goes (W : Type 0) (Next : W → Event → W → Type 0) : W → List Event → W → Type 0 where
@@ -20,6 +21,10 @@ AreNoPolls u v (e ∷ es) = (is_poll u v e ≡ false) × AreNoPolls u v es
 
 -- what is seen of one flow in a state of a run
 pub record Sight (W : Type 0) : Type 0 where
+  -- its kind, and a window of its numbers: the messages above low, up to high, go over all hops
+  pub kind : FlowKind
+  pub low : ℕ
+  pub high : ℕ
   -- its numbers at a node, and how many of its messages a client of d took
   pub base : W → NodeId → ℕ
   pub have : W → NodeId → ℕ
@@ -44,10 +49,10 @@ pub record IsHeard (W : Type 0) (at : Sight W) (place bound : ℕ) (d : NodeId) 
   pub base : at.knows w u v ≡ true → IsTurn W at place w u v → at.base w u ≤ at.base z v
   pub view_base : at.knows w u v ≡ true → IsTurn W at place w u v → is_on (at.actives w v) place ≡ true → at.base w u ≤ at.view_base z v u
   pub view_have : at.knows w u v ≡ true → IsTurn W at place w u v → is_on (at.actives w v) place ≡ true → at.have w u ≤ at.view_have z v u
-  pub have : at.knows w u v ≡ true → IsTurn W at place w u v → (u ≡ d → ⊥) → (v ≡ d → ⊥)
-      → min (at.have w u) (max (at.view_have w u v) (at.base w u) + 1) ≤ at.have z v
-  pub have_at_end : at.knows w u v ≡ true → IsTurn W at place w u v → (u ≡ d → ⊥) → v ≡ d
-      → min (min (at.have w u) (max (at.view_have w u v) (at.base w u) + 1)) (at.taken w + bound) ≤ at.have z v
+  pub have : at.knows w u v ≡ true → IsTurn W at place w u v → (u ≡ d → ⊥) → (v ≡ d → ⊥) → at.low ≤ at.base w u
+      → min (min at.high (at.have w u)) (max (at.view_have w u v) (at.base w u) + 1) ≤ at.have z v
+  pub have_at_end : at.knows w u v ≡ true → IsTurn W at place w u v → (u ≡ d → ⊥) → v ≡ d → at.low ≤ at.base w u
+      → min (min (min at.high (at.have w u)) (max (at.view_have w u v) (at.base w u) + 1)) (at.taken w + bound) ≤ at.have z v
 
 -- The facts on which progress rests, for hops between correct nodes.
 pub record Facts (W : Type 0) (Next : W → Event → W → Type 0) (Hop : NodeId → NodeId → Type 0) (at : Sight W) (place bound least : ℕ) (s d : NodeId) : Type 0
@@ -66,7 +71,7 @@ pub record Facts (W : Type 0) (Next : W → Event → W → Type 0) (Hop : NodeI
         → next_after (at.last w u v) (at.actives w u) ≡ Some p → at.last x u v ≡ Some p
     pub serves_none : (w x : W) (e : Event) (u v : NodeId) → Hop u v → Next w e x → is_poll u v e ≡ false → at.last x u v ≡ at.last w u v
     -- a client's take makes room at d
-    pub makes_room : (w x : W) (e : Event) → Next w e x → is_take d s e ≡ true → at.have w d < at.taken x + bound
+    pub makes_room : (w x : W) (e : Event) → Next w e x → is_take at.kind d s e ≡ true → at.have w d < at.taken x + bound
     -- ---- of one state
     pub sound : (w : W) (u : NodeId) → at.base w u ≤ at.have w u
     pub is_active : (w : W) (u : NodeId) → 0 < at.have w u → is_on (at.actives w u) place ≡ true

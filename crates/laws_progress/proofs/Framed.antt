@@ -27,7 +27,8 @@ use Rattle.laws_node.proofs.Carried.{all_less, contents_kept}
 use Rattle.laws_node.proofs.Frames.{frame_fits}
 use Rattle.laws_runs.specs.Signs.{Good, sizes_at}
 use Rattle.laws_runs.proofs.Goods.{all_of}
-use Rattle.laws_runs.proofs.Signed.{contents_keep, signs}
+use Rattle.laws_runs.proofs.SignedEvents.{contents_keep}
+use Rattle.laws_runs.proofs.Signed.{signs}
 use Rattle.sp_runs.specs.Runs.{Clean, is_hop}
 use Rattle.sp_runs.specs.Settings.{Setting, SettingFits}
 use Rattle.sp_runs.specs.Worlds.{World, node_in}
@@ -42,6 +43,11 @@ use Rattle.laws_progress.proofs.LinkRuns.{links_at}
 use Rattle.laws_progress.proofs.Origins.{Origin}
 use Rattle.laws_progress.proofs.Polls.{both_ways}
 use Rattle.laws_progress.proofs.Rows.{link_there, rows_are}
+use Rattle.sp_rules.specs.Parts.{flows_of}
+use Rattle.sp_rules.specs.declared.kflow.FlowKind.{FlowKind}
+use Rattle.sp_rules.specs.declared.kflow.FlowKind.TheVariants.{Plain, Paths}
+use Rattle.laws_runs.proofs.KindFacts.{flows_same}
+use Rattle.laws_progress.proofs.EitherKind.{slot_of_kind}
 
 -- what is read of a frame that this node, which is u, makes for v
 pub record Framed (arts : Arts) (x : Setting) (u v : NodeId) (node : NodeState) (bytes : List ℕ) : Type 0 where
@@ -67,9 +73,9 @@ opens_at arts x reads n v range format room = go (is_behind n v) (is_shut_to n v
         → arts.opened (written arts (head_to n v) (cond a (with_document n.live.document) (cond b no_contents (contents_to n.fixed n.parts v))) key)
         ≡ Ok (written arts (head_to n v) (cond a (with_document n.live.document) (cond b no_contents (contents_to n.fixed n.parts v))) key)
     go true b few goods = reads.documents_open (head_to n v) n.live.document key range format few room
-    go false true few goods = reads.opens (head_to n v) no_contents key range format (record { document = refl; paths = refl; probe = refl }) few goods
+    go false true few goods = reads.opens (head_to n v) no_contents key range format (record { document = refl; probe = refl }) few goods
     go false false few goods =
-        reads.opens (head_to n v) (contents_to n.fixed n.parts v) key range format (record { document = refl; paths = refl; probe = refl }) few goods
+        reads.opens (head_to n v) (contents_to n.fixed n.parts v) key range format (record { document = refl; probe = refl }) few goods
 
 pub frame_at : (arts : Arts) (x : Setting) (es : List Event) (js : List Entry) (w : World) → SettingFits arts x
     → ComesThrough x.topology.format arts x.signature_len → Clean arts x es js w
@@ -248,29 +254,34 @@ read_or mine theirs documents s shut contents is none =
 -- what else a node makes for a neighbour leaves the boots that are held, and all that is known of flows
 pub unserved : (arts : Arts) (n : NodeState) (v : NodeId) → is_served n v ≡ false → (f : Fixed) (at : Arrival) (p : Parts) (r : LinkReply)
     → ((handle_all arts at p (pieces_where r (pieces_in f (Ok (contents_at n v))))).parts.lives ≡ p.lives)
-    × ((handle_all arts at p (pieces_where r (pieces_in f (Ok (contents_at n v))))).parts.rel ≡ p.rel)
+    × ((kind : FlowKind) → flows_of kind (handle_all arts at p (pieces_where r (pieces_in f (Ok (contents_at n v))))).parts ≡ flows_of kind p)
 unserved arts n v off f at p r = go (is_behind n v) (is_shut_to n v) off
   where
     Leaves : List Piece → Type 0
-    Leaves ps = ((handle_all arts at p ps).parts.lives ≡ p.lives) × ((handle_all arts at p ps).parts.rel ≡ p.rel)
+    Leaves ps = ((handle_all arts at p ps).parts.lives ≡ p.lives) × ((kind : FlowKind) → flows_of kind (handle_all arts at p ps).parts ≡ flows_of kind p)
 
     here : (ps : List Piece) → Leaves ps → Leaves (pieces_where r ps)
-    here ps h = elim (where_or r ps) [ inl same ↦ subst Leaves (sym same) h | inr none ↦ subst Leaves (sym none) (refl, refl) ]
+    here ps h = elim (where_or r ps) [ inl same ↦ subst Leaves (sym same) h | inr none ↦ subst Leaves (sym none) (refl, λ kind. refl) ]
 
     empty : (t : Bool) → Leaves (pieces_of (cond t no_contents (record no_contents { epoch = None })))
-    empty true = (refl, refl)
-    empty false = (refl, refl)
+    empty true = (refl, λ kind. flows_same kind p (handle_all arts at p (pieces_of no_contents)).parts refl refl)
+    empty false = (refl, λ kind. flows_same kind p (handle_all arts at p (pieces_of (record no_contents { epoch = None }))).parts refl refl)
 
     go : (a b : Bool) → (not a && not b) ≡ false
         → Leaves (pieces_where r (pieces_in f (Ok (cond a (with_document n.live.document) (cond b no_contents (contents_to n.fixed n.parts v))))))
-    go true b e = here [] (refl, refl)
+    go true b e = here [] (refl, λ kind. refl)
     go false true e = here (pieces_of (heeded f no_contents)) (empty f.epochs)
     go false false e = absurd (let g : true ≡ false = e in cc)
 
-pub unserved_slot : (n : NodeState) (v : NodeId) → is_served n v ≡ false → (contents_at n v).slot ≡ None
-unserved_slot n v off = go (is_behind n v) (is_shut_to n v) off
+pub unserved_slot : (kind : FlowKind) (n : NodeState) (v : NodeId) → is_served n v ≡ false → slot_of_kind kind (contents_at n v) ≡ None
+unserved_slot kind n v off = go (is_behind n v) (is_shut_to n v) off
   where
-    go : (a b : Bool) → (not a && not b) ≡ false → (cond a (with_document n.live.document) (cond b no_contents (contents_to n.fixed n.parts v))).slot ≡ None
-    go true b e = refl
-    go false true e = refl
+    none : (k : FlowKind) (c : Contents) → c.slot ≡ None → c.paths ≡ None → slot_of_kind k c ≡ None
+    none Plain c slot paths = slot
+    none Paths c slot paths = paths
+
+    go : (a b : Bool) → (not a && not b) ≡ false
+        → slot_of_kind kind (cond a (with_document n.live.document) (cond b no_contents (contents_to n.fixed n.parts v))) ≡ None
+    go true b e = none kind (with_document n.live.document) refl refl
+    go false true e = none kind no_contents refl refl
     go false false e = absurd (let g : true ≡ false = e in cc)

@@ -24,6 +24,9 @@ use Rattle.laws_progress.proofs.Heads.{first_there}
 use Rattle.laws_progress.proofs.Keys.{peer_is}
 use Rattle.laws_progress.proofs.States.{Era, has_met, in_era, view_at}
 use Rattle.laws_progress.proofs.Views.{RelRows, ViewsAre}
+use Rattle.sp_rules.specs.Parts.{flows_of}
+use Rattle.sp_rules.specs.declared.kflow.FlowKind.{FlowKind}
+use Rattle.laws_progress.proofs.EitherKind.{greeted_either, unheard_flows}
 
 none_viewed : (flow : Flow) (ws : List View) → view_in (map (λ w. no_view (viewed w)) ws) flow ≡ no_view flow
 none_viewed flow [] = refl
@@ -46,32 +49,34 @@ unheard_view r u flow there =
 
 -- what is seen of the neighbour doesn't change by that: where its boot rises, nothing was seen
 module _ (arts : Arts) (x : Setting) (era : Era) (flow : Flow) (u v : NodeId) (n : NodeState) (bytes : List ℕ) (epochs_are : n.fixed.epochs ≡ x.epochs)
-    (there : list_any (is_peer u) n.parts.rel.peers ≡ true) (rise : (link_in n u).peer_boot ≤ (link_after arts n u bytes).peer_boot)
+    (there : list_any (is_peer u) (flows_of era.kind n.parts).peers ≡ true) (rise : (link_in n u).peer_boot ≤ (link_after arts n u bytes).peer_boot)
     (top : (link_after arts n u bytes).peer_boot ≤ era.life u) where
   abbrev met_now : Bool
   met_now = not x.epochs || ((link_after arts n u bytes).peer_boot == era.life u)
 
   abbrev met_view : View
-  met_view = view_in (peer_in (parts_met arts n u bytes).rel.peers u).views flow
+  met_view = view_in (peer_in (flows_of era.kind (parts_met arts n u bytes)).peers u).views flow
 
   pub greet_view : cond (in_era era flow v n && met_now) met_view (no_view flow) ≡ view_at x era flow v u n
   greet_view = elim (cases_Bool x.epochs) [
-    | inr off ↦ rw off (ap (λ (p : Parts). cond (in_era era flow v n && true) (view_in (peer_in p.rel.peers u).views flow) (no_view flow))
+    | inr off ↦ rw off (ap (λ (p : Parts). cond (in_era era flow v n && true) (view_in (peer_in (flows_of era.kind p).peers u).views flow) (no_view flow))
         (met_as_it_was arts n u bytes (epochs_are ∙ off)))
     | inl on ↦ elim (cases_lt (link_in n u).peer_boot (link_after arts n u bytes).peer_boot) [
       | inl up ↦
           let before : ((link_in n u).peer_boot == era.life u) ≡ false = ne_eqb _ _ (λ same. omega (arith, same, up, top)) in
           let risen : has_risen (link_in n u) (link_after arts n u bytes) ≡ true = ltb_of (link_in n u).peer_boot (link_after arts n u bytes).peer_boot up in
           let emptied : met_view ≡ no_view flow =
-          ap (λ t. view_in (peer_in (greeted n.fixed.epochs t u n.parts).rel.peers u).views flow) risen
-          ∙ ap (λ t. view_in (peer_in (greeted t true u n.parts).rel.peers u).views flow) (epochs_are ∙ on) ∙ unheard_view n.parts.rel u flow there in
+          ap (λ t. view_in (peer_in (flows_of era.kind (greeted n.fixed.epochs t u n.parts)).peers u).views flow) risen
+          ∙ ap (λ t. view_in (peer_in (flows_of era.kind (greeted t true u n.parts)).peers u).views flow) (epochs_are ∙ on)
+          ∙ ap (λ (r : RelState). view_in (peer_in r.peers u).views flow) (unheard_flows era.kind u n.parts)
+          ∙ unheard_view (flows_of era.kind n.parts) u flow there in
           let none : view_at x era flow v u n ≡ no_view flow = rw (on, before) (never (in_era era flow v n)) in
           ap (λ w. cond (in_era era flow v n && met_now) w (no_view flow)) emptied ∙ either_none (in_era era flow v n && met_now) ∙ sym none
       | inr low ↦
           let same : (link_after arts n u bytes).peer_boot ≡ (link_in n u).peer_boot = omega (arith, low, rise) in
           let risen : has_risen (link_in n u) (link_after arts n u bytes) ≡ false = ltb_off (link_in n u).peer_boot (link_after arts n u bytes).peer_boot low in
           ap (λ b. cond (in_era era flow v n && (not x.epochs || (b == era.life u))) met_view (no_view flow)) same
-          ∙ ap (λ (p : Parts). cond (in_era era flow v n && has_met x era u n) (view_in (peer_in p.rel.peers u).views flow) (no_view flow))
+          ∙ ap (λ (p : Parts). cond (in_era era flow v n && has_met x era u n) (view_in (peer_in (flows_of era.kind p).peers u).views flow) (no_view flow))
           (ap (λ t. greeted n.fixed.epochs t u n.parts) risen ∙ stays n.fixed.epochs)
     ]
   ]
@@ -80,7 +85,7 @@ module _ (arts : Arts) (x : Setting) (era : Era) (flow : Flow) (u v : NodeId) (n
       either_none true = refl
       either_none false = refl
 
-      never : (t : Bool) → cond (t && false) (view_in (peer_in n.parts.rel.peers u).views flow) (no_view flow) ≡ no_view flow
+      never : (t : Bool) → cond (t && false) (view_in (peer_in (flows_of era.kind n.parts).peers u).views flow) (no_view flow) ≡ no_view flow
       never true = refl
       never false = refl
 
@@ -99,40 +104,42 @@ same_ends_of : (ws : List View) → map view_ends (map (λ w. no_view (viewed w)
 same_ends_of [] = refl
 same_ends_of (w ∷ ws) = ap (λ (es : List Flow). view_ends w ∷ es) (same_ends_of ws)
 
-pub greeted_rows : (nodes : List NodeId) (epochs risen : Bool) (u : NodeId) (p : Parts) → list_any (is_peer u) p.rel.peers ≡ true → RelRows nodes p.rel
-    → RelRows nodes (greeted epochs risen u p).rel
-greeted_rows nodes true true u p there rows = record {
+unheard_rows : (nodes : List NodeId) (u : NodeId) (r : RelState) → list_any (is_peer u) r.peers ≡ true → RelRows nodes r → RelRows nodes (unheard r u)
+unheard_rows nodes u r there rows = record {
   nodes_are = rows.nodes_are;
-  views = all_replace (ViewsAre nodes) (is_peer u) (no_views (peer_in p.rel.peers u)) p.rel.peers rows.views
-      (same_ends_of (peer_in p.rel.peers u).views ∙ first_there (ViewsAre nodes) (is_peer u) (new_peer [] u) p.rel.peers rows.views there);
+  views = all_replace (ViewsAre nodes) (is_peer u) (no_views (peer_in r.peers u)) r.peers rows.views
+      (same_ends_of (peer_in r.peers u).views ∙ first_there (ViewsAre nodes) (is_peer u) (new_peer [] u) r.peers rows.views there);
 }
-greeted_rows nodes true false u p there rows = rows
-greeted_rows nodes false risen u p there rows = rows
 
-pub greeted_peer : (epochs risen : Bool) (u : NodeId) (p : Parts) → list_any (is_peer u) p.rel.peers ≡ true
-    → list_any (is_peer u) (greeted epochs risen u p).rel.peers ≡ true
-greeted_peer true true u p there = replaced_there p.rel.peers there
+pub greeted_rows : (kind : FlowKind) (nodes : List NodeId) (epochs risen : Bool) (u : NodeId) (p : Parts)
+    → list_any (is_peer u) (flows_of kind p).peers ≡ true → RelRows nodes (flows_of kind p) → RelRows nodes (flows_of kind (greeted epochs risen u p))
+greeted_rows kind nodes epochs risen u p there rows =
+    greeted_either (RelRows nodes) kind epochs risen u p (unheard_rows nodes u (flows_of kind p) there rows) rows
+
+unheard_peer : (u : NodeId) (r : RelState) → list_any (is_peer u) r.peers ≡ true → list_any (is_peer u) (unheard r u).peers ≡ true
+unheard_peer u r there = replaced_there r.peers there
   where
     replaced_there : (ps : List RelPeer) → list_any (is_peer u) ps ≡ true
-        → list_any (is_peer u) (replace_where (is_peer u) (no_views (peer_in p.rel.peers u)) ps) ≡ true
+        → list_any (is_peer u) (replace_where (is_peer u) (no_views (peer_in r.peers u)) ps) ≡ true
     replaced_there [] there = absurd (let f : false ≡ true = there in cc)
     replaced_there (q ∷ ps) there = elim (cases_Bool (is_peer u q)) [
-      | inl t ↦ let its : is_peer u (no_views (peer_in p.rel.peers u)) ≡ true = eq-eqb _ _ (ap (λ (n : NodeId). n.0) (peer_is p.rel u)) in rw (t, its) refl
+      | inl t ↦ let its : is_peer u (no_views (peer_in r.peers u)) ≡ true = eq-eqb _ _ (ap (λ (n : NodeId). n.0) (peer_is r u)) in rw (t, its) refl
       | inr t ↦ rw (t, t) (replaced_there ps (rw t at there))
     ]
-greeted_peer true false u p there = there
-greeted_peer false risen u p there = there
+
+pub greeted_peer : (kind : FlowKind) (epochs risen : Bool) (u : NodeId) (p : Parts) → list_any (is_peer u) (flows_of kind p).peers ≡ true
+    → list_any (is_peer u) (flows_of kind (greeted epochs risen u p)).peers ≡ true
+greeted_peer kind epochs risen u p there =
+    greeted_either (λ (r : RelState). list_any (is_peer u) r.peers ≡ true) kind epochs risen u p (unheard_peer u (flows_of kind p) there) there
 
 -- and so does all that a flow's messages are judged by
-pub greeted_ready : (nodes : List NodeId) (bound : ℕ) (v : NodeId) (flow : Flow) (epochs risen : Bool) (u : NodeId) (p : Parts) → Ready nodes bound v flow p.rel
-    → Ready nodes bound v flow (greeted epochs risen u p).rel
-greeted_ready nodes bound v flow true true u p h = record {
+pub greeted_ready : (kind : FlowKind) (nodes : List NodeId) (bound : ℕ) (v : NodeId) (flow : Flow) (epochs risen : Bool) (u : NodeId) (p : Parts)
+    → Ready nodes bound v flow (flows_of kind p) → Ready nodes bound v flow (flows_of kind (greeted epochs risen u p))
+greeted_ready kind nodes bound v flow epochs risen u p h = greeted_either (Ready nodes bound v flow) kind epochs risen u p (record {
   me = h.me;
   nodes_are = h.nodes_are;
   bound_is = h.bound_is;
   row = h.row;
   acks = h.acks;
   goes_on = h.goes_on;
-}
-greeted_ready nodes bound v flow true false u p h = h
-greeted_ready nodes bound v flow false risen u p h = h
+}) h

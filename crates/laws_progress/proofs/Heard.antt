@@ -133,12 +133,12 @@ pass_no_poll u v a b k p is = refl
 
 -- what is left at v gives the message that v wants
 wanted : (W : Type 0) (at : Sight W) (place : ℕ) (d : NodeId) (w z : W) (u v : NodeId) (f : Told) → IsMade W at w u v f → IsServed W at place d w u v f
-    → f.mine ≡ true → (u ≡ d → ⊥) → at.view_have w u v ≤ at.have w v → at.have w v ≤ at.have z v → at.base z v ≤ at.have z v
+    → f.mine ≡ true → (u ≡ d → ⊥) → at.low ≤ at.base w u → at.view_have w u v ≤ at.have w v → at.have w v ≤ at.have z v → at.base z v ≤ at.have z v
     → (more : ℕ) → min f.next more ≤ at.have z v → f.base ≤ at.base z v
-    → min (min (at.have w u) (max (at.view_have w u v) (at.base w u) + 1)) more ≤ at.have z v
-wanted W at place d w z u v f made now mine inner view up sound more got base =
+    → min (min (min at.high (at.have w u)) (max (at.view_have w u v) (at.base w u) + 1)) more ≤ at.have z v
+wanted W at place d w z u v f made now mine inner ready view up sound more got base =
     let b = made.base mine in
-    elim (now.next_is mine inner) [
+    elim (now.next_is mine inner ready) [
       | inl low ↦ omega (arith, low, view, up, sound, base, b)
       | inr is ↦ omega (arith, is, got)
     ]
@@ -198,15 +198,15 @@ heard W Next Hop at on place bound least s d steady w x y z e p es u v hop step 
       base = λ k turn. let l = left k turn in let b = made.base (now.mine k turn) in let c = l.base in omega (arith, b, c);
       view_base = λ k turn on_v. let l = left k turn in let b = made.base (now.mine k turn) in let c = (l.view on_v).0 in omega (arith, b, c);
       view_have = λ k turn on_v. let l = left k turn in let b = made.have (now.mine k turn) in let c = (l.view on_v).1 in omega (arith, b, c);
-      have = λ k turn inner other.
+      have = λ k turn inner other ready.
           let l = left k turn in
           let got = l.have other in
-          let all = wanted W at place d w z u v f made now (now.mine k turn) inner view have_up sound (at.have w u) (omega (arith, got)) l.base in
+          let all = wanted W at place d w z u v f made now (now.mine k turn) inner ready view have_up sound (at.have w u) (omega (arith, got)) l.base in
           omega (arith, all);
-      have_at_end = λ k turn inner at_d.
+      have_at_end = λ k turn inner at_d ready.
           let l = left k turn in
           let got = l.have_at_end at_d in
-          wanted W at place d w z u v f made now (now.mine k turn) inner view have_up sound (at.taken w + bound) got l.base;
+          wanted W at place d w z u v f made now (now.mine k turn) inner ready view have_up sound (at.taken w + bound) got l.base;
     }
 
 -- one-step facts give the facts on which progress rests

@@ -2,48 +2,39 @@
 use Rattle.laws_progress.proofs.LastBoots.{running_boot, without_epochs}
 use Rattle.sp_rules.specs.Lives.{held_boot}
 use Rattle.laws_progress.proofs.Known.{known_rises, after_is, above_boot}
-use Rattle.laws_progress.proofs.Rises.{PartsGo, step_go, Goes_on, Begins_anew}
+use Rattle.laws_progress.proofs.Rises.{PartsGo, Goes_on, Begins_anew}
+use Rattle.laws_progress.proofs.StepGoes.{step_go}
 use Rattle.laws_runs.proofs.StartPieces.{greeted_lives}
 use Rattle.laws_progress.proofs.Becomes.{readied_keeps}
 use Rattle.std.specs.List.{list_any}
-use Rattle.laws_progress.proofs.Standing.{same_flow}
 use Rattle.laws_runs.specs.Past.{holds}
 use Rattle.sp_runs.specs.Lives.{ready}
-use Rattle.std.proofs.Common.{◌≡◌, ◌≤◌, ◌<◌, ◌⊎◌, ℕ, Bool, true, false, cond, max, List, [], ◌∷◌, ◌++◌, map, Option, Some, None, Ok, Result, option_map}
-use Rattle.std.proofs.Common.{refl, sym, ap, subst, ◌∙◌, inl, inr, arith, ◌==◌, not, ne_eqb, ltb-false}
+use Rattle.std.proofs.Common.{◌≡◌, ◌≤◌, ◌⊎◌, ℕ, Bool, true, false, cond, max, List, [], None, Ok, Result}
+use Rattle.std.proofs.Common.{refl, sym, ap, subst, ◌∙◌, inl, inr, arith, ◌==◌, not, ne_eqb}
 use Rattle.std.specs.Prelude.{nat_lt, ◌&&◌, ◌||◌}
-use Rattle.std.proofs.lemmas.Bool.{cases_eq, ltb-true, cases_lt, cases_Bool}
+use Rattle.std.proofs.lemmas.Bool.{cases_eq, cases_lt, cases_Bool}
 use Rattle.sp_base.specs.declared.id.Flow.{Flow}
 use Rattle.sp_base.specs.declared.id.NodeId.{NodeId}
-use Rattle.sp_frame.specs.Reliable.{Report}
 use Rattle.sp_frame.specs.Sections.{Contents}
-use Rattle.sp_frame.specs.Views.{as_list}
-use Rattle.sp_msg.specs.declared.kept.Kept.{Kept}
 use Rattle.sp_rules.specs.Arts.{Arts}
 use Rattle.sp_rules.specs.Arrivals.{arrival_at, heeded, link_after, parts_met, pieces_in, pieces_where, reply_at, sections_in, has_risen, before_document}
 use Rattle.sp_rules.specs.Arrivals.{document_at, document_in, document_where, not_taken, or_fresh, read_by}
 use Rattle.sp_rules.specs.Handle.{handle_all}
-use Rattle.sp_rules.specs.Link.{Link, is_above, pair_of}
+use Rattle.sp_rules.specs.Link.{Link}
 use Rattle.sp_rules.specs.Node.{NodeState, link_in, is_link, is_shut_to}
 use Rattle.sp_rules.specs.Parts.{Fixed, Parts}
-use Rattle.sp_rules.specs.Pieces.{AckPiece, EpochPiece, Piece, PrioAckPiece, RelPiece, WeightPiece, pieces_of, prio_piece, slot_pieces}
-use Rattle.sp_rules.specs.Polls.{contents_at, contents_to, dated, is_served}
-use Rattle.sp_rules.specs.Rel.{RelState, next_flow, slot_for, slot_of, is_peer, no_view, view_in, peer_in}
-use Rattle.sp_rules.specs.Steps.{Input, NodeStep, Poll, Datagram, Tick, SendRel, SendPrio, SetWeight, TakeRel, TakePrio, Publish}
-use Rattle.sp_rules.specs.declared.lives.Life.{Life}
-use Rattle.laws_node.specs.Flows.{RelHolds}
-use Rattle.laws_node.specs.Sizes.{Sizes}
-use Rattle.laws_node.proofs.Carried.{AllKeep}
+use Rattle.sp_rules.specs.Pieces.{Piece, pieces_of}
+use Rattle.sp_rules.specs.Polls.{contents_at, contents_to, is_served}
+use Rattle.sp_rules.specs.Rel.{RelState, is_peer, no_view, view_in, peer_in}
+use Rattle.sp_rules.specs.Steps.{NodeStep, Datagram}
 use Rattle.laws_runs.proofs.NoStarts.{pieces_at}
 use Rattle.laws_runs.specs.Signs.{Good, NodeIs}
-use Rattle.laws_runs.proofs.Tables.{same_node}
 use Rattle.sp_runs.specs.Forgery.{has_forged_tag}
 use Rattle.sp_runs.specs.Runs.{next_frame}
 use Rattle.sp_runs.specs.Settings.{Setting, SettingFits}
 use Rattle.sp_schedule_events.specs.declared.event.Event.{Event}
 use Rattle.laws_runs.specs.Premises.{ComesThrough}
 use Rattle.laws_progress.proofs.States.{Era, IsBetween, IsEra, IsHop, Watched, has_met, heard_of, in_era, in_life, knows_life, numbered, view_at}
-use Rattle.laws_runs.proofs.Acks.{RelAck}
 use Rattle.laws_progress.proofs.Arrives.{Arrived, arrives}
 use Rattle.laws_progress.proofs.Changes.{Acted, both_held, era_goes, holds_both, acted_is, not_over}
 use Rattle.laws_progress.proofs.Versions.{SameKnown, read_known}
@@ -54,115 +45,11 @@ use Rattle.laws_progress.proofs.Deaf.{NoHear, step_view}
 use Rattle.laws_progress.proofs.Framed.{Came, Learns, Taken, Too_late, read_or, served_sections, unserved}
 use Rattle.laws_progress.proofs.KnownRuns.{KnowsOf, knows_of}
 use Rattle.laws_progress.proofs.Links.{LinkAfter, Rests, Sends, Hears, link_step}
-use Rattle.laws_progress.proofs.Makes.{SlotAck, SlotMade, SlotRel, slot_dated, slot_made}
 use Rattle.laws_progress.proofs.Passes.{datagram_link, datagram_read}
 use Rattle.laws_progress.proofs.Polls.{both_ways}
 use Rattle.laws_progress.proofs.Rows.{link_there, peer_there, rows_are, RowsAre}
-use Rattle.laws_progress.proofs.Wires.{is_mine}
-
--- ---- what a slot of the flow has
-
-pub slot_parts : (k : Sizes) (index : ℕ) (r : RelState) (v : NodeId) (format : ℕ) (ls : List Life) (flow : Flow) (t : Report) → RelHolds k index r → RelAck r
-    → option_map (dated format ls) (slot_for r v) ≡ Some t → is_mine flow t.flow ≡ true
-    → (t.flow ≡ flow) × SlotAck flow t.base t.ack × SlotRel flow t.rels
-slot_parts k index r v format ls flow t h acks is mine = go (next_flow r v) is
-  where
-    go : (o : Option Flow) → option_map (dated format ls) (option_map (slot_of r v) o) ≡ Some t
-        → (t.flow ≡ flow) × SlotAck flow t.base t.ack × SlotRel flow t.rels
-    go None e = absurd (let f : None ≡ Some t = e in cc)
-    go (Some fl) e =
-        let f : Some (dated format ls (slot_of r v fl)) ≡ Some t = e in
-        let same : dated format ls (slot_of r v fl) ≡ t = cc in
-        let its : fl ≡ flow = same_flow flow fl (ap (λ (z : Report). is_mine flow z.flow) same ∙ mine) in
-        let s : SlotMade flow r v (slot_of r v fl) = subst (λ g. SlotMade flow r v (slot_of r v g)) (sym its) (slot_made k index r v flow h acks) in (
-          ap (λ (z : Report). z.flow) (sym same) ∙ its,
-          subst (λ (z : Report). SlotAck flow z.base z.ack) same s.ack,
-          subst (λ (z : Report). SlotRel flow z.rels) same (slot_dated flow format ls (slot_of r v fl) s.rels),
-        )
-
-pub keep_right : (P : Kept → Type 0) (xs ys : List Piece) → AllKeep P (xs ++ ys) → AllKeep P ys
-keep_right P [] ys h = h
-keep_right P (x ∷ xs) ys h = keep_right P xs ys h.1
-
-keep_left : (P : Kept → Type 0) (xs ys : List Piece) → AllKeep P (xs ++ ys) → AllKeep P xs
-keep_left P [] ys h = tt
-keep_left P (x ∷ xs) ys h = (h.0, keep_left P xs ys h.1)
-
-pub slot_keeps : (P : Kept → Type 0) (s : Contents) → AllKeep P (pieces_of s) → AllKeep P (slot_pieces s.slot)
-slot_keeps P s h =
-    let last = map EpochPiece (as_list s.epoch) in
-    let rest = keep_right P (map WeightPiece s.weights) (PrioAckPiece s.prio_ack ∷ (map prio_piece s.prios ++ (slot_pieces s.slot ++ last))) h in
-    keep_left P (slot_pieces s.slot) last (keep_right P (map prio_piece s.prios) (slot_pieces s.slot ++ last) rest.1)
-
-pub ack_keeps : (P : Kept → Type 0) (flow : Flow) (a : Option Kept) (ys : List Piece) → AllKeep P (map (AckPiece flow) (as_list a) ++ ys) → (o : Kept)
-    → a ≡ Some o → P o
-ack_keeps P flow None ys h o e = absurd (let f : None ≡ Some o = e in cc)
-ack_keeps P flow (Some b) ys h o e = let same : b ≡ o = cc in subst P same h.0
-
-pub rel_keeps : (P : Kept → Type 0) (flow : Flow) (rs : List Kept) → AllKeep P (map (RelPiece flow) rs) → (o : Kept) (os : List Kept) → rs ≡ o ∷ os → P o
-rel_keeps P flow rs h o os e = (subst (λ (zs : List Kept). AllKeep P (map (RelPiece flow) zs)) e h).0
-
--- ---- what a node hears
-
-hears_or : (u : NodeId) (i : Input) → NoHear u i ⊎ ((bytes : List ℕ) × (i ≡ Datagram u bytes))
-hears_or u (Datagram from bytes) = elim (cases_eq from.0 u.0) [
-  | inl z ↦ inr (bytes, ap (λ f. Datagram f bytes) (same_node from u z))
-  | inr z ↦ inl (λ e. z (ap (λ (n : NodeId). n.0) e))
-]
-hears_or u (Poll v) = inl tt
-hears_or u (Tick now) = inl tt
-hears_or u (SendRel dst payload) = inl tt
-hears_or u (SendPrio m) = inl tt
-hears_or u (SetWeight v weight) = inl tt
-hears_or u (TakeRel src) = inl tt
-hears_or u TakePrio = inl tt
-hears_or u (Publish document) = inl tt
-
--- what is seen of u at v is the same
-pub record SameHere (x : Setting) (era : Era) (flow : Flow) (u v : NodeId) (n m : NodeState) : Type 0 where
-  pub seen : heard_of era v u m ≡ heard_of era v u n
-  pub view : view_at x era flow v u m ≡ view_at x era flow v u n
-
-either_zero : (t : Bool) → (let z : ℕ = cond t 0 0 in z) ≡ 0
-either_zero true = refl
-either_zero false = refl
-
-pub lt_on : (a b : ℕ) → a < b → nat_lt a b ≡ true
-lt_on a b lt = elim (cases_Bool (nat_lt a b)) [ inl t ↦ t | inr t ↦ absurd (let ge = ltb-false a b t in omega (arith, ge, lt)) ]
-
-lt_off : (a b : ℕ) → b ≤ a → nat_lt a b ≡ false
-lt_off a b le = elim (cases_Bool (nat_lt a b)) [ inl t ↦ absurd (let lt = ltb-true a b t in omega (arith, le, lt)) | inr t ↦ t ]
-
--- v took a frame that u made in its life
-pub record TakenAt (arts : Arts) (x : Setting) (all : List Event) (era : Era) (w : Watched arts x all era) (u v : NodeId) (n m : NodeState) (k : ℕ) : Type 0
-  where
-    pub bytes : List ℕ
-    pub arrived : Arrived arts x w.at.events w.at.world u v n bytes k
-    pub life : (arts.head bytes).boot ≡ era.life u
-    pub echo : ((arts.head bytes).echo == n.fixed.boot) ≡ true
-    pub above : is_above (pair_of (arts.head bytes)) (link_in n u).seen ≡ true
-    pub boot : (link_in m u).peer_boot ≡ (arts.head bytes).boot
-    pub seen : (link_in m u).seen ≡ pair_of (arts.head bytes)
-    pub rise : (link_in n u).peer_boot ≤ (link_after arts n u bytes).peer_boot
-    pub top : (link_after arts n u bytes).peer_boot ≤ era.life u
-    pub link : link_in m u ≡ link_after arts n u bytes
-
--- and handled what u had in turn
-pub record HandledAt (arts : Arts) (u v : NodeId) (n m maker : NodeState) (bytes : List ℕ) : Type 0 where
-  pub served : is_served maker v ≡ true
-  pub parts : m.parts
-      ≡ (handle_all arts (arrival_at n u) (parts_met arts n u bytes) (pieces_of (heeded n.fixed (contents_to maker.fixed maker.parts v)))).parts
-
--- or handled none of it: it is none that has what u had in turn, it is of another version, or its edge is withdrawn
-pub record PassedOver (arts : Arts) (x : Setting) (era : Era) (flow : Flow) (u v : NodeId) (n m maker : NodeState) (bytes : List ℕ) : Type 0 where
-  pub view : view_at x era flow v u m ≡ view_at x era flow v u n
-  pub why : is_served maker v ≡ true → (arts.head bytes).topology ≡ n.live.version → is_shut_to n u ≡ false → ⊥
-
--- one of both
-pub record Met (arts : Arts) (x : Setting) (all : List Event) (era : Era) (flow : Flow) (w : Watched arts x all era) (u v : NodeId) (n m : NodeState)
-    (k : ℕ) : Type 0 where
-  pub it : TakenAt arts x all era w u v n m k
-  pub left : HandledAt arts u v n m it.arrived.from.node it.bytes ⊎ PassedOver arts x era flow u v n m it.arrived.from.node it.bytes
+use Rattle.sp_rules.specs.Parts.{flows_of}
+use Rattle.laws_progress.proofs.Meetings.{HandledAt, Met, PassedOver, SameHere, TakenAt, either_zero, hears_or, lt_off, lt_on}
 
 module _ (arts : Arts) (x : Setting) (all : List Event) (era : Era) (flow : Flow) (fits : SettingFits arts x)
     (reads : ComesThrough x.topology.format arts x.signature_len)
@@ -178,14 +65,15 @@ module _ (arts : Arts) (x : Setting) (all : List Event) (era : Era) (flow : Flow
   back = both_ways x u v hop.hop
 
   pub rows : RowsAre x v n
-  rows = readied_keeps x w.at.world a.before a.node (RowsAre x v) (λ upto h. record { peers = h.peers; links = h.links; heard = h.heard }) a.readied
+  rows = readied_keeps x w.at.world a.before a.node (RowsAre x v) (λ upto h. record { peers = h.peers; edges = h.edges; links = h.links; heard = h.heard })
+      a.readied
       (rows_are arts x w.at.events w.at.journal w.at.world fits reads.carries w.at.run v a.before a.there)
 
   pub link_row : list_any (is_link u) n.links ≡ true
   link_row = link_there x v u n rows back.joined
 
-  pub peer_row : list_any (is_peer u) n.parts.rel.peers ≡ true
-  peer_row = peer_there x v u n rows back.joined
+  pub peer_row : list_any (is_peer u) (flows_of era.kind n.parts).peers ≡ true
+  peer_row = peer_there era.kind x v u n rows back.joined
 
   pub is_of : NodeIs x (Good arts x w.at.events w.at.journal) v n
   is_of = acted_is arts x all era fits reads.carries w y e v a
@@ -197,8 +85,8 @@ module _ (arts : Arts) (x : Setting) (all : List Event) (era : Era) (flow : Flow
   pub knows_later : KnowsOf x y.at.world v u (link_in m u)
   knows_later = knows_of arts x y.at.events y.at.journal y.at.world fits reads.carries reads.heads y.at.run v u back m a.left
 
-  boots_go : PartsGo flow n.parts m.parts
-  boots_go = step_go flow arts n a.input a.output m a.step (not_over arts x all era fits reads.carries flow is_era y v m a.left second)
+  boots_go : PartsGo era.kind flow n.parts m.parts
+  boots_go = step_go era.kind flow arts n a.input a.output m a.step (not_over arts x all era fits reads.carries flow is_era y v m a.left second)
 
   pub top_now : (link_in m u).peer_boot ≤ era.life u
   top_now = let low = knows_later.below in let top = y.latest u hop.first in omega (arith, low, top)
@@ -219,16 +107,16 @@ module _ (arts : Arts) (x : Setting) (all : List Event) (era : Era) (flow : Flow
   pub view_off : holds n flow.src era.sboot flow.dst era.dboot ≡ false → view_at x era flow v u m ≡ view_at x era flow v u n
   view_off off = rw (first, off, second) (go boots_go (holds m flow.src era.sboot flow.dst era.dboot) refl)
     where
-      go : PartsGo flow n.parts m.parts → (t : Bool) → holds m flow.src era.sboot flow.dst era.dboot ≡ t
-          → cond (t && has_met x era u m) (view_in (peer_in m.parts.rel.peers u).views flow) (no_view flow) ≡ no_view flow
+      go : PartsGo era.kind flow n.parts m.parts → (t : Bool) → holds m flow.src era.sboot flow.dst era.dboot ≡ t
+          → cond (t && has_met x era u m) (view_in (peer_in (flows_of era.kind m.parts).peers u).views flow) (no_view flow) ≡ no_view flow
       go is false e = refl
       go (Goes_on src dst later) true e =
           let h = holds_both m flow.src flow.dst era.sboot era.dboot e in
           absurd (let f : true ≡ false = sym (both_held n flow.src flow.dst era.sboot era.dboot (sym src ∙ h.0) (sym dst ∙ h.1)) ∙ off in cc)
       go (Begins_anew rises none views) true e = either (has_met x era u m) (views u)
         where
-          either : (t : Bool) → view_in (peer_in m.parts.rel.peers u).views flow ≡ no_view flow
-              → cond t (view_in (peer_in m.parts.rel.peers u).views flow) (no_view flow) ≡ no_view flow
+          either : (t : Bool) → view_in (peer_in (flows_of era.kind m.parts).peers u).views flow ≡ no_view flow
+              → cond t (view_in (peer_in (flows_of era.kind m.parts).peers u).views flow) (no_view flow) ≡ no_view flow
           either true is = is
           either false is = refl
 
@@ -260,10 +148,11 @@ module _ (arts : Arts) (x : Setting) (all : List Event) (era : Era) (flow : Flow
           | inl held ↦
               let stay = boots_stay held in
               let now = stay.0 in
-              let view = step_view u flow (view_in (peer_in n.parts.rel.peers u).views flow) arts n a.input a.output m a.step stay.1 stay.2 peer_row quiet
+              let view = step_view era.kind u flow (view_in (peer_in (flows_of era.kind n.parts).peers u).views flow) arts n a.input a.output m a.step stay.1
+              stay.2 peer_row quiet
               refl in
               rw (first, second, held, now)
-              (ap (λ b. cond (not x.epochs || (b == era.life u)) (view_in (peer_in m.parts.rel.peers u).views flow) (no_view flow)) boot
+              (ap (λ b. cond (not x.epochs || (b == era.life u)) (view_in (peer_in (flows_of era.kind m.parts).peers u).views flow) (no_view flow)) boot
               ∙ ap (λ z. cond (has_met x era u n) z (no_view flow)) view)
         ];
       }
@@ -296,12 +185,12 @@ module _ (arts : Arts) (x : Setting) (all : List Event) (era : Era) (flow : Flow
     top_after = subst (λ (l : Link). l.peer_boot ≤ era.life u) link_is_now top_now
 
     met_seen : cond (in_era era flow v n && (not x.epochs || ((link_after arts n u bytes).peer_boot == era.life u)))
-        (view_in (peer_in (parts_met arts n u bytes).rel.peers u).views flow) (no_view flow) ≡ view_at x era flow v u n
+        (view_in (peer_in (flows_of era.kind (parts_met arts n u bytes)).peers u).views flow) (no_view flow) ≡ view_at x era flow v u n
     met_seen = greet_view arts x era flow u v n bytes epochs_are peer_row rise_now top_after
 
     -- no piece of it that counts is handled
     abbrev Quiet : Type 0
-    Quiet = (m.parts.lives ≡ (parts_met arts n u bytes).lives) × (m.parts.rel.peers ≡ (parts_met arts n u bytes).rel.peers)
+    Quiet = (m.parts.lives ≡ (parts_met arts n u bytes).lives) × ((flows_of era.kind m.parts).peers ≡ (flows_of era.kind (parts_met arts n u bytes)).peers)
 
     view_met : Quiet → view_at x era flow v u m ≡ view_at x era flow v u n
     view_met quiet =
@@ -309,8 +198,9 @@ module _ (arts : Arts) (x : Setting) (all : List Event) (era : Era) (flow : Flow
         let here : in_era era flow v m ≡ in_era era flow v n =
         ap (λ t. t && holds m flow.src era.sboot flow.dst era.dboot) (second ∙ sym first)
         ∙ ap (λ ls. in_life era v n && ((held_boot ls flow.src == era.sboot) && (held_boot ls flow.dst == era.dboot))) lives in
-        ap (λ t. cond (t && has_met x era u m) (view_in (peer_in m.parts.rel.peers u).views flow) (no_view flow)) here
-        ∙ ap (λ (l : Link). cond (in_era era flow v n && (not x.epochs || (l.peer_boot == era.life u))) (view_in (peer_in m.parts.rel.peers u).views flow)
+        ap (λ t. cond (t && has_met x era u m) (view_in (peer_in (flows_of era.kind m.parts).peers u).views flow) (no_view flow)) here
+        ∙ ap (λ (l : Link). cond (in_era era flow v n && (not x.epochs || (l.peer_boot == era.life u)))
+        (view_in (peer_in (flows_of era.kind m.parts).peers u).views flow)
         (no_view flow)) link_is_now
         ∙ ap (λ ps. cond (in_era era flow v n && (not x.epochs || ((link_after arts n u bytes).peer_boot == era.life u)))
         (view_in (peer_in ps u).views flow) (no_view flow)) quiet.1
@@ -320,7 +210,7 @@ module _ (arts : Arts) (x : Setting) (all : List Event) (era : Era) (flow : Flow
     no_pieces_left never =
         let none = ap (λ ps. (handle_all arts (arrival_at n u) (parts_met arts n u bytes) ps).parts)
         (never (pieces_in n.fixed (sections_in arts n.fixed bytes))) in
-        (left_known.lives ∙ ap (λ (p : Parts). p.lives) none, left_known.peers ∙ ap (λ (p : Parts). p.rel.peers) none)
+        (left_known.lives ∙ ap (λ (p : Parts). p.lives) none, left_known.peers era.kind ∙ ap (λ (p : Parts). (flows_of era.kind p).peers) none)
 
     -- of another life, or of none that is known
     off_seen : (q : NodeState) → ((link_in q u).peer_boot ≡ era.life u → ⊥) → heard_of era v u q ≡ 0
@@ -370,7 +260,7 @@ module _ (arts : Arts) (x : Setting) (all : List Event) (era : Era) (flow : Flow
             let of_parts = ap (λ (s : Result Contents SectionRefused).
             (handle_all arts (arrival_at n u) (parts_met arts n u bytes) (pieces_where (reply_at arts n u bytes) (pieces_in n.fixed s))).parts) sections in (
               left_known.lives ∙ ap (λ (p : Parts). p.lives) of_parts ∙ none.0,
-              left_known.peers ∙ ap (λ (p : Parts). p.rel.peers) of_parts ∙ ap (λ (r : RelState). r.peers) none.1,
+              left_known.peers era.kind ∙ ap (λ (p : Parts). (flows_of era.kind p).peers) of_parts ∙ ap (λ (r : RelState). r.peers) (none.1 era.kind),
             )
 
         parts_are : is_served it.from.node v ≡ true → reply_at arts n u bytes ≡ replies.Fresh
@@ -449,7 +339,7 @@ module _ (arts : Arts) (x : Setting) (all : List Event) (era : Era) (flow : Flow
         unmet_view : (q : NodeState) → ((link_in q u).peer_boot ≡ era.life u → ⊥) → x.epochs ≡ true → view_at x era flow v u q ≡ no_view flow
         unmet_view q never on = let t : ((link_in q u).peer_boot == era.life u) ≡ false = ne_eqb _ _ never in rw (on, t) (either (in_era era flow v q))
           where
-            either : (t : Bool) → cond (t && false) (view_in (peer_in q.parts.rel.peers u).views flow) (no_view flow) ≡ no_view flow
+            either : (t : Bool) → cond (t && false) (view_in (peer_in (flows_of era.kind q.parts).peers u).views flow) (no_view flow) ≡ no_view flow
             either true = refl
             either false = refl
 

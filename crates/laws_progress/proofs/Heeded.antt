@@ -23,12 +23,17 @@ use Rattle.sp_rules.specs.declared.answers.Item.TheVariants as items
 use Rattle.sp_rules.specs.declared.lives.Life.{Life}
 use Rattle.sp_rules.specs.declared.rel.AckJudged.TheVariants as acks
 use Rattle.sp_rules.specs.declared.rel.RelJudged.TheVariants as rels
+use Rattle.sp_rules.specs.declared.kflow.FlowKind.TheVariants.{Plain}
 use Rattle.laws_node.specs.Flows.{IsAckOf}
 use Rattle.laws_node.proofs.Tables.{cond_either}
 use Rattle.laws_runs.proofs.FlowFacts.{first_replaced, is_its}
 use Rattle.laws_runs.proofs.Acks.{RelAck, flow_ack}
 use Rattle.laws_progress.proofs.Rises.{RelLater, admit_ack_later, admit_rel_later, rel_same}
 use Rattle.laws_progress.proofs.Slots.{after_ack, after_rel}
+use Rattle.sp_rules.specs.declared.kflow.FlowKind.{FlowKind}
+use Rattle.sp_rules.specs.declared.kflow.FlowKind.TheVariants.{Paths}
+use Rattle.sp_msg.specs.declared.body.Ack.{Ack}
+use Rattle.sp_rules.specs.Rel.{judge_ack, plain_ack}
 
 pub record Ready (nodes : List NodeId) (bound : ℕ) (v : NodeId) (flow : Flow) (r : RelState) : Type 0 where
   pub me : r.me ≡ v
@@ -94,21 +99,23 @@ ack_later arts f ls r flow o =
     cond_either (RelLater r) (is_new (items.Ack (ack_answer (is_signed arts f o) (is_dated ls o.body) (judge_ack_of r flow o.body)))) (admit_ack r o) r
     (admit_ack_later r o) (rel_same r)
 
-pub rel_later : (arts : Arts) (f : Fixed) (ls : List Life) (r : RelState) (flow : Flow) (o : Kept) → RelLater r (after_rel arts f ls r flow o)
-rel_later arts f ls r flow o =
-    cond_either (RelLater r) (is_new (items.Rel (rel_answer (is_signed arts f o) (is_dated ls o.body) (judge_rel_of r flow o.body)))) (admit_rel r o) r
-    (admit_rel_later r o) (rel_same r)
+pub rel_later : (arts : Arts) (f : Fixed) (ls : List Life) (over : Body → Bool) (r : RelState) (flow : Flow) (o : Kept)
+    → RelLater r (after_rel arts f ls over r flow o)
+rel_later arts f ls over r flow o =
+    cond_either (RelLater r) (is_new (items.Rel (rel_answer (is_signed arts f o) (is_dated ls o.body) (over o.body) (judge_rel_of r flow o.body))))
+    (admit_rel r o) r (admit_rel_later r o) (rel_same r)
 
-pub ack_heard : (arts : Arts) (fx : Fixed) (ls : List Life) (nodes : List NodeId) (bound : ℕ) (v : NodeId) (flow : Flow) (r : RelState) (o : Kept) (q : ℕ)
-    → Ready nodes bound v flow r → AreNodes nodes flow → IsAckOf flow o.body → number_said o.body ≡ q
+pub ack_heard : (kind : FlowKind) (arts : Arts) (fx : Fixed) (ls : List Life) (nodes : List NodeId) (bound : ℕ) (v : NodeId) (flow : Flow) (r : RelState)
+    (o : Kept) (q : ℕ)
+    → Ready nodes bound v flow r → AreNodes nodes flow → IsAckOf kind flow o.body → number_said o.body ≡ q
     → is_signed arts fx o ≡ true → is_dated ls o.body ≡ true → (is_from r flow ≡ true → q ≤ (flow_in r.flows flow).at.have)
     → (is_to r flow ≡ true → q ≤ (flow_in r.flows flow).at.base)
     → q ≤ (flow_in (after_ack arts fx ls r flow o).flows flow).at.base
-ack_heard arts fx ls nodes bound v flow r o q ready are kind number signed dated at_source at_end = elim (cases_lt (flow_in r.flows flow).at.base q) [
+ack_heard kind arts fx ls nodes bound v flow r o q ready are is_ack number signed dated at_source at_end = elim (cases_lt (flow_in r.flows flow).at.base q) [
   | inr old ↦ let up = (ack_later arts fx ls r flow o flow).base in omega (arith, old, up)
   | inl above ↦
       let f = flow_in r.flows flow in
-      let new = go o.body refl kind number above in
+      let new = go kind o.body refl is_ack number above in
       let is : after_ack arts fx ls r flow o ≡ admit_ack r o =
       ap (λ j. cond (is_new (items.Ack (ack_answer (is_signed arts fx o) (is_dated ls o.body) j))) (admit_ack r o) r) new.0
       ∙ ap (λ t. cond (is_new (items.Ack (ack_answer t (is_dated ls o.body) acks.New))) (admit_ack r o) r) signed
@@ -120,25 +127,36 @@ ack_heard arts fx ls nodes bound v flow r o q ready are kind number signed dated
       omega (arith, base, number)
 ]
   where
-    go : (body : Body) → o.body ≡ body → IsAckOf flow body → number_said body ≡ q → (flow_in r.flows flow).at.base < q
-        → (judge_ack_of r flow body ≡ acks.New) × (flow_said body ≡ flow)
-    go (bodies.Ack a) e kind number above =
+    of_ends : (a : Ack) → (a.src ≡ flow.src) × (a.dst ≡ flow.dst) → a.seq ≡ q → (flow_in r.flows flow).at.base < q
+        → (judge_ack r flow a ≡ acks.New) × (record { src = a.src; dst = a.dst } ≡ flow)
+    of_ends a its number above =
         let end : are_ends r flow a.src a.dst ≡ true =
-        ap (λ s. are_ends r flow s a.dst) kind.0 ∙ ap (are_ends r flow flow.src) kind.1 ∙ are_its_ends nodes bound v flow r ready are in
+        ap (λ s. are_ends r flow s a.dst) its.0 ∙ ap (are_ends r flow flow.src) its.1 ∙ are_its_ends nodes bound v flow r ready are in
         let high : nat_le a.seq (flow_in r.flows flow).at.base ≡ false = grind (arith, nat_tests) in
         let sent : (is_from r flow && nat_lt (flow_in r.flows flow).at.have a.seq) ≡ false =
         both_false _ _ (λ t. let low = at_source t in grind (arith, nat_tests)) in
         let away : is_to r flow ≡ false = none_true (is_to r flow) (λ t. let low = at_end t in omega (arith, low, above)) in (
           judged_ack (are_ends r flow a.src a.dst) (nat_le a.seq (flow_in r.flows flow).at.base) (is_from r flow && nat_lt (flow_in r.flows flow).at.have a.seq)
               (is_to r flow) end high sent away,
-          ap (λ s. let g : Flow = record { src = s; dst = a.dst } in g) kind.0 ∙ ap (λ d. let g : Flow = record { src = flow.src; dst = d } in g) kind.1,
+          ap (λ s. let g : Flow = record { src = s; dst = a.dst } in g) its.0 ∙ ap (λ d. let g : Flow = record { src = flow.src; dst = d } in g) its.1,
         )
-    go (bodies.Rel a) e kind number above = absurd kind
-    go (bodies.Prio a) e kind number above = absurd kind
-    go (bodies.Weight a) e kind number above = absurd kind
-    go (bodies.Krel a) e kind number above = absurd kind
-    go (bodies.Kack a) e kind number above = absurd kind
-    go (bodies.Epoch a) e kind number above = absurd kind
+
+    go : (k : FlowKind) (body : Body) → o.body ≡ body → IsAckOf k flow body → number_said body ≡ q → (flow_in r.flows flow).at.base < q
+        → (judge_ack_of r flow body ≡ acks.New) × (flow_said body ≡ flow)
+    go Plain (bodies.Ack a) e its number above = of_ends a its number above
+    go Paths (bodies.Kack a) e its number above = of_ends (plain_ack a) its number above
+    go Plain (bodies.Rel a) e its number above = absurd its
+    go Plain (bodies.Prio a) e its number above = absurd its
+    go Plain (bodies.Weight a) e its number above = absurd its
+    go Plain (bodies.Krel a) e its number above = absurd its
+    go Plain (bodies.Epoch a) e its number above = absurd its
+    go Plain (bodies.Kack a) e its number above = absurd its
+    go Paths (bodies.Rel a) e its number above = absurd its
+    go Paths (bodies.Prio a) e its number above = absurd its
+    go Paths (bodies.Weight a) e its number above = absurd its
+    go Paths (bodies.Krel a) e its number above = absurd its
+    go Paths (bodies.Epoch a) e its number above = absurd its
+    go Paths (bodies.Ack a) e its number above = absurd its
 
 -- ---- a message
 
@@ -146,32 +164,35 @@ judged_rel : (e t u v w z : Bool) → e ≡ true → t ≡ false → u ≡ false
     → cond (not e) rels.BadEnd (cond t rels.Old (cond u rels.Ahead (cond v rels.Gap (cond w rels.Full (cond z rels.InboxFull rels.New))))) ≡ rels.New
 judged_rel e t u v w z a b c d f g = rw (a, b, c, d, f, g) refl
 
-pub rel_heard : (arts : Arts) (fx : Fixed) (ls : List Life) (nodes : List NodeId) (bound : ℕ) (v : NodeId) (flow : Flow) (r : RelState) (o : Kept) (q : ℕ)
-    → Ready nodes bound v flow r → AreNodes nodes flow → IsMessage flow q o.body
-    → is_signed arts fx o ≡ true → is_dated ls o.body ≡ true → q ≤ (flow_in r.flows flow).at.have + 1 → q ≤ (flow_in r.flows flow).at.base + bound
+pub rel_heard : (arts : Arts) (fx : Fixed) (ls : List Life) (over : Body → Bool) (nodes : List NodeId) (bound : ℕ) (v : NodeId) (flow : Flow) (r : RelState)
+    (o : Kept) (q : ℕ) → Ready nodes bound v flow r → AreNodes nodes flow → IsMessage flow q o.body
+    → is_signed arts fx o ≡ true → is_dated ls o.body ≡ true → over o.body ≡ true
+    → q ≤ (flow_in r.flows flow).at.have + 1 → q ≤ (flow_in r.flows flow).at.base + bound
     → (is_from r flow ≡ true → q ≤ (flow_in r.flows flow).at.have)
-    → (is_to r flow ≡ false → q ≤ (flow_in (after_rel arts fx ls r flow o).flows flow).at.have)
+    → (is_to r flow ≡ false → q ≤ (flow_in (after_rel arts fx ls over r flow o).flows flow).at.have)
     × (is_to r flow ≡ true
-    → min q ((flow_in r.flows flow).at.have - length (flow_in r.flows flow).inbox + bound) ≤ (flow_in (after_rel arts fx ls r flow o).flows flow).at.have)
-rel_heard arts fx ls nodes bound v flow r o q ready are message signed dated near window at_source = elim (cases_lt (flow_in r.flows flow).at.have q) [
-  | inr old ↦ let up = (rel_later arts fx ls r flow o flow).have in (λ z. omega (arith, old, up), λ z. omega (arith, old, up))
-  | inl above ↦
-      let f = flow_in r.flows flow in
-      let a = flow_ack r flow ready.acks in
-      let sound = a.sound in
-      let few = a.inbox (ap (is_over r.removed) (found_ends r.flows flow) ∙ ready.goes_on) in
-      let bound_is = ready.bound_is in
-      let up = (rel_later arts fx ls r flow o flow).have in (
-        λ inner. let new =
-            go o.body refl message above (both_false (is_to r flow) (length f.inbox == r.bound) (λ t. absurd (let g : true ≡ false = sym t ∙ inner in cc))) in
-            taken new above,
-        λ end. elim (cases_Bool (length f.inbox == r.bound)) [
-          | inl full ↦ let same = eqb-true _ _ full in omega (arith, same, bound_is, few, up)
-          | inr space ↦ let new = go o.body refl message above (both_false (is_to r flow) (length f.inbox == r.bound) (λ t. space)) in let it =
-              taken new above in omega (arith, it)
-        ],
-      )
-]
+    → min q ((flow_in r.flows flow).at.have - length (flow_in r.flows flow).inbox + bound) ≤ (flow_in (after_rel arts fx ls over r flow o).flows flow).at.have)
+rel_heard arts fx ls over nodes bound v flow r o q ready are message signed dated goes near window at_source =
+    elim (cases_lt (flow_in r.flows flow).at.have q) [
+      | inr old ↦ let up = (rel_later arts fx ls over r flow o flow).have in (λ z. omega (arith, old, up), λ z. omega (arith, old, up))
+      | inl above ↦
+          let f = flow_in r.flows flow in
+          let a = flow_ack r flow ready.acks in
+          let sound = a.sound in
+          let few = a.inbox (ap (is_over r.removed) (found_ends r.flows flow) ∙ ready.goes_on) in
+          let bound_is = ready.bound_is in
+          let up = (rel_later arts fx ls over r flow o flow).have in (
+            λ inner. let new =
+                go o.body refl message above
+                (both_false (is_to r flow) (length f.inbox == r.bound) (λ t. absurd (let g : true ≡ false = sym t ∙ inner in cc))) in
+                taken new above,
+            λ end. elim (cases_Bool (length f.inbox == r.bound)) [
+              | inl full ↦ let same = eqb-true _ _ full in omega (arith, same, bound_is, few, up)
+              | inr space ↦ let new = go o.body refl message above (both_false (is_to r flow) (length f.inbox == r.bound) (λ t. space)) in let it =
+                  taken new above in omega (arith, it)
+            ],
+          )
+    ]
   where
     of_ends : (src dst : NodeId) (seq : ℕ) → (src ≡ flow.src) × (dst ≡ flow.dst) × (seq ≡ q) → (flow_in r.flows flow).at.have < q
         → (is_to r flow && (length (flow_in r.flows flow).inbox == r.bound)) ≡ false
@@ -212,17 +233,18 @@ rel_heard arts fx ls nodes bound v flow r o q ready are message signed dated nea
     either_ends false f p = refl
 
     taken : (judge_rel_of r flow o.body ≡ rels.New) × (flow_said o.body ≡ flow) → (flow_in r.flows flow).at.have < q
-        → q ≤ (flow_in (after_rel arts fx ls r flow o).flows flow).at.have
+        → q ≤ (flow_in (after_rel arts fx ls over r flow o).flows flow).at.have
     taken new above =
         let f = flow_in r.flows flow in
         let g : FlowState = cond (is_to r flow) (received f (payload_of o.body)) (pushed f o) in
-        let is : after_rel arts fx ls r flow o ≡ admit_rel r o =
-        ap (λ j. cond (is_new (items.Rel (rel_answer (is_signed arts fx o) (is_dated ls o.body) j))) (admit_rel r o) r) new.0
-        ∙ ap (λ t. cond (is_new (items.Rel (rel_answer t (is_dated ls o.body) rels.New))) (admit_rel r o) r) signed
-        ∙ ap (λ t. cond (is_new (items.Rel (rel_answer true t rels.New))) (admit_rel r o) r) dated in
+        let is : after_rel arts fx ls over r flow o ≡ admit_rel r o =
+        ap (λ j. cond (is_new (items.Rel (rel_answer (is_signed arts fx o) (is_dated ls o.body) (over o.body) j))) (admit_rel r o) r) new.0
+        ∙ ap (λ t. cond (is_new (items.Rel (rel_answer t (is_dated ls o.body) (over o.body) rels.New))) (admit_rel r o) r) signed
+        ∙ ap (λ t. cond (is_new (items.Rel (rel_answer true t (over o.body) rels.New))) (admit_rel r o) r) dated
+        ∙ ap (λ t. cond (is_new (items.Rel (rel_answer true true t rels.New))) (admit_rel r o) r) goes in
         let put : admit_rel r o ≡ with_flow r flow g =
         ap (λ fl. with_flow r fl (cond (is_to r fl) (received (flow_in r.flows fl) (payload_of o.body)) (pushed (flow_in r.flows fl) o))) new.1 in
-        let at : flow_in (after_rel arts fx ls r flow o).flows flow ≡ g =
+        let at : flow_in (after_rel arts fx ls over r flow o).flows flow ≡ g =
         ap (λ (z : RelState). flow_in z.flows flow) (is ∙ put)
         ∙ put_base r flow g ready.row (either_ends (is_to r flow) f (payload_of o.body) ∙ found_ends r.flows flow) in
         let have = ap (λ (h : FlowState). h.at.have) at in

@@ -8,7 +8,9 @@ use Rattle.laws_progress.proofs.Polls.{between_back}
 use Rattle.std.proofs.lemmas.Bool.{cases_Bool}
 use Rattle.laws_progress.proofs.Changes.{Acted, era_is, holds_both, lit, not_over, same_read}
 use Rattle.laws_progress.proofs.Greets.{greeted_ready}
-use Rattle.laws_progress.proofs.Hears.{HandledAt, Met, TakenAt, hearing, is_of, slot_parts}
+use Rattle.laws_progress.proofs.Hears.{hearing, is_of}
+use Rattle.laws_progress.proofs.Meetings.{HandledAt, Met, TakenAt}
+use Rattle.laws_progress.proofs.SlotParts.{slot_parts}
 use Rattle.laws_progress.proofs.Heeded.{Ready}
 use Rattle.laws_progress.proofs.Heeds.{HeededOf, are_nodes, heeded_of, names_dated, signed_in, slot_names}
 use Rattle.laws_progress.proofs.Hops.{IsDeaf, IsFit, IsHearing, IsHeeded, Told}
@@ -31,6 +33,7 @@ use Rattle.sp_msg.specs.declared.kept.Kept.{Kept}
 use Rattle.sp_rules.specs.Arrivals.{has_risen, link_after, parts_met}
 use Rattle.sp_rules.specs.Arts.{Arts}
 use Rattle.sp_rules.specs.Flow.{FlowState, no_flow}
+use Rattle.sp_rules.specs.Kflow.{came_over}
 use Rattle.sp_rules.specs.Lives.{held_boot, is_dated}
 use Rattle.sp_rules.specs.Node.{is_shut_to, link_in}
 use Rattle.sp_rules.specs.Parts.{nodes_of}
@@ -44,6 +47,17 @@ use Rattle.sp_schedule_events.specs.declared.event.Event.{Event}
 use Rattle.std.proofs.Common.{List, None, Option, Some, ap, arith, inl, inr, length, refl, subst, sym, false, true, ℕ, ◌&&◌, ◌+◌, ◌-◌, ◌==◌, ◌∙◌, ◌∷◌, ◌≡◌, ◌⊎◌}
 use Rattle.std.proofs.lemmas.Bool.{eq-eqb, eqb-true, ne_eqb}
 use Rattle.std.specs.Prelude.{option_map}
+use Rattle.sp_rules.specs.Parts.{flows_of}
+use Rattle.laws_node.proofs.FlowKinds.{flows_hold}
+use Rattle.laws_progress.proofs.EitherKind.{slot_of_kind}
+use Rattle.laws_progress.proofs.Edges.{same_edge, greeted_edges}
+use Rattle.laws_progress.proofs.Makes.{sent_over, slot_some}
+use Rattle.sp_rules.specs.Kflow.{goes_over, edge_to}
+use Rattle.laws_node.specs.Flows.{RelHolds}
+use Rattle.sp_msg.specs.declared.body.Body.{Body}
+use Rattle.laws_progress.proofs.Polls.{both_ways}
+use Rattle.laws_progress.proofs.Rows.{rows_are}
+use Rattle.laws_progress.proofs.Hears.{rows}
 
 -- a slot is dated with the boots that its node holds
 slot_boots : (format : ℕ) (ls : List Life) (o : Option Report) (t : Report) → option_map (dated format ls) o ≡ Some t
@@ -80,24 +94,41 @@ module _ (arts : Arts) (x : Setting) (all : List Event) (era : Era) (flow : Flow
       maker_is = (signs arts x it.arrived.from.events it.arrived.from.journal it.arrived.from.world fits reads.carries it.arrived.from.run).nodes u
           it.arrived.from.node it.arrived.from.there
 
-      is_ready : Ready (nodes_of x.topology) x.buffer v flow (parts_met arts mv.act.node u it.bytes).rel
+      rel_holds : RelHolds era.kind (sizes_at x (Good arts x w.at.events w.at.journal) v) mv.act.node.signer.index (flows_of era.kind mv.act.node.parts)
+      rel_holds = flows_hold era.kind (sizes_at x (Good arts x w.at.events w.at.journal) v) mv.act.node.parts is_node.holds.parts
+
+      -- what the neighbour sent over their edge came over it
+      comes : (m : Body) → goes_over (edge_to it.arrived.from.node.parts.kflow v) m ≡ true
+          → came_over (parts_met arts mv.act.node u it.bytes).kflow u m ≡ true
+      comes m goes =
+          let maker = it.arrived.from.node in
+          let from = (rows_are arts x it.arrived.from.events it.arrived.from.journal it.arrived.from.world fits reads.carries it.arrived.from.run u maker
+          it.arrived.from.there).edges in
+          let here = (rows arts x all era flow fits reads is_era w y e u v hop mv.act first second).edges in
+          let met = greeted_edges mv.act.node.fixed.epochs (has_risen (link_in mv.act.node u) (link_after arts mv.act.node u it.bytes)) u mv.act.node.parts in
+          let edge = same_edge x u v maker.parts.kflow (parts_met arts mv.act.node u it.bytes).kflow from (met ∙ here) hop.hop.joined
+          (both_ways x u v hop.hop).joined in
+          ap (λ (k : ℕ). goes_over k m) (sym edge) ∙ goes
+
+      is_ready : Ready (nodes_of x.topology) x.buffer v flow (flows_of era.kind (parts_met arts mv.act.node u it.bytes))
       is_ready =
-          greeted_ready (nodes_of x.topology) x.buffer v flow mv.act.node.fixed.epochs
+          greeted_ready era.kind (nodes_of x.topology) x.buffer v flow mv.act.node.fixed.epochs
           (has_risen (link_in mv.act.node u) (link_after arts mv.act.node u it.bytes)) u mv.act.node.parts (record {
-            me = is_node.holds.parts.rel.me;
+            me = rel_holds.me;
             nodes_are = (views_rows arts x all era flow fits reads is_era w y e u v hop mv.act first second k it).nodes_are;
-            bound_is = is_node.holds.parts.rel.bound;
+            bound_is = rel_holds.bound;
             row = flow_row arts x all era flow fits reads is_era w y e u v hop mv.act first second k it;
-            acks = is_node.acks;
-            goes_on = readied_keeps x w.at.world mv.act.before mv.act.node (λ q. is_over q.parts.rel.removed flow ≡ false) (λ upto on. on) mv.act.readied
+            acks = is_node.acks era.kind;
+            goes_on = readied_keeps x w.at.world mv.act.before mv.act.node (λ q. is_over (flows_of era.kind q.parts).removed flow ≡ false) (λ upto on. on)
+                mv.act.readied
                 (not_over arts x all era fits reads.carries flow is_era w v mv.act.before mv.act.there
                 (sym (same_read x w.at.world mv.act.before mv.act.node (in_life era v) (λ upto. refl) mv.act.readied) ∙ first));
           })
 
-      met_flow : flow_in (parts_met arts mv.act.node u it.bytes).rel.flows flow ≡ flow_in mv.act.node.parts.rel.flows flow
+      met_flow : flow_in (flows_of era.kind (parts_met arts mv.act.node u it.bytes)).flows flow ≡ flow_in (flows_of era.kind mv.act.node.parts).flows flow
       met_flow = ap (λ fs. flow_in fs flow) (flows_met arts x all era flow fits reads is_era w y e u v hop mv.act first second k it)
 
-      flow_before : flow_seen arts x all era flow w v ≡ flow_in (parts_met arts mv.act.node u it.bytes).rel.flows flow
+      flow_before : flow_seen arts x all era flow w v ≡ flow_in (flows_of era.kind (parts_met arts mv.act.node u it.bytes)).flows flow
       flow_before =
           let counts = mv.first in
           lit (no_flow flow) (flow_of era flow v) (node_in w.at.world.nodes v) mv.act.before mv.act.there
@@ -118,7 +149,8 @@ module _ (arts : Arts) (x : Setting) (all : List Event) (era : Era) (flow : Flow
           let same = lives_met arts x all era flow fits reads is_era w y e u v hop mv.act first second k it in
           (ap (λ ls. held_boot ls flow.src) same ∙ boots.0, ap (λ ls. held_boot ls flow.dst) same ∙ boots.1)
 
-      are_dated : (t : Report) → (contents_to it.arrived.from.node.fixed it.arrived.from.node.parts v).slot ≡ Some t → is_slot era flow t ≡ true
+      are_dated : (t : Report) → slot_of_kind era.kind (contents_to it.arrived.from.node.fixed it.arrived.from.node.parts v) ≡ Some t
+          → is_slot era flow t ≡ true
           → ((o : Kept) → t.ack ≡ Some o → is_dated (parts_met arts mv.act.node u it.bytes).lives o.body ≡ true)
           × ((o : Kept) (os : List Kept) → t.rels ≡ o ∷ os → is_dated (parts_met arts mv.act.node u it.bytes).lives o.body ≡ true)
       are_dated t is mine =
@@ -126,20 +158,23 @@ module _ (arts : Arts) (x : Setting) (all : List Event) (era : Era) (flow : Flow
           let parts = both (is_mine flow t.flow) ((t.sboot == era.sboot) && (t.dboot == era.dboot)) mine in
           let boots = both (t.sboot == era.sboot) (t.dboot == era.dboot) parts.1 in
           let its = same_flow flow t.flow parts.0 in
-          let named = slot_boots maker.fixed.topology.format maker.parts.lives (slot_for maker.parts.rel v) t is in
+          let named = slot_boots maker.fixed.topology.format maker.parts.lives (option_map (sent_over era.kind (edge_to maker.parts.kflow v))
+          (slot_for (flows_of era.kind maker.parts) v)) t (slot_some era.kind maker.fixed maker.parts v t is) in
           let one : held_boot maker.parts.lives flow.src ≡ era.sboot =
           ap (λ (g : Flow). held_boot maker.parts.lives g.src) (sym its) ∙ sym named.0 ∙ eqb-true _ _ boots.0 in
           let two : held_boot maker.parts.lives flow.dst ≡ era.dboot =
           ap (λ (g : Flow). held_boot maker.parts.lives g.dst) (sym its) ∙ sym named.1 ∙ eqb-true _ _ boots.1 in
-          let names = slot_names maker.parts v maker.fixed.topology.format flow era.sboot era.dboot t maker_is.dated one two is its in (
+          let names = slot_names era.kind (edge_to maker.parts.kflow v) maker.parts v maker.fixed.topology.format flow era.sboot era.dboot t maker_is.dated one
+          two
+          (slot_some era.kind maker.fixed maker.parts v t is) its in (
             λ o e. names_dated (parts_met arts mv.act.node u it.bytes).lives flow era.sboot era.dboot o.body lives_held.0 lives_held.1 (names.0 o e),
             λ o os e. names_dated (parts_met arts mv.act.node u it.bytes).lives flow era.sboot era.dboot o.body lives_held.0 lives_held.1 (names.1 o os e),
           )
 
       abbrev f : Told
-      f = told_slot era flow true (contents_to it.arrived.from.node.fixed it.arrived.from.node.parts v).slot
+      f = told_slot era flow true (slot_of_kind era.kind (contents_to it.arrived.from.node.fixed it.arrived.from.node.parts v))
 
-      done_f : SlotDone flow (parts_met arts mv.act.node u it.bytes).rel left_rel u f
+      done_f : SlotDone flow (flows_of era.kind (parts_met arts mv.act.node u it.bytes)) left_rel u f
       done_f = done arts x all era flow fits reads is_era w y e u v hop mv.act first second k it held
 
       view_left : view_seen arts x all era flow y v u ≡ view_in (peer_in left_rel.peers u).views flow
@@ -151,10 +186,10 @@ module _ (arts : Arts) (x : Setting) (all : List Event) (era : Era) (flow : Flow
           → IsHeeded (Watched arts x all era) (sight arts x all era flow) (place_at x flow) x.buffer flow.dst w y u v f
       heeded_f mine fit =
           let n = mv.act.node in
-          let r = (parts_met arts mv.act.node u it.bytes).rel in
+          let r = (flows_of era.kind (parts_met arts mv.act.node u it.bytes)) in
           let at = sight arts x all era flow in
           let maker = it.arrived.from.node in
-          let slot = (contents_to maker.fixed maker.parts v).slot in
+          let slot = slot_of_kind era.kind (contents_to maker.fixed maker.parts v) in
           let fb = ap (λ (g : FlowState). g.at.base) flow_before in
           let fh = ap (λ (g : FlowState). g.at.have) flow_before in
           let gb = ap (λ (g : FlowState). g.at.base) flow_after in
@@ -169,14 +204,19 @@ module _ (arts : Arts) (x : Setting) (all : List Event) (era : Era) (flow : Flow
           λ z. ap (λ q. at.base w q) (same_node flow.dst v (sym (eqb-true _ _ z) ∙ ap (λ (q : NodeId). q.0) ready.me)) ∙ fb in
           let sound_d = sound arts x all era flow fits reads.carries w flow.dst in
           let upper = sent_most arts x all era flow fits reads is_era w calm.before flow.dst in
-          let of = heeded_of arts n.fixed (parts_met arts n u it.bytes).lives (nodes_of x.topology) x.buffer v u era flow r slot ready
-          (are_nodes x flow is_era.right)
+          let of =
+          heeded_of era.kind (edge_to maker.parts.kflow v) arts n.fixed (parts_met arts n u it.bytes).lives (came_over (parts_met arts n u it.bytes).kflow u)
+          (nodes_of x.topology) x.buffer v u era
+          flow r slot comes ready (are_nodes x flow is_era.right)
           (λ t is m.
-          slot_parts (sizes_at x (Good arts x it.arrived.from.events it.arrived.from.journal) u) maker.signer.index maker.parts.rel v
+          slot_parts era.kind (edge_to maker.parts.kflow v) era.low era.high (sizes_at x (Good arts x it.arrived.from.events it.arrived.from.journal) u)
+          maker.signer.index (flows_of era.kind maker.parts) v
           maker.fixed.topology.format
           maker.parts.lives flow t
-          maker_is.holds.parts.rel maker_is.acks is m)
-          (signed_in arts x w.at.events w.at.journal w.at.world (signs arts x w.at.events w.at.journal w.at.world fits reads.carries w.at.run) u v k it.bytes
+          (flows_hold era.kind (sizes_at x (Good arts x it.arrived.from.events it.arrived.from.journal) u) maker.parts maker_is.holds.parts)
+          (maker_is.acks era.kind) (slot_some era.kind maker.fixed maker.parts v t is) m)
+          (signed_in era.kind arts x w.at.events w.at.journal w.at.world (signs arts x w.at.events w.at.journal w.at.world fits reads.carries w.at.run) u v k
+          it.bytes
           (contents_to maker.fixed maker.parts v) n.fixed n.fixed.boot is_node.fixed it.arrived.there
           (served_sections arts x u v maker it.bytes it.arrived.framed handled.served)) are_dated mine (record {
             window = fit.window;
@@ -189,8 +229,8 @@ module _ (arts : Arts) (x : Setting) (all : List Event) (era : Era) (flow : Flow
           }) in
           heeded_by of ready mine
         where
-          heeded_by : HeededOf flow x.buffer (parts_met arts mv.act.node u it.bytes).rel left_rel f
-              → Ready (nodes_of x.topology) x.buffer v flow (parts_met arts mv.act.node u it.bytes).rel
+          heeded_by : HeededOf flow x.buffer (flows_of era.kind (parts_met arts mv.act.node u it.bytes)) left_rel f
+              → Ready (nodes_of x.topology) x.buffer v flow (flows_of era.kind (parts_met arts mv.act.node u it.bytes))
               → f.mine ≡ true
               → IsHeeded (Watched arts x all era) (sight arts x all era flow) (place_at x flow) x.buffer flow.dst w y u v f
           heeded_by of ready mine =
@@ -204,8 +244,8 @@ module _ (arts : Arts) (x : Setting) (all : List Event) (era : Era) (flow : Flow
                 have_at_end = λ z.
                     let q = of.have_at_end (eq-eqb _ _ (ap (λ (m : NodeId). m.0) ready.me ∙ ap (λ (m : NodeId). m.0) z)) in
                     let taken : (sight arts x all era flow).taken w
-                    ≡ (flow_in (parts_met arts mv.act.node u it.bytes).rel.flows flow).at.have
-                    - length (flow_in (parts_met arts mv.act.node u it.bytes).rel.flows flow).inbox =
+                    ≡ (flow_in (flows_of era.kind (parts_met arts mv.act.node u it.bytes)).flows flow).at.have
+                    - length (flow_in (flows_of era.kind (parts_met arts mv.act.node u it.bytes)).flows flow).inbox =
                     ap (λ j. (flow_seen arts x all era flow w j).at.have - length (flow_seen arts x all era flow w j).inbox) (sym z)
                     ∙ ap (λ (g : FlowState). g.at.have - length g.inbox) flow_before in
                     omega (arith, q, taken, gh);
@@ -249,7 +289,8 @@ module _ (arts : Arts) (x : Setting) (all : List Event) (era : Era) (flow : Flow
         second = (era_is era flow v mv.act.after mv.second).0
 
         told : (wires arts x all era flow).told w u v (k + 1)
-            ≡ of_version (met.it.arrived.from.node.live.version == era.version) (told_slot era flow true (contents_at met.it.arrived.from.node v).slot)
+            ≡ of_version (met.it.arrived.from.node.live.version == era.version)
+            (told_slot era flow true (slot_of_kind era.kind (contents_at met.it.arrived.from.node v)))
         told = told_at arts x all era flow fits reads is_era w y e u v hop mv.act first second k met.it
 
         of_slot : (o : Option Report) → o ≡ None → (told_slot era flow true o).mine ≡ true → ⊥
@@ -259,7 +300,7 @@ module _ (arts : Arts) (x : Setting) (all : List Event) (era : Era) (flow : Flow
         served : is_served met.it.arrived.from.node v ≡ true
         served = elim (cases_Bool (is_served met.it.arrived.from.node v)) [
           | inl on ↦ on
-          | inr off ↦ absurd (of_slot (contents_at met.it.arrived.from.node v).slot (unserved_slot met.it.arrived.from.node v off)
+          | inr off ↦ absurd (of_slot (slot_of_kind era.kind (contents_at met.it.arrived.from.node v)) (unserved_slot era.kind met.it.arrived.from.node v off)
               (ap (λ (g : Told). g.mine) (sym told) ∙ mine))
         ]
 

@@ -1,6 +1,5 @@
 -- What a node has when it heard a frame.
 use Rattle.laws_node.proofs.FreshLemmas.{one}
-use Rattle.laws_node.proofs.Reliable.{read}
 use Rattle.laws_node.proofs.Tables.{all_drop_first, cond_either}
 use Rattle.sp_base.specs.Formats.{max_rels}
 use Rattle.sp_base.specs.declared.limits.TheConstants.{MAX_MESSAGES}
@@ -28,6 +27,7 @@ use Rattle.sp_rules.specs.Parts.{Fixed, is_signed, nodes_of, Parts}
 use Rattle.sp_rules.specs.Pieces.{AckPiece, RelPiece, slot_pieces, pieces_of}
 use Rattle.sp_rules.specs.Polls.{dated}
 use Rattle.sp_rules.specs.declared.lives.Life.{Life}
+use Rattle.sp_rules.specs.declared.kflow.FlowKind.TheVariants.{Plain}
 use Rattle.laws_node.proofs.Carried.{AllKeep}
 use Rattle.laws_runs.specs.Signs.{Good, Signs}
 use Rattle.laws_runs.proofs.Lists.{both}
@@ -44,9 +44,16 @@ use Rattle.laws_runs.proofs.Goods.{of_all}
 use Rattle.laws_progress.proofs.Heeded.{AreNodes, Ready}
 use Rattle.laws_progress.proofs.Makes.{SlotAck, SlotRel}
 use Rattle.laws_progress.proofs.SlotHeeds.{slot_heeded}
-use Rattle.laws_progress.proofs.Hears.{ack_keeps, keep_right, rel_keeps, slot_keeps}
+use Rattle.laws_progress.proofs.SlotParts.{ack_keeps, keep_right, rel_keeps, slot_keeps}
 use Rattle.laws_progress.proofs.Slots.{after_slot}
 use Rattle.laws_progress.proofs.Wires.{is_mine, told_slot, is_slot}
+use Rattle.sp_rules.specs.declared.kflow.FlowKind.{FlowKind}
+use Rattle.sp_rules.specs.declared.kflow.FlowKind.TheVariants.{Paths}
+use Rattle.sp_rules.specs.Kflow.{goes_over}
+use Rattle.laws_progress.proofs.Makes.{over_list, sent_over}
+use Rattle.sp_rules.specs.Parts.{flows_of}
+use Rattle.std.proofs.lemmas.List.Elements.{All-cons}
+use Rattle.laws_progress.proofs.EitherKind.{slot_of_kind}
 
 -- the numbers of a frame that is fit, at the node's part
 pub record Fit (flow : Flow) (bound : ℕ) (r : RelState) (f : Told) : Type 0 where
@@ -64,25 +71,27 @@ pub record HeededOf (flow : Flow) (bound : ℕ) (r z : RelState) (f : Told) : Ty
   pub have_at_end : is_to r flow ≡ true
       → min f.next ((flow_in r.flows flow).at.have - length (flow_in r.flows flow).inbox + bound) ≤ (flow_in z.flows flow).at.have
 
-pub heeded_of : (arts : Arts) (fx : Fixed) (ls : List Life) (nodes : List NodeId) (bound : ℕ) (v u : NodeId) (era : Era) (flow : Flow) (r : RelState)
-    (slot : Option Report) → Ready nodes bound v flow r → AreNodes nodes flow
-    → ((t : Report) → slot ≡ Some t → is_mine flow t.flow ≡ true → (t.flow ≡ flow) × SlotAck flow t.base t.ack × SlotRel flow t.rels)
+pub heeded_of : (kind : FlowKind) (edge : ℕ) (arts : Arts) (fx : Fixed) (ls : List Life) (over : Body → Bool) (nodes : List NodeId) (bound : ℕ) (v u : NodeId)
+    (era : Era) (flow : Flow)
+    (r : RelState) (slot : Option Report) → ((m : Body) → goes_over edge m ≡ true → over m ≡ true) → Ready nodes bound v flow r → AreNodes nodes flow
+    → ((t : Report) → slot ≡ Some t → is_mine flow t.flow ≡ true → (t.flow ≡ flow) × SlotAck kind flow t.base t.ack × SlotRel kind flow edge t.rels)
     → ((t : Report) → slot ≡ Some t
     → ((o : Kept) → t.ack ≡ Some o → is_signed arts fx o ≡ true) × ((o : Kept) (os : List Kept) → t.rels ≡ o ∷ os → is_signed arts fx o ≡ true))
     → ((t : Report) → slot ≡ Some t → is_slot era flow t ≡ true
     → ((o : Kept) → t.ack ≡ Some o → is_dated ls o.body ≡ true) × ((o : Kept) (os : List Kept) → t.rels ≡ o ∷ os → is_dated ls o.body ≡ true))
     → (told_slot era flow true slot).mine ≡ true → Fit flow bound r (told_slot era flow true slot)
-    → HeededOf flow bound r (after_slot arts fx ls r u slot) (told_slot era flow true slot)
-heeded_of arts fx ls nodes bound v u era flow r None ready are parts signed dated mine fit = absurd (let f : false ≡ true = mine in cc)
-heeded_of arts fx ls nodes bound v u era flow r (Some t) ready are parts signed dated mine fit =
+    → HeededOf flow bound r (after_slot arts fx ls over r u slot) (told_slot era flow true slot)
+heeded_of kind edge arts fx ls over nodes bound v u era flow r None comes ready are parts signed dated mine fit = absurd (let f : false ≡ true = mine in cc)
+heeded_of kind edge arts fx ls over nodes bound v u era flow r (Some t) comes ready are parts signed dated mine fit =
     let own : is_mine flow t.flow ≡ true = (both (is_mine flow t.flow) ((t.sboot == era.sboot) && (t.dboot == era.dboot)) mine).0 in
     let p = parts t refl own in
     let s = signed t refl in
     let b = dated t refl mine in
-    let h = slot_heeded arts fx ls nodes bound v u flow r t ready are (record {
+    let h = slot_heeded kind edge arts fx ls over nodes bound v u flow r t ready are (record {
       flow_is = p.0;
       ack = p.1;
       rels = p.2;
+      comes = comes;
       signed_ack = s.0;
       signed_rel = s.1;
       dated_ack = b.0;
@@ -105,18 +114,19 @@ are_nodes x flow right = record {
 }
 
 -- the objects of a frame are signed
-pub signed_in : (arts : Arts) (x : Setting) (es : List Event) (js : List Entry) (w : World) → Signs arts x es js w
+pub signed_in : (kind : FlowKind) (arts : Arts) (x : Setting) (es : List Event) (js : List Entry) (w : World) → Signs arts x es js w
     → (u v : NodeId) (k : ℕ) (bytes : List ℕ) (s : Contents) (fx : Fixed) (boot : ℕ) → fx ≡ fixed_at x v boot
     → slice_get (frames_in w.directions u v) k ≡ Some (Some bytes) → arts.sections x.signature_len bytes ≡ Ok s
-    → (t : Report) → s.slot ≡ Some t
+    → (t : Report) → slot_of_kind kind s ≡ Some t
     → ((o : Kept) → t.ack ≡ Some o → is_signed arts fx o ≡ true) × ((o : Kept) (os : List Kept) → t.rels ≡ o ∷ os → is_signed arts fx o ≡ true)
-signed_in arts x es js w signs u v k bytes s fx boot is there read t slot =
+signed_in kind arts x es js w signs u v k bytes s fx boot is there read t slot =
     let P = Good arts x es js in
     let all_keep = of_all P (pieces_of s) (signs.frames u v k bytes s there read) in
-    let kept_slot = subst (λ z. AllKeep P (slot_pieces z)) slot (slot_keeps P s all_keep) in
+    let kept_slot = subst (λ z. AllKeep P (slot_pieces kind z)) slot (slot_keeps kind P s all_keep) in
     let one : (o : Kept) → P o → is_signed arts fx o ≡ true = λ o g. ap (λ (f : Fixed). is_signed arts f o) is ∙ g.right in (
-      λ o e. one o (ack_keeps P t.flow t.ack (map (RelPiece t.flow) t.rels) kept_slot.1 o e),
-      λ o os e. one o (rel_keeps P t.flow t.rels (keep_right P (map (AckPiece t.flow) (as_list t.ack)) (map (RelPiece t.flow) t.rels) kept_slot.1) o os e),
+      λ o e. one o (ack_keeps kind P t.flow t.ack (map (RelPiece kind t.flow) t.rels) kept_slot.1 o e),
+      λ o os e. one o (rel_keeps kind P t.flow t.rels
+          (keep_right P (map (AckPiece kind t.flow) (as_list t.ack)) (map (RelPiece kind t.flow) t.rels) kept_slot.1) o os e),
     )
 
 -- it names the flow's ends and these boots
@@ -145,7 +155,8 @@ kept_names ls flow a b (bodies.Prio r) one two h = absurd h
 kept_names ls flow a b (bodies.Weight r) one two h = absurd h
 kept_names ls flow a b (bodies.Epoch r) one two h = absurd h
 
-flow_dated : (ls : List Life) (flow : Flow) (fs : List FlowState) → All (FlowDated ls) fs → FlowDated ls (flow_in fs flow)
+-- so does what is kept of each flow
+pub flow_dated : (ls : List Life) (flow : Flow) (fs : List FlowState) → All (FlowDated ls) fs → FlowDated ls (flow_in fs flow)
 flow_dated ls flow [] all = record { messages = All-nil (λ (o : Kept). NamesHeld ls flow o.body); ack = tt }
 flow_dated ls flow (f ∷ fs) all = elim (cases_Bool (is_flow flow f)) [
   | inl t ↦ rw t (All-head (FlowDated ls) f fs all)
@@ -157,41 +168,50 @@ of_slot_ack true None P names o e = absurd (let f : None ≡ Some o = e in cc)
 of_slot_ack true (Some b) P names o e = let same : b ≡ o = cc in subst P same names
 of_slot_ack false a P names o e = absurd (let f : None ≡ Some o = e in cc)
 
-of_slot_list : (p : Parts) (v : NodeId) (fl : Flow) → FlowDated p.lives (flow_in p.rel.flows fl)
-    → All (λ (o : Kept). NamesHeld p.lives (ends (flow_in p.rel.flows fl)) o.body) (slot_of p.rel v fl).rels
-of_slot_list p v fl h =
-    let f = flow_in p.rel.flows fl in
-    let w = view_in (peer_in p.rel.peers v).views fl in
-    let P : Kept → Type 0 = λ o. NamesHeld p.lives (ends f) o.body in
+of_slot_list : (ls : List Life) (r : RelState) (v : NodeId) (fl : Flow) → FlowDated ls (flow_in r.flows fl)
+    → All (λ (o : Kept). NamesHeld ls (ends (flow_in r.flows fl)) o.body) (slot_of r v fl).rels
+of_slot_list ls r v fl h =
+    let f = flow_in r.flows fl in
+    let w = view_in (peer_in r.peers v).views fl in
+    let P : Kept → Type 0 = λ o. NamesHeld ls (ends f) o.body in
     let after = max w.have f.at.base in
-    cond_either (All P) (is_to p.rel fl) [] (messages_after f.at after) (All-nil P)
+    cond_either (All P) (is_to r fl) [] (messages_after f.at after) (All-nil P)
     (All-take P MAX_MESSAGES (drop (after - f.at.base) f.at.list) (all_drop_first P (after - f.at.base) f.at.list h.messages))
 
+-- and of those that go over an edge
+of_over : (kind : FlowKind) (edge : ℕ) (P : Kept → Type 0) (os : List Kept) → All P os → All P (over_list kind edge os)
+of_over Plain edge P os h = h
+of_over Paths edge P [] h = All-nil P
+of_over Paths edge P (o ∷ os) h = cond_either (All P) (goes_over edge o.body) (o ∷ []) [] (All-cons P o [] (All-head P o os h) (All-nil P)) (All-nil P)
+
 -- so do the objects of its slot
-pub slot_names : (p : Parts) (v : NodeId) (format : ℕ) (flow : Flow) (a b : ℕ) (t : Report) → AreDated p → held_boot p.lives flow.src ≡ a
-    → held_boot p.lives flow.dst ≡ b
-    → option_map (dated format p.lives) (slot_for p.rel v) ≡ Some t → t.flow ≡ flow
+pub slot_names : (kind : FlowKind) (edge : ℕ) (p : Parts) (v : NodeId) (format : ℕ) (flow : Flow) (a b : ℕ) (t : Report) → AreDated p
+    → held_boot p.lives flow.src ≡ a → held_boot p.lives flow.dst ≡ b
+    → option_map (dated format p.lives) (option_map (sent_over kind edge) (slot_for (flows_of kind p) v)) ≡ Some t → t.flow ≡ flow
     → ((o : Kept) → t.ack ≡ Some o → NamesBoots flow a b o.body) × ((o : Kept) (os : List Kept) → t.rels ≡ o ∷ os → NamesBoots flow a b o.body)
-slot_names p v format flow a b t h one two is its = go (next_flow p.rel v) is
+slot_names kind edge p v format flow a b t h one two is its = go (next_flow r v) is
   where
-    go : (o : Option Flow) → option_map (dated format p.lives) (option_map (slot_of p.rel v) o) ≡ Some t
+    r : RelState
+    r = flows_of kind p
+
+    go : (o : Option Flow) → option_map (dated format p.lives) (option_map (sent_over kind edge) (option_map (slot_of r v) o)) ≡ Some t
         → ((o : Kept) → t.ack ≡ Some o → NamesBoots flow a b o.body) × ((o : Kept) (os : List Kept) → t.rels ≡ o ∷ os → NamesBoots flow a b o.body)
     go None e = absurd (let f : None ≡ Some t = e in cc)
     go (Some fl) e =
-        let f : Some (dated format p.lives (slot_of p.rel v fl)) ≡ Some t = e in
-        let same : dated format p.lives (slot_of p.rel v fl) ≡ t = cc in
+        let f : Some (dated format p.lives (sent_over kind edge (slot_of r v fl))) ≡ Some t = e in
+        let same : dated format p.lives (sent_over kind edge (slot_of r v fl)) ≡ t = cc in
         let fl_is : fl ≡ flow = ap (λ (z : Report). z.flow) same ∙ its in
-        let row = flow_in p.rel.flows fl in
-        let kept : FlowDated p.lives row × (ends row ≡ fl) = (flow_dated p.lives fl p.rel.flows h, found_ends p.rel.flows fl) in
+        let row = flow_in r.flows fl in
+        let kept : FlowDated p.lives row × (ends row ≡ fl) = (flow_dated p.lives fl r.flows (h kind), found_ends r.flows fl) in
+        let P : Kept → Type 0 = λ o. NamesHeld p.lives (ends row) o.body in
         let named : (o : Kept) → NamesHeld p.lives (ends row) o.body → NamesBoots flow a b o.body =
         λ o names. kept_names p.lives flow a b o.body one two (subst (λ g. NamesHeld p.lives g o.body) (kept.1 ∙ fl_is) names) in
-        let of_list = of_slot_list p v fl kept.0 in (
+        let of_list = of_over kind edge P (slot_of r v fl).rels (of_slot_list p.lives r v fl kept.0) in (
           λ o ack. named o
-              (of_slot_ack (nat_lt (view_in (peer_in p.rel.peers v).views fl).base row.at.base) row.ack (λ o. NamesHeld p.lives (ends row) o.body) kept.0.ack o
-              (ap (λ (z : Report). z.ack) same ∙ ack)),
-          λ o os rels. named o (All-head (λ (m : Kept). NamesHeld p.lives (ends row) m.body) o os
-              (subst (All (λ (m : Kept). NamesHeld p.lives (ends row) m.body)) (ap (λ (z : Report). z.rels) same ∙ rels)
-              (All-take (λ (m : Kept). NamesHeld p.lives (ends row) m.body) (max_rels format) (slot_of p.rel v fl).rels of_list))),
+              (of_slot_ack (nat_lt (view_in (peer_in r.peers v).views fl).base row.at.base) row.ack P kept.0.ack o (ap (λ (z : Report). z.ack) same ∙ ack)),
+          λ o os rels. named o (All-head P o os
+              (subst (All P) (ap (λ (z : Report). z.rels) same ∙ rels)
+              (All-take P (max_rels format) (over_list kind edge (slot_of r v fl).rels) of_list))),
         )
 
 -- an object that names the boots that count is dated where they are held

@@ -34,12 +34,13 @@ pub record IsMade (W : Type 0) (at : Sight W) (w : W) (u v : NodeId) (f : Told) 
   pub next_there : f.mine ≡ true → f.next ≤ at.have w u
   pub next_near : f.mine ≡ true → f.next ≤ max (at.view_have w u v) (at.base w u) + 1
 
--- it has it at the flow's turn, where v's boot is known, and has the next message
+-- it has it at the flow's turn, where v's boot is known, and has the next message where that is in the window
 pub record IsServed (W : Type 0) (at : Sight W) (place : ℕ) (d : NodeId) (w : W) (u v : NodeId) (f : Told) : Type 0 where
   pub here : f.here ≡ true
   pub mine : at.knows w u v ≡ true → IsTurn W at place w u v → f.mine ≡ true
   pub echo : at.knows w u v ≡ true → f.echo ≡ true
-  pub next_is : f.mine ≡ true → (u ≡ d → ⊥) → (at.have w u ≤ max (at.view_have w u v) (at.base w u)) ⊎ (f.next ≡ max (at.view_have w u v) (at.base w u) + 1)
+  pub next_is : f.mine ≡ true → (u ≡ d → ⊥) → at.low ≤ at.base w u
+      → (min at.high (at.have w u) ≤ max (at.view_have w u v) (at.base w u)) ⊎ (f.next ≡ max (at.view_have w u v) (at.base w u) + 1)
 
 -- what holds of a frame when it comes to v
 pub record IsFit (W : Type 0) (at : Sight W) (bound : ℕ) (s d : NodeId) (w : W) (v : NodeId) (f : Told) : Type 0 where
@@ -140,7 +141,7 @@ pub record Steady (W : Type 0) (Next : W → Event → W → Type 0) (Hop : Node
   pub serves : (w x : W) (e : Event) (u v : NodeId) (p : ℕ) → Hop u v → Next w e x → is_poll u v e ≡ true → at.knows w u v ≡ true
       → next_after (at.last w u v) (at.actives w u) ≡ Some p → at.last x u v ≡ Some p
   pub serves_none : (w x : W) (e : Event) (u v : NodeId) → Hop u v → Next w e x → is_poll u v e ≡ false → at.last x u v ≡ at.last w u v
-  pub makes_room : (w x : W) (e : Event) → Next w e x → is_take d s e ≡ true → at.have w d < at.taken x + bound
+  pub makes_room : (w x : W) (e : Event) → Next w e x → is_take at.kind d s e ≡ true → at.have w d < at.taken x + bound
   -- frames stay, and a poll makes one
   pub frames_stay : (w x : W) (e : Event) (u v : NodeId) (k : ℕ) → Hop u v → Next w e x → k ≤ at.polled w u v → on.told x u v k ≡ on.told w u v k
   pub makes : (w x : W) (e : Event) (u v : NodeId) → Hop u v → Next w e x → is_poll u v e ≡ true → IsMade W at w u v (on.told x u v (at.polled x u v))

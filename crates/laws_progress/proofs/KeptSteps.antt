@@ -6,8 +6,6 @@ use Rattle.std.proofs.lemmas.Bool.{cases_eq, eq-eqb, eqb-true, ne_eqb}
 use Rattle.sp_base.specs.declared.id.NodeId.{NodeId}
 use Rattle.sp_frame.specs.declared.refused.FrameRefused.{FrameRefused}
 use Rattle.sp_frame.specs.declared.refused.FrameRefused.TheVariants as frames
-use Rattle.sp_msg.specs.declared.body.Ack.{Ack}
-use Rattle.sp_msg.specs.declared.refused.SendRefused.{SendRefused}
 use Rattle.sp_rules.proofs.ArrivalLemmas.{link_with, of_frame, of_link}
 use Rattle.sp_rules.specs.Arrivals as arrivals
 use Rattle.sp_rules.specs.Arrivals.{before_document, document_at, heard_after, is_from_peer, link_after, link_says, no_frame, not_taken, read_by, reply_at}
@@ -16,14 +14,15 @@ use Rattle.sp_rules.specs.Arts.{Arts}
 use Rattle.sp_rules.specs.Link.{Link, after_answer}
 use Rattle.sp_rules.specs.Node.{NodeState, call_refusal, is_link, is_shut_to, kept_or, link_in, version_of}
 use Rattle.sp_rules.specs.Parts.{changes}
-use Rattle.sp_rules.specs.Sends.{rel_refusal, send_prio_refusal, signer_refusal, weight_refusal}
-use Rattle.sp_rules.specs.Steps.{Datagram, Input, NodeStep, Output, Poll, Publish, SendPrio, SendRel, SetWeight, TakePrio, TakeRel, Tick}
-use Rattle.sp_rules.specs.Ticks.{at_time, due_now, settled_by}
+use Rattle.sp_rules.specs.Sends.{rel_refusal, send_prio_refusal, weight_refusal}
+use Rattle.sp_rules.specs.Steps.{Datagram, Input, NodeStep, Output, Poll, Publish, SendKrel, SendPrio, SendRel, SetWeight, TakeKrel, TakePrio, TakeRel, Tick}
+use Rattle.laws_progress.proofs.Ticked.{ticked}
 use Rattle.sp_rules.specs.Versions.{Heard, is_heard_of, kept_version, none_heard, version_in, with_version}
 use Rattle.sp_rules.specs.declared.link.LinkAnswer.{LinkAnswer}
 use Rattle.sp_rules.specs.declared.link.LinkAnswer.TheVariants as answers
 use Rattle.sp_rules.specs.declared.node.LinkReply.{LinkReply}
 use Rattle.sp_rules.specs.declared.node.NodeRefused.{NodeRefused}
+use Rattle.sp_rules.specs.KflowSends.{send_krel_refusal}
 use Rattle.laws_node.proofs.Adopting.{publishing, reading}
 use Rattle.laws_node.proofs.TableReads.{first_replaced, other_replaced}
 use Rattle.laws_runs.proofs.Tables.{same_node}
@@ -204,13 +203,9 @@ kept_step arts x n (Poll u) o m v k reply there s says =
     (link_step arts x n (Poll u) o m v k reply there s says)
 kept_step arts x n (Tick now) o m v k reply there s says =
     others arts n (Tick now) m v (λ frame e. absurd (cc))
-    (ap (λ (hs : List Heard). version_in hs v) (ap (λ (q : NodeState). q.heard) s.1 ∙ go (due_now n) (signer_refusal n.signer)))
+    (ap (λ (hs : List Heard). version_in hs v)
+    (ap (λ (q : NodeState). q.heard) s.1 ∙ ticked (λ q. q.heard ≡ n.heard) arts n now refl (λ o. refl) (λ q r same. same)))
     (link_step arts x n (Tick now) o m v k reply there s says)
-  where
-    go : (a : Option Ack) (r : Option SendRefused) → (settled_by arts (at_time n now) a r).heard ≡ n.heard
-    go None r = refl
-    go (Some ack) (Some refusal) = refl
-    go (Some ack) None = refl
 kept_step arts x n (SendRel dst payload) o m v k reply there s says =
     others arts n (SendRel dst payload) m v (λ frame e. absurd (cc))
     (ap (λ (hs : List Heard). version_in hs v) (ap (λ (q : NodeState). q.heard) s.1 ∙ kept_heard (rel_refusal n dst) n _ refl))
@@ -226,6 +221,13 @@ kept_step arts x n (SetWeight u weight) o m v k reply there s says =
 kept_step arts x n (TakeRel src) o m v k reply there s says =
     others arts n (TakeRel src) m v (λ frame e. absurd (cc)) (ap (λ (hs : List Heard). version_in hs v) (ap (λ (q : NodeState). q.heard) s.1))
     (link_step arts x n (TakeRel src) o m v k reply there s says)
+kept_step arts x n (SendKrel q) o m v k reply there s says =
+    others arts n (SendKrel q) m v (λ frame e. absurd (cc))
+    (ap (λ (hs : List Heard). version_in hs v) (ap (λ (z : NodeState). z.heard) s.new_is ∙ kept_heard (send_krel_refusal n q s.choice) n _ refl))
+    (link_step arts x n (SendKrel q) o m v k reply there s says)
+kept_step arts x n (TakeKrel src) o m v k reply there s says =
+    others arts n (TakeKrel src) m v (λ frame e. absurd (cc)) (ap (λ (hs : List Heard). version_in hs v) (ap (λ (q : NodeState). q.heard) s.1))
+    (link_step arts x n (TakeKrel src) o m v k reply there s says)
 kept_step arts x n TakePrio o m v k reply there s says =
     others arts n TakePrio m v (λ frame e. absurd (cc)) (ap (λ (hs : List Heard). version_in hs v) (ap (λ (q : NodeState). q.heard) s.1))
     (link_step arts x n TakePrio o m v k reply there s says)

@@ -3,17 +3,17 @@ use Rattle.std.proofs.Common.{◌≡◌, ◌≤◌, ℕ, ◌==◌, Bool, true, f
 use Rattle.std.proofs.Common.{arith}
 use Rattle.std.proofs.lemmas.Bool.{eqb-true}
 use Rattle.sp_base.specs.declared.id.NodeId.{NodeId}
-use Rattle.sp_msg.specs.declared.body.Ack.{Ack}
-use Rattle.sp_msg.specs.declared.refused.SendRefused.{SendRefused}
 use Rattle.sp_rules.specs.Arts.{Arts}
 use Rattle.sp_rules.specs.Arrivals.{before_document, document_at, is_told, read_by, rises, version_after}
 use Rattle.sp_rules.specs.Node.{NodeState, call_refusal, kept_or, link_in, version_of}
-use Rattle.sp_rules.specs.Sends.{rel_refusal, send_prio_refusal, signer_refusal, weight_refusal}
-use Rattle.sp_rules.specs.Steps.{Input, NodeStep, Output, Poll, Datagram, Tick, SendRel, SendPrio, SetWeight, TakeRel, TakePrio, Publish}
-use Rattle.sp_rules.specs.Ticks.{at_time, due_now, settled_by}
+use Rattle.sp_rules.specs.Sends.{rel_refusal, send_prio_refusal, weight_refusal}
+use Rattle.sp_rules.specs.Steps.{Input, NodeStep, Output, Poll, Datagram, Tick, SendRel, SendPrio, SetWeight, TakeRel, TakePrio, SendKrel, TakeKrel, Publish}
+use Rattle.sp_rules.specs.Ticks.{after_tick}
+use Rattle.laws_progress.proofs.Ticked.{ticked}
 use Rattle.sp_base.specs.Rows.{first_where}
 use Rattle.sp_rules.specs.Versions.{Heard, is_heard_of, kept_version, none_heard, version_in, with_version}
 use Rattle.sp_rules.specs.declared.node.NodeRefused.{NodeRefused}
+use Rattle.sp_rules.specs.KflowSends.{send_krel_refusal}
 use Rattle.laws_node.proofs.Adopting.{publishing}
 use Rattle.laws_runs.proofs.Tables.{same_node}
 use Rattle.laws_progress.proofs.Versions.{read_known}
@@ -110,16 +110,14 @@ heard_rises arts n (Datagram u bytes) o m v s low = subst (NeverFalls n v) (sym 
         let met = met_heard arts n u v bytes
         (λ same. ap (λ (w : NodeId). rises arts n w bytes) same ∙ low bytes (ap (λ (w : NodeId). Datagram w bytes) same)) in
         omega (arith, same, met)
-heard_rises arts n (Tick now) o m v s low = subst (NeverFalls n v) (sym s.1) (go (due_now n) (signer_refusal n.signer))
-  where
-    go : (a : Option Ack) (r : Option SendRefused) → NeverFalls n v (settled_by arts (at_time n now) a r)
-    go None r = omega arith
-    go (Some ack) (Some refusal) = omega arith
-    go (Some ack) None = omega arith
+heard_rises arts n (Tick now) o m v s low =
+    subst (NeverFalls n v) (sym s.1) (same_heard n (after_tick arts n now) v (ticked (λ q. q.heard ≡ n.heard) arts n now refl (λ o. refl) (λ q r same. same)))
 heard_rises arts n (SendRel dst payload) o m v s low = subst (NeverFalls n v) (sym s.1) (kept_heard (rel_refusal n dst) n _ v refl)
 heard_rises arts n (SendPrio q) o m v s low = subst (NeverFalls n v) (sym s.new_is) (kept_heard (send_prio_refusal n q s.choice) n _ v refl)
 heard_rises arts n (SetWeight u weight) o m v s low = subst (NeverFalls n v) (sym s.1) (kept_heard (weight_refusal n u weight) n _ v refl)
 heard_rises arts n (TakeRel src) o m v s low = subst (NeverFalls n v) (sym s.1) (omega arith)
+heard_rises arts n (SendKrel q) o m v s low = subst (NeverFalls n v) (sym s.new_is) (kept_heard (send_krel_refusal n q s.choice) n _ v refl)
+heard_rises arts n (TakeKrel src) o m v s low = subst (NeverFalls n v) (sym s.1) (omega arith)
 heard_rises arts n TakePrio o m v s low = subst (NeverFalls n v) (sym s.1) (omega arith)
 heard_rises arts n (Publish document) o m v s low =
     subst (NeverFalls n v) (sym s.1) (publishing arts n document (λ q told. NeverFalls n v q) (omega arith) (λ d reads by. omega arith))

@@ -7,29 +7,19 @@ use Rattle.std.specs.Prelude.{unwrap_or, nat_lt, option_map}
 use Rattle.std.proofs.lemmas.Bool.{cases_Bool, eqb-true, eq-eqb, ne_eqb}
 use Rattle.sp_base.specs.declared.id.Flow.{Flow}
 use Rattle.sp_base.specs.declared.id.NodeId.{NodeId}
-use Rattle.sp_msg.specs.declared.body.Ack.{Ack}
-use Rattle.sp_msg.specs.declared.body.Body.TheVariants as bodies
 use Rattle.sp_msg.specs.declared.kept.Kept.{Kept}
-use Rattle.sp_msg.specs.declared.refused.SendRefused.{SendRefused}
-use Rattle.sp_rules.specs.Answers.{ack_answer, is_new, prio_answer, rel_answer, weight_answer, epoch_answer}
+use Rattle.sp_rules.specs.Answers.{is_new, epoch_answer}
 use Rattle.sp_rules.specs.Arts.{Arts}
 use Rattle.sp_rules.specs.Arrivals.{arrival_at, parts_met, greeted, before_document, document_at, read_by, rises}
-use Rattle.sp_rules.specs.Handle.{Arrival, handle, handle_all, offer_to, prio_handled, met}
-use Rattle.sp_rules.specs.Lives.{are_held, is_dated, judge_epoch, origin_said}
-use Rattle.sp_rules.specs.Node.{NodeState, call_refusal, kept_or, signed_now, link_in, called, with_link}
+use Rattle.sp_rules.specs.Handle.{Arrival, handle, handle_all, met}
+use Rattle.sp_rules.specs.Lives.{judge_epoch, origin_said}
+use Rattle.sp_rules.specs.Node.{NodeState, call_refusal, kept_or, link_in, called, with_link}
 use Rattle.sp_rules.specs.Parts.{Parts, is_signed}
 use Rattle.sp_rules.specs.Pieces.{Piece, AckPiece, PrioAckPiece, PrioPiece, RelPiece, ReportPiece, WeightPiece, EpochPiece}
-use Rattle.sp_rules.specs.Prio as prio
-use Rattle.sp_rules.specs.Prio.{judge_prio}
-use Rattle.sp_rules.specs.Rel.{unheard, RelPeer, RelState, admit_ack, admit_rel, due_place, flow_in, is_peer, judge_ack_of, judge_rel_of, next_place, peer_in}
+use Rattle.sp_rules.specs.Rel.{RelPeer, RelState, due_place, flow_in, is_peer, next_place, peer_in}
 use Rattle.sp_rules.specs.Rel.{put_peer, reported, served, served_at, settled, settled_at, told, with_peer, restarted, views_less, no_views}
-use Rattle.sp_rules.specs.Sends.{rel_refusal, send_prio_refusal, signer_refusal, weight_refusal}
-use Rattle.sp_rules.specs.Steps.{Input, NodeStep, Output, Poll, Datagram, Tick, SendRel, SendPrio, SetWeight, TakeRel, TakePrio, Publish}
-use Rattle.sp_rules.specs.Ticks.{at_time, due_now, settled_by}
-use Rattle.sp_rules.specs.Weights.{held}
+use Rattle.sp_rules.specs.Steps.{Input, NodeStep, Output, Poll, Datagram, Tick, SendRel, SendPrio, SetWeight, TakeRel, TakePrio, SendKrel, TakeKrel, Publish}
 use Rattle.sp_rules.specs.declared.answers.Item.TheVariants as items
-use Rattle.sp_rules.specs.declared.answers.PrioAnswer.{PrioAnswer}
-use Rattle.sp_rules.specs.declared.answers.PrioAnswer.TheVariants as prios
 use Rattle.laws_node.proofs.Tables.{cond_either}
 use Rattle.laws_runs.proofs.NoStarts.{pieces_at}
 use Rattle.laws_runs.proofs.Tables.{same_node}
@@ -42,6 +32,11 @@ use Rattle.sp_schedule_events.specs.declared.event.Event.{Event}
 use Rattle.sp_schedule_events.specs.declared.event.Event.TheVariants as events
 use Rattle.sp_runs.specs.Runs.{is_poll}
 use Rattle.laws_progress.proofs.Keys.{peer_is}
+use Rattle.sp_rules.specs.Parts.{flows_of, closed}
+use Rattle.sp_rules.specs.declared.kflow.FlowKind.{FlowKind}
+use Rattle.laws_runs.proofs.KindFacts.{closed_flows, polled_flows}
+use Rattle.laws_runs.proofs.NoStarts.{NoStart}
+use Rattle.laws_progress.proofs.EitherKind.{StepsKeep, greeted_either, met_flows, own_flows, piece_flows}
 
 -- ---- one neighbour's row
 
@@ -80,8 +75,8 @@ settled_last v0 r o = go (due_place r)
     go None = refl
     go (Some place) = refl
 
-abbrev PartsSame : NodeId → Parts → Parts → Type 0
-PartsSame v0 p q = SameLast v0 p.rel q.rel
+abbrev PartsSame : FlowKind → NodeId → Parts → Parts → Type 0
+PartsSame kind v0 p q = SameLast v0 (flows_of kind p) (flows_of kind q)
 
 -- another life of a node leaves them
 restarted_last : (v0 : NodeId) (r : RelState) (v : NodeId) → SameLast v0 r (restarted r v)
@@ -94,47 +89,41 @@ restarted_last v0 r v = go r.peers
       | inr t ↦ rw t (go ps)
     ]
 
-greeted_last : (v0 : NodeId) (epochs risen : Bool) (v : NodeId) (p : Parts) → PartsSame v0 p (greeted epochs risen v p)
-greeted_last v0 epochs risen v p =
-    cond_either (PartsSame v0 p) (epochs && risen) (record p { prio = prio.unheard p.prio v.0; rel = unheard p.rel v }) p
-    (with_peer_last v0 p.rel v (no_views (peer_in p.rel.peers v)) (peer_is p.rel v) refl) refl
+greeted_last : (kind : FlowKind) (v0 : NodeId) (epochs risen : Bool) (v : NodeId) (p : Parts) → PartsSame kind v0 p (greeted epochs risen v p)
+greeted_last kind v0 epochs risen v p =
+    let r = flows_of kind p in
+    greeted_either (SameLast v0 r) kind epochs risen v p (with_peer_last v0 r v (no_views (peer_in r.peers v)) (peer_is r v) refl) refl
 
-piece_last : (v0 : NodeId) (arts : Arts) (at : Arrival) (p : Parts) (piece : Piece) → PartsSame v0 p (handle arts at p piece).parts
-piece_last v0 arts at p (WeightPiece o) =
-    cond_either (PartsSame v0 p) (is_new (items.Weight (weight_answer (is_signed arts at.fixed o) (offer_to at.fixed.me p.weights o.body))))
-    (record p { weights = held p.weights o }) p refl refl
-piece_last v0 arts at p (PrioAckPiece number) = refl
-piece_last v0 arts at p (PrioPiece number o) = go (prio_answer (is_signed arts at.fixed o) (is_dated p.lives o.body) (judge_prio p.prio o.body at.now))
-  where
-    go : (answer : PrioAnswer) → PartsSame v0 p (prio_handled at.from answer number o p).parts
-    go prios.New = refl
-    go prios.Seen = refl
-    go prios.BadEnd = refl
-    go prios.Expired = refl
-    go prios.BadSig = refl
-    go prios.Epoch = refl
-piece_last v0 arts at p (ReportPiece flow sboot dboot base have) =
-    cond_either (PartsSame v0 p) (are_held p.lives flow sboot dboot) (record p { rel = reported p.rel at.from flow base have }) p
-    (reported_last v0 p.rel at.from flow base have) refl
-piece_last v0 arts at p (AckPiece flow o) =
-    cond_either (PartsSame v0 p) (is_new (items.Ack (ack_answer (is_signed arts at.fixed o) (is_dated p.lives o.body) (judge_ack_of p.rel flow o.body))))
-    (record p { rel = admit_ack p.rel o }) p refl refl
-piece_last v0 arts at p (RelPiece flow o) =
-    cond_either (PartsSame v0 p) (is_new (items.Rel (rel_answer (is_signed arts at.fixed o) (is_dated p.lives o.body) (judge_rel_of p.rel flow o.body))))
-    (record p { rel = admit_rel p.rel o }) p refl refl
-piece_last v0 arts at p (EpochPiece o) =
-    cond_either (PartsSame v0 p) (is_new (items.Epoch (epoch_answer (is_signed arts at.fixed o) (judge_epoch at.fixed.me p.lives o.body)))) (met p o) p
-    (restarted_last v0 p.rel (origin_said o.body)) refl
+plain_last : (kind : FlowKind) (v0 : NodeId) (arts : Arts) (at : Arrival) (p : Parts) (piece : Piece) → NoStart piece
+    → PartsSame kind v0 p (handle arts at p piece).parts
+plain_last kind v0 arts at p piece none =
+    piece_flows (SameLast v0 (flows_of kind p)) kind arts at p piece none (record {
+      report = λ r flow base have is. reported_last v0 r at.from flow base have ∙ is;
+      ack = λ r o is. is;
+      message = λ r flow o new is. is;
+    }) refl
 
-pieces_last : (v0 : NodeId) (arts : Arts) (at : Arrival) (p : Parts) (pieces : List Piece) → PartsSame v0 p (handle_all arts at p pieces).parts
-pieces_last v0 arts at p [] = refl
-pieces_last v0 arts at p (piece ∷ pieces) =
-    pieces_last v0 arts at (handle arts at p piece).parts pieces ∙ piece_last v0 arts at p piece
+piece_last : (kind : FlowKind) (v0 : NodeId) (arts : Arts) (at : Arrival) (p : Parts) (piece : Piece) → PartsSame kind v0 p (handle arts at p piece).parts
+piece_last kind v0 arts at p (WeightPiece o) = plain_last kind v0 arts at p (WeightPiece o) tt
+piece_last kind v0 arts at p (PrioAckPiece number) = plain_last kind v0 arts at p (PrioAckPiece number) tt
+piece_last kind v0 arts at p (PrioPiece number o) = plain_last kind v0 arts at p (PrioPiece number o) tt
+piece_last kind v0 arts at p (ReportPiece k flow sboot dboot base have) = plain_last kind v0 arts at p (ReportPiece k flow sboot dboot base have) tt
+piece_last kind v0 arts at p (AckPiece k flow o) = plain_last kind v0 arts at p (AckPiece k flow o) tt
+piece_last kind v0 arts at p (RelPiece k flow o) = plain_last kind v0 arts at p (RelPiece k flow o) tt
+piece_last kind v0 arts at p (EpochPiece o) =
+    cond_either (PartsSame kind v0 p) (is_new (items.Epoch (epoch_answer (is_signed arts at.fixed o) (judge_epoch at.fixed.me p.lives o.body)))) (met p o) p
+    (subst (SameLast v0 (flows_of kind p)) (sym (met_flows kind p o)) (restarted_last v0 (flows_of kind p) (origin_said o.body))) refl
+
+pieces_last : (kind : FlowKind) (v0 : NodeId) (arts : Arts) (at : Arrival) (p : Parts) (pieces : List Piece)
+    → PartsSame kind v0 p (handle_all arts at p pieces).parts
+pieces_last kind v0 arts at p [] = refl
+pieces_last kind v0 arts at p (piece ∷ pieces) =
+    pieces_last kind v0 arts at (handle arts at p piece).parts pieces ∙ piece_last kind v0 arts at p piece
 
 -- ---- steps
 
-abbrev NodeSame : NodeId → NodeState → NodeState → Type 0
-NodeSame v0 n m = SameLast v0 n.parts.rel m.parts.rel
+abbrev NodeSame : FlowKind → NodeId → NodeState → NodeState → Type 0
+NodeSame kind v0 n m = SameLast v0 (flows_of kind n.parts) (flows_of kind m.parts)
 
 other_last : (v0 v : NodeId) (p : RelPeer) (ps : List RelPeer) → (v ≡ v0 → ⊥) → p.peer ≡ v → (peer_in (put_peer ps v p) v0).last ≡ (peer_in ps v0).last
 other_last v0 v p [] away is = refl
@@ -147,9 +136,9 @@ other_last v0 v p (q ∷ ps) away is = elim (cases_Bool (is_peer v q)) [
   | inr t ↦ let rest = other_last v0 v p ps away is in elim (cases_Bool (is_peer v0 q)) [ inl z ↦ rw (t, z) refl | inr z ↦ rw (t, z) rest ]
 ]
 
-kept_last : {X : Type 0} (v0 : NodeId) (r : Option X) (n m : NodeState) → NodeSame v0 n m → NodeSame v0 n (kept_or r n m)
-kept_last v0 None n m same = same
-kept_last v0 (Some x) n m same = refl
+kept_last : {X : Type 0} (kind : FlowKind) (v0 : NodeId) (r : Option X) (n m : NodeState) → NodeSame kind v0 n m → NodeSame kind v0 n (kept_or r n m)
+kept_last kind v0 None n m same = same
+kept_last kind v0 (Some x) n m same = refl
 
 -- the input is no poll of v
 abbrev pub NoPoll : NodeId → Input → Type 0
@@ -163,32 +152,47 @@ served_away v0 v r away = go (next_place r v)
     go None = refl
     go (Some place) = other_last v0 v (record (peer_in r.peers v) { last = Some place }) r.peers away (peer_is r v)
 
-pub step_last : (v0 : NodeId) (arts : Arts) (n : NodeState) (input : Input) (output : Output) (new : NodeState) → NoPoll v0 input
+steps_keep : (v0 : NodeId) (r : RelState) (arts : Arts) (n : NodeState) (kind : FlowKind) → StepsKeep (SameLast v0 r) arts n kind
+steps_keep v0 r arts n kind = record { settle = λ t o is. settled_last v0 t o ∙ is; push = λ o is h. h; take = λ t src is. is }
+
+closed_last : (kind : FlowKind) (v0 : NodeId) (r : RelState) (p : Parts) (least : List ℕ) (gone : List NodeId) → SameLast v0 r (flows_of kind p)
+    → SameLast v0 r (flows_of kind (closed p least gone))
+closed_last kind v0 r p least gone h = subst (SameLast v0 r) (sym (closed_flows kind p least gone)) h
+
+pub step_last : (kind : FlowKind) (v0 : NodeId) (arts : Arts) (n : NodeState) (input : Input) (output : Output) (new : NodeState) → NoPoll v0 input
     → NodeStep arts n input output new
-    → NodeSame v0 n new
-step_last v0 arts n (Poll v) output new quiet s =
-    subst (NodeSame v0 n) (sym s.1) (kept_last v0 (call_refusal n v) n (called n (with_link n v (advanced (link_in n v))) (parts_after n v))
-    (cond_either (PartsSame v0 n.parts) (is_served n v) (polled n.fixed n.parts v) n.parts (served_away v0 v n.parts.rel quiet) refl))
-step_last v0 arts n (Datagram v bytes) output new quiet s =
+    → NodeSame kind v0 n new
+step_last kind v0 arts n (Poll v) output new quiet s =
+    subst (NodeSame kind v0 n) (sym s.1) (kept_last kind v0 (call_refusal n v) n (called n (with_link n v (advanced (link_in n v))) (parts_after n v))
+    (cond_either (PartsSame kind v0 n.parts) (is_served n v) (polled n.fixed n.parts v) n.parts
+    (subst (SameLast v0 (flows_of kind n.parts)) (sym (polled_flows kind n.fixed n.parts v)) (served_away v0 v (flows_of kind n.parts) quiet)) refl))
+step_last kind v0 arts n (Datagram v bytes) output new quiet s =
     let left = before_document arts n v bytes in
-    let first : NodeSame v0 n left =
-    pieces_last v0 arts (arrival_at n v) (parts_met arts n v bytes) (pieces_at arts n v bytes)
-    ∙ greeted_last v0 n.fixed.epochs (rises arts n v bytes) v n.parts in
-    subst (NodeSame v0 n) (sym s.1) (kept_last v0 (call_refusal n v) n (read_by arts left (document_at arts n v bytes))
-    (reading arts left (document_at arts n v bytes) (λ m told. NodeSame v0 n m) first (λ document d is reads by. first)))
-step_last v0 arts n (Tick now) output new quiet s = subst (NodeSame v0 n) (sym s.1) (go (due_now n) (signer_refusal n.signer))
-  where
-    go : (o : Option Ack) (r : Option SendRefused) → NodeSame v0 n (settled_by arts (at_time n now) o r)
-    go None r = refl
-    go (Some ack) (Some refusal) = refl
-    go (Some ack) None = settled_last v0 n.parts.rel (signed_now arts n (bodies.Ack ack))
-step_last v0 arts n (SendRel dst payload) output new quiet s = subst (NodeSame v0 n) (sym s.1) (kept_last v0 (rel_refusal n dst) n _ refl)
-step_last v0 arts n (SendPrio m) output new quiet s = subst (NodeSame v0 n) (sym s.new_is) (kept_last v0 (send_prio_refusal n m s.choice) n _ refl)
-step_last v0 arts n (SetWeight v weight) output new quiet s = subst (NodeSame v0 n) (sym s.1) (kept_last v0 (weight_refusal n v weight) n _ refl)
-step_last v0 arts n (TakeRel src) output new quiet s = subst (NodeSame v0 n) (sym s.1) refl
-step_last v0 arts n TakePrio output new quiet s = subst (NodeSame v0 n) (sym s.1) refl
-step_last v0 arts n (Publish document) output new quiet s =
-    subst (NodeSame v0 n) (sym s.1) (publishing arts n document (λ m told. NodeSame v0 n m) refl (λ d reads by. refl))
+    let first : NodeSame kind v0 n left =
+    pieces_last kind v0 arts (arrival_at n v) (parts_met arts n v bytes) (pieces_at arts n v bytes)
+    ∙ greeted_last kind v0 n.fixed.epochs (rises arts n v bytes) v n.parts in
+    subst (NodeSame kind v0 n) (sym s.1) (kept_last kind v0 (call_refusal n v) n (read_by arts left (document_at arts n v bytes))
+    (reading arts left (document_at arts n v bytes) (λ m told. NodeSame kind v0 n m) first
+    (λ document d is reads by. closed_last kind v0 (flows_of kind n.parts) left.parts _ _ first)))
+step_last kind v0 arts n (Publish document) output new quiet s =
+    subst (NodeSame kind v0 n) (sym s.1)
+    (publishing arts n document (λ m told. NodeSame kind v0 n m) refl (λ d reads by. closed_last kind v0 (flows_of kind n.parts) n.parts _ _ refl))
+step_last kind v0 arts n (Tick now) output new quiet s =
+    own_flows (SameLast v0 (flows_of kind n.parts)) kind arts n (Tick now) output new tt s (steps_keep v0 (flows_of kind n.parts) arts n kind) refl
+step_last kind v0 arts n (SendRel dst payload) output new quiet s =
+    own_flows (SameLast v0 (flows_of kind n.parts)) kind arts n (SendRel dst payload) output new tt s (steps_keep v0 (flows_of kind n.parts) arts n kind) refl
+step_last kind v0 arts n (SendPrio m) output new quiet s =
+    own_flows (SameLast v0 (flows_of kind n.parts)) kind arts n (SendPrio m) output new tt s (steps_keep v0 (flows_of kind n.parts) arts n kind) refl
+step_last kind v0 arts n (SetWeight v weight) output new quiet s =
+    own_flows (SameLast v0 (flows_of kind n.parts)) kind arts n (SetWeight v weight) output new tt s (steps_keep v0 (flows_of kind n.parts) arts n kind) refl
+step_last kind v0 arts n (TakeRel src) output new quiet s =
+    own_flows (SameLast v0 (flows_of kind n.parts)) kind arts n (TakeRel src) output new tt s (steps_keep v0 (flows_of kind n.parts) arts n kind) refl
+step_last kind v0 arts n (SendKrel m) output new quiet s =
+    own_flows (SameLast v0 (flows_of kind n.parts)) kind arts n (SendKrel m) output new tt s (steps_keep v0 (flows_of kind n.parts) arts n kind) refl
+step_last kind v0 arts n (TakeKrel src) output new quiet s =
+    own_flows (SameLast v0 (flows_of kind n.parts)) kind arts n (TakeKrel src) output new tt s (steps_keep v0 (flows_of kind n.parts) arts n kind) refl
+step_last kind v0 arts n TakePrio output new quiet s =
+    own_flows (SameLast v0 (flows_of kind n.parts)) kind arts n TakePrio output new tt s (steps_keep v0 (flows_of kind n.parts) arts n kind) refl
 
 -- ---- in runs
 
@@ -214,6 +218,8 @@ no_poll arts x w n (events.Poll a b) i u v acts off is =
     sym yes ∙ off in cc)) is
 no_poll arts x w n (events.Rel a b c) i u v acts off is = just v i _ tt is
 no_poll arts x w n (events.Prio a b c f g h) i u v acts off is = just v i _ tt is
+no_poll arts x w n (events.Krel a b c f) i u v acts off is = just v i _ tt is
+no_poll arts x w n (events.KTake a b) i u v acts off is = just v i _ tt is
 no_poll arts x w n (events.Take a b) i u v acts off is = just v i _ tt is
 no_poll arts x w n (events.TakePrio a) i u v acts off is = just v i _ tt is
 no_poll arts x w n (events.Tick a b) i u v acts off is = just v i _ tt is

@@ -17,11 +17,14 @@ pub mod Hops
 pub mod HopLemmas
 pub mod Heard
 -- ---- a node: what its steps leave of a flow, of a link and of what a neighbour reported
+pub mod Ticked
+pub mod EitherKind
 pub mod Versions
 pub mod Becomes
 pub mod LastBoots
 pub mod States
 pub mod Rises
+pub mod StepGoes
 pub mod Changes
 pub mod Standing
 pub mod KeptVersions
@@ -32,6 +35,7 @@ pub mod Lasts
 pub mod Room
 pub mod Views
 pub mod Greets
+pub mod OverEdges
 pub mod Slots
 pub mod Heeded
 pub mod SlotHeeds
@@ -54,12 +58,20 @@ pub mod Origins
 pub mod Framed
 pub mod Arrives
 pub mod Passes
+pub mod Edges
 pub mod Makes
+pub mod MadeBy
 pub mod MakesNow
 pub mod Begins
+pub mod Meetings
 pub mod Hears
+pub mod SlotParts
 pub mod Heeds
 pub mod Takes
+-- ---- the masks of messages on paths
+pub mod OneMask
+pub mod SignedMasks
+pub mod PassMasks
 -- ---- lives: what holds in every state, and the steps of a calm interval
 pub mod Always
 pub mod Calms
@@ -81,6 +93,8 @@ pub mod VersionTold
 -- ---- the laws
 pub mod Positions
 pub mod RunStates
+pub mod CalmEras
+pub mod CalmRuns
 pub mod LifeDelivery
 pub mod Delivery
 pub mod StartsTold

@@ -1,365 +1,167 @@
--- Counted delivery over starts and stops: what the rounds of a calm interval leave at both ends of a path.
-use Rattle.std.proofs.lemmas.List.Concat.{flat_map-append}
+-- Counted delivery over starts and stops: which messages may go along a path, and so what the rounds of a calm interval bring to its end.
 use Rattle.laws_node.proofs.FreshLemmas.{one}
-use Rattle.laws_progress.proofs.Along.{AreCounted}
-use Rattle.laws_progress.proofs.Begins.{Lifted, lifted}
-use Rattle.laws_progress.proofs.Calms.{AreUp, Calmly, acked_up, delivered_up, sent_up}
 use Rattle.laws_progress.proofs.Changes.{holds_both}
-use Rattle.laws_progress.proofs.Facts.{AreHops, Goes, Sight}
-use Rattle.laws_progress.proofs.Heard.{facts_of}
-use Rattle.laws_progress.proofs.KnownRuns.{boot_some, sent_within}
-use Rattle.laws_progress.proofs.LastBoots.{held_none, running_boot, without_epochs}
-use Rattle.laws_progress.proofs.MakesNow.{seen_flow}
-use Rattle.laws_progress.proofs.RunStates.{Ends, Split, are_hops, are_inner, ends_are, is_delivered, is_right, split}
-use Rattle.laws_progress.proofs.Standing.{place_at}
-use Rattle.laws_progress.proofs.States.{Era, Follow, Follows, IsBetween, IsEra, State, Watched, last_state, seen_at, sight}
-use Rattle.laws_progress.proofs.Watching.{AllUp, IsFree, are_up, calmly_on, up_on, watch, watch_is}
-use Rattle.laws_progress.proofs.Whole.{steady}
-use Rattle.laws_progress.proofs.Wires.{wires}
-use Rattle.laws_progress.specs.Calm.{IsCalm, IsCalmAt}
-use Rattle.laws_progress.specs.Delivery.{IsDelivered}
-use Rattle.laws_progress.specs.Within.{IsPathUnder, RunsUnder, StaysUnder}
-use Rattle.laws_progress.proofs.Polls.{between_back}
-use Rattle.laws_progress.proofs.Within.{hop_open, in_path, is_in, none_removed, of_path}
-use Rattle.laws_node.specs.Withdrawals.{removed_now}
+use Rattle.laws_progress.proofs.RunStates.{is_right}
+use Rattle.laws_progress.proofs.PassMasks.{none_waits, passes_by}
+use Rattle.laws_progress.specs.Calm.{IsCalm}
+use Rattle.laws_progress.specs.Within.{IsPathUnder, StaysUnder}
 use Rattle.laws_runs.specs.Signs.{Good}
-use Rattle.laws_runs.proofs.Signed.{signs}
-use Rattle.sp_rules.specs.Rel.{is_one_of}
 use Rattle.laws_progress.specs.LifeDelivery.{CountedDeliveryInLives, CountedReturnInLives}
-use Rattle.laws_runs.proofs.Determined.{past_is_determined}
-use Rattle.laws_runs.proofs.FlowRuns.{flows_are_kept_over_lives}
-use Rattle.laws_runs.proofs.HeldBoots.{held_boots_are_born}
-use Rattle.laws_runs.proofs.Lists.{both}
 use Rattle.laws_runs.specs.Flows.{flow_at}
 use Rattle.laws_runs.specs.LifeFlows.{acknowledged_under}
-use Rattle.laws_runs.specs.Past.{Happened, delivered_under, mover_in, past, sent_under, told_under}
-use Rattle.laws_runs.specs.Premises.{Carries, ComesThrough}
+use Rattle.laws_runs.specs.Past.{delivered_under, past, sent_under}
+use Rattle.laws_runs.specs.Premises.{ComesThrough}
 use Rattle.sp_base.specs.declared.id.Flow.{Flow}
 use Rattle.sp_base.specs.declared.id.NodeId.{NodeId}
 use Rattle.sp_journal.specs.declared.entry.Entry.{Entry}
 use Rattle.sp_rules.specs.Arts.{Arts}
 use Rattle.sp_rules.specs.Flow.{FlowState}
 use Rattle.sp_rules.specs.Lives.{held_boot}
-use Rattle.sp_rules.specs.Node.{NodeState, link_in}
-use Rattle.sp_rules.specs.Weights.{next}
-use Rattle.sp_runs.specs.Paths.{IsCorrectPath, hops}
+use Rattle.sp_rules.specs.Node.{NodeState}
+use Rattle.sp_rules.specs.declared.kflow.FlowKind.TheVariants.{Plain, Paths}
+use Rattle.sp_runs.specs.Paths.{hops}
 use Rattle.sp_runs.specs.Rounds.{CompleteRounds, flow_count}
-use Rattle.sp_runs.specs.Runs.{Clean, Turned, polls}
-use Rattle.sp_runs.specs.Settings.{Setting, SettingFits, is_correct}
-use Rattle.sp_runs.specs.Told.{Message, accepted_in}
+use Rattle.sp_runs.specs.Runs.{Clean}
+use Rattle.sp_runs.specs.Settings.{Setting, SettingFits}
 use Rattle.sp_runs.specs.Worlds.{World, node_in}
 use Rattle.sp_schedule_events.specs.declared.event.Event.{Event}
-use Rattle.std.proofs.Common.{List, Some, ap, append_assoc, arith, false, length, subst, suc, sym, true, ℕ, ◌++◌, ◌+◌, ◌-◌, ◌∙◌, ◌∷◌, ◌≡◌, ◌≤◌, []}
+use Rattle.std.proofs.Common.{List, Some, ap, arith, length, sym, true, ℕ, ◌++◌, ◌+◌, ◌∙◌, ◌≡◌, ◌≤◌}
 use Rattle.std.proofs.lemmas.Bool.{ne_eqb}
-use Rattle.std.proofs.lemmas.List.{append-nil}
-use Rattle.std.proofs.lemmas.Option.{same_Some}
-use Rattle.std.specs.Prelude.{IsTrue}
-use Rattle.laws_progress.proofs.Paths as paths
-use Rattle.laws_progress.proofs.Facts as facts
+use Rattle.sp_rules.specs.declared.kflow.FlowKind.{FlowKind}
+use Rattle.laws_progress.proofs.Makes.{Passes}
+use Rattle.sp_rules.specs.Kflow.{edge_to}
+use Rattle.sp_rules.specs.Rel.{flow_in}
+use Rattle.laws_progress.proofs.Standing.{rel_of}
+use Rattle.laws_progress.proofs.Makes.{flow_sound, plain_passes}
+use Rattle.laws_runs.specs.Signs.{sizes_at}
+use Rattle.std.proofs.Common.{Option, None, refl}
+use Rattle.std.specs.List.{All}
+use Rattle.sp_graph.specs.Walks.{steps}
+use Rattle.sp_msg.specs.Masks.{bits}
+use Rattle.sp_msg.specs.Views.{names_edge}
+use Rattle.sp_msg.specs.declared.mask.Mask.{Mask}
+use Rattle.sp_rules.specs.Kflow.{waiting_mask}
+use Rattle.laws_progress.proofs.Changes.{era_is}
+use Rattle.laws_progress.proofs.States.{IsRight}
+use Rattle.laws_progress.specs.Within.{MayGo}
+use Rattle.laws_progress.proofs.CalmEras.{era_of}
+use Rattle.laws_progress.proofs.CalmRuns.{GoesBy, Pass, delivers, found, returns, signed_last, signed_more, source_boots, source_has}
 
--- ---- the era of a calm interval: the lives in which the nodes of the path run at its beginning
+-- ---- which messages may go
 
-abbrev sent_in : World → NodeId → NodeId → ℕ
-sent_in w u v = seen_at 0 (λ n. (link_in n v).sent) (node_in w.nodes u)
+-- over any edge
+every : (x : Setting) (path : List NodeId) → All (GoesBy x (λ edge. true)) (steps path)
+every x path k none inside = refl
 
-abbrev era_of : World → List NodeId → (version : ℕ) (weights : List ℕ) (a b : ℕ) → List Event → World → Era
-era_of w path version weights a b all end = record {
-  on = is_in path;
-  life = λ v. seen_at 0 (λ n. n.fixed.boot) (node_in w.nodes v);
-  version = version;
-  weights = weights;
-  sboot = a;
-  dboot = b;
-  early = λ u v. polls all u v - sent_in end u v;
-}
+plain_pass : (low high : ℕ) (arts : Arts) (x : Setting) (es : List Event) (js : List Entry) (w : World) (after : List Event) (more : List Entry) (end : World)
+    (fits : SettingFits arts x) (reads : ComesThrough x.topology.format arts x.signature_len) (run : Clean arts x es js w)
+    (longer : Clean arts x (es ++ after) (js ++ more) end) (version : ℕ) (weights : List ℕ) (s d : NodeId) (path : List NodeId)
+    (way : IsPathUnder x weights s d path) (under : StaysUnder version weights path w end) (a b : ℕ) (calm : IsCalm w after s a d b path)
+    → Pass Plain low high (λ edge. true) arts x es js w after more end fits reads run longer version weights s d path way under a b calm (every x path)
+plain_pass low high arts x es js w after more end fits reads run longer version weights s d path way under a b calm z fs g u v n hop at on =
+    let k = sizes_at x (Good arts x z.at.events z.at.journal) u in
+    let holds = rel_of Plain arts x z.at.events z.at.journal z.at.world fits reads.carries z.at.run u n at in
+    let sound = flow_sound Plain k n.signer.index n.parts.rel (record { src = s; dst = d }) holds in
+    plain_passes low high (edge_to n.parts.kflow v) (flow_in n.parts.rel.flows (record { src = s; dst = d })) sound.plain
 
--- ---- the pasts of runs
+-- no message is in an empty window
+none_pass : (low high edge : ℕ) (f : FlowState) → high ≤ low → Passes low high edge f
+none_pass low high edge f none i o there above upto = absurd (omega (arith, none, above, upto))
 
-past_same : (arts : Arts) (x : Setting) → SettingFits arts x → Carries x.topology.format arts
-    → (fs : List Event) (ks : List Entry) (v : World) (other : Clean arts x fs ks v)
-    → (es : List Event) (js : List Entry) (w : World) (run : Clean arts x es js w) → fs ≡ es → ks ≡ js → past arts x fs ks v other ≡ past arts x es js w run
-past_same arts x fits reads fs ks v other es js w run events journal =
-    let one : (r : Clean arts x es js v) → past arts x es js v r ≡ past arts x es js w run = λ r. past_is_determined arts x es js v w fits reads r run in
-    let two : (r : Clean arts x es ks v) → past arts x es ks v r ≡ past arts x es js w run =
-    subst (λ (J : List Entry). (r : Clean arts x es J v) → past arts x es J v r ≡ past arts x es js w run) (sym journal) one in
-    (subst (λ (E : List Event). (r : Clean arts x E ks v) → past arts x E ks v r ≡ past arts x es js w run) (sym events) two) other
+-- over the edges of the mask that waits
+mask_pass : (high : ℕ) (arts : Arts) (x : Setting) (es : List Event) (js : List Entry) (w : World) (after : List Event) (more : List Entry) (end : World)
+    (fits : SettingFits arts x) (reads : ComesThrough x.topology.format arts x.signature_len) (run : Clean arts x es js w)
+    (longer : Clean arts x (es ++ after) (js ++ more) end) (version : ℕ) (weights : List ℕ) (s d : NodeId) (path : List NodeId)
+    (way : IsPathUnder x weights s d path) (under : StaysUnder version weights path w end) (a b : ℕ) (calm : IsCalm w after s a d b path)
+    → (n : NodeState) (at : node_in w.nodes s ≡ Some n) (mask : Mask) → waiting_mask n.parts.kflow d ≡ Some mask → high ≤ (flow_at Paths n s d).at.have
+    → (has : All (GoesBy x (names_edge (bits mask))) (steps path))
+    → Pass Paths (flow_at Paths n s d).at.base high (names_edge (bits mask)) arts x es js w after more end fits reads run longer version weights s d path way
+    under a b calm has
+mask_pass high arts x es js w after more end fits reads run longer version weights s d path way under a b calm n at mask waits most has z fs g u v m hop there
+    on =
+    let low = (flow_at Paths n s d).at.base in
+    let over = names_edge (bits mask) in
+    let right = is_right x s d path way.walks in
+    let era = era_of Paths low high over w path version weights a b (es ++ after) end in
+    let flow : Flow = record { src = s; dst = d } in
+    let source = source_boots Paths low high over arts x es js w after more end fits reads run longer version weights s d path way under a b calm has n at in
+    let here = holds_both m s d a b (era_is era flow u m on).1 in
+    let boots : ◌≡◌ {A = ℕ × ℕ} (held_boot m.parts.lives s, held_boot m.parts.lives d) (held_boot n.parts.lives s, held_boot n.parts.lives d) =
+    ap (λ p. (p, held_boot m.parts.lives d)) (here.0 ∙ sym source.0) ∙ ap (λ p. (held_boot n.parts.lives s, p)) (here.1 ∙ sym source.1) in
+    passes_by arts x (es ++ after) (js ++ more) end fits reads.carries longer s d right.from right.to right.different es js w run
+    (signed_more Paths low high over arts x es js w after more end fits reads run longer version weights s d path way under a b calm has) n at mask waits
+    z.at.events z.at.journal z.at.world z.at.run
+    (signed_last Paths low high over arts x es js w after more end fits reads run longer version weights s d path way under a b calm has z fs g)
+    u v m there hop.hop.joined hop.may boots high most
 
-past_grows : (arts : Arts) (x : Setting) (all : List Event) → SettingFits arts x → Carries x.topology.format arts → (es : List Event) (w y : State arts x all)
-    → Goes (State arts x all) (Follows arts x all) w es y
-    → (more : List Happened) × (past arts x y.events y.journal y.world y.run ≡ past arts x w.events w.journal w.world w.run ++ more)
-past_grows arts x all fits reads [] w y facts.Stays = ([], sym (append-nil (past arts x w.events w.journal w.world w.run)))
-past_grows arts x all fits reads (e ∷ es) w y (facts.Steps {x = m} (Follow j events journal range turn unforged) g) =
-    let rest = past_grows arts x all fits reads es m y g in
-    let h : Happened = record { event = e; entry = j; mover = mover_in arts x w.world e j m.world turn } in
-    let first : past arts x m.events m.journal m.world m.run ≡ past arts x w.events w.journal w.world w.run ++ h ∷ [] =
-    past_same arts x fits reads m.events m.journal m.world m.run (w.events ++ e ∷ []) (w.journal ++ j ∷ []) m.world (Turned w.run range turn unforged) events
-    journal in
-    (h ∷ rest.0, rest.1 ∙ ap (λ zs. zs ++ rest.0) first ∙ append_assoc (past arts x w.events w.journal w.world w.run) (h ∷ []) rest.0)
+-- what s accepted by the beginning comes to d
+pub comes : (kind : FlowKind) (arts : Arts) (x : Setting) (es : List Event) (js : List Entry) (w : World) (after : List Event) (more : List Entry) (end : World)
+    (fits : SettingFits arts x) (reads : ComesThrough x.topology.format arts x.signature_len) (run : Clean arts x es js w)
+    (longer : Clean arts x (es ++ after) (js ++ more) end) (version : ℕ) (weights : List ℕ) (s d : NodeId) (path : List NodeId)
+    (way : IsPathUnder x weights s d path) (under : StaysUnder version weights path w end) (a b : ℕ) (calm : IsCalm w after s a d b path)
+    → 1 ≤ x.buffer → (n : NodeState) → node_in w.nodes s ≡ Some n → MayGo kind x n d path
+    → (q k : ℕ) → q ≤ length (sent_under kind (past arts x es js w run) s a d b) → q ≤ (flow_at kind n s d).at.base + k
+    → (least : ℕ) → flow_count kind x (es ++ after) ≤ least → CompleteRounds kind least s d path (hops path + k + 1) es after
+    → q ≤ length (delivered_under kind (past arts x (es ++ after) (js ++ more) end longer) s a d b)
+comes Plain arts x es js w after more end fits reads run longer version weights s d path way under a b calm one n at may q k has near least enough rounds =
+    let low = (flow_at Plain n s d).at.base in
+    delivers Plain low q (λ edge. true) arts x es js w after more end fits reads run longer version weights s d path way under a b calm (every x path) one least
+    enough
+    (plain_pass low q arts x es js w after more end fits reads run longer version weights s d path way under a b calm) n at q k (omega arith) (omega arith) has
+    near rounds
+comes Paths arts x es js w after more end fits reads run longer version weights s d path way under a b calm one n at may q k has near least enough rounds =
+    go (waiting_mask n.parts.kflow d) refl
+  where
+    low : ℕ
+    low = (flow_at Paths n s d).at.base
 
-module _ (arts : Arts) (x : Setting) (es : List Event) (js : List Entry) (w : World) (after : List Event) (more : List Entry) (end : World)
-    (fits : SettingFits arts x)
-    (reads : ComesThrough x.topology.format arts x.signature_len) (run : Clean arts x es js w) (longer : Clean arts x (es ++ after) (js ++ more) end)
-    (version : ℕ) (weights : List ℕ) (s d : NodeId) (path : List NodeId) (way : IsPathUnder x weights s d path) (under : StaysUnder version weights path w end)
-    (a b : ℕ)
-    (calm : IsCalm w after s a d b path) where
-  abbrev flow : Flow
-  flow = record { src = s; dst = d }
+    right : IsRight x (record { src = s; dst = d })
+    right = is_right x s d path way.walks
 
-  is : IsCorrectPath x s d path
-  is = way.walks
+    have : (flow_at Paths n s d).at.have ≡ length (sent_under Paths (past arts x es js w run) s a d b)
+    have = source_has Paths low q (λ edge. true) arts x es js w after more end fits reads run longer version weights s d path way under a b calm (every x path)
+        n at
 
-  abbrev era : Era
-  era = era_of w path version weights a b (es ++ after) end
+    go : (o : Option Mask) → waiting_mask n.parts.kflow d ≡ o
+        → q ≤ length (delivered_under Paths (past arts x (es ++ after) (js ++ more) end longer) s a d b)
+    go None waits =
+        let none = none_waits arts x es js w fits reads.carries run s d right.from right.different n at waits in
+        let few : q ≤ low = omega (arith, have, has, none) in
+        delivers Paths low q (λ edge. true) arts x es js w after more end fits reads run longer version weights s d path way under a b calm (every x path) one
+        least enough
+        (λ z fs g u v m hop there on. none_pass low q (edge_to m.parts.kflow v) (flow_at Paths m s d) few) n at q k (omega arith) (omega arith) has near rounds
+    go (Some mask) waits =
+        delivers Paths low q (names_edge (bits mask)) arts x es js w after more end fits reads run longer version weights s d path way under a b calm
+        (may mask waits) one least enough
+        (mask_pass q arts x es js w after more end fits reads run longer version weights s d path way under a b calm n at mask waits (omega (arith, have, has))
+        (may mask waits))
+        n at q k (omega arith) (omega arith) has near rounds
 
-  calm_at : (v : NodeId) → is_in path v ≡ true → IsCalmAt w after s a d b v
-  calm_at v on = of_path (IsCalmAt w after s a d b) path calm v on
-
-  life_at : (v : NodeId) (c : IsCalmAt w after s a d b v) → c.up.node.fixed.boot ≡ seen_at 0 (λ (n : NodeState). n.fixed.boot) (node_in w.nodes v)
-  life_at v c = sym (ap (seen_at 0 (λ (n : NodeState). n.fixed.boot)) c.up.runs)
-
-  ends_at : Ends s d path
-  ends_at = ends_are x s d path is
-
-  s_on : is_in path s ≡ true
-  s_on = in_path path 0 s ends_at.begins
-
-  d_on : is_in path d ≡ true
-  d_on = in_path path (hops path) d ends_at.ends
-
-  own_life : (v : NodeId) (c : IsCalmAt w after s a d b v) → x.epochs ≡ true
-      → held_boot c.up.node.parts.lives v ≡ seen_at 0 (λ (n : NodeState). n.fixed.boot) (node_in w.nodes v)
-  own_life v c on = (held_boots_are_born arts x es js w fits reads.carries run).own on v c.up.node c.up.runs ∙ life_at v c
-
-  pub is_era : IsEra x flow era
-  is_era = record {
-    right = is_right x s d path is;
-    correct = λ v on. (correct_at v on);
-    source = s_on;
-    end = d_on;
-    some = λ v on. let c = calm_at v on in let some = boot_some arts x es js w fits reads.carries run v c.up.node c.up.runs in let boot = life_at v c in
-        omega (arith, some, boot);
-    taken = λ on.
-        let cs = calm_at s s_on in
-        let cd = calm_at d d_on in
-        let hs = holds_both cs.up.node s d a b cs.held in
-        let hd = holds_both cd.up.node s d a b cd.held in
-        (sym (own_life s cs on) ∙ hs.0, sym (own_life d cd on) ∙ hd.1);
-    only = λ off.
-        let cs = calm_at s s_on in
-        let hs = holds_both cs.up.node s d a b cs.held in
-        let none = held_none arts x es js w fits reads.carries run off s cs.up.node cs.up.runs in
-        (sym hs.0 ∙ none s, sym hs.1 ∙ none d);
-    lone = λ off v on.
-        let c = calm_at v on in
-        sym (life_at v c) ∙ running_boot arts x es js w fits reads.carries run v c.up.node c.up.runs ∙ without_epochs x w v off;
-  }
-    where
-      correct_at : (v : NodeId) → is_in path v ≡ true → is_correct x v ≡ true
-      correct_at v on = of_path (λ n. IsTrue (is_correct x n)) path is.correct v on
-
-  start : Split arts x (es ++ after) es js w after (last_state arts x (es ++ after) (js ++ more) end longer)
-  start = split arts x fits reads.carries es after js more w end run longer
-
-  abbrev last : State arts x (es ++ after)
-  last = last_state arts x (es ++ after) (js ++ more) end longer
-
-  quiet : IsFree era after
-  quiet v on = (calm_at v on).up.stays
-
-  up_first : AllUp arts x (es ++ after) era flow start.mid
-  unfolding start
-  up_first v on =
-      let c = calm_at v on in
-      record {
-        node = c.up.node;
-        there = ap (λ (z : World). node_in z.nodes v) start.world ∙ c.up.runs;
-        boot = life_at v c;
-        held = c.held;
-        version = least v c on;
-        weights = λ same. (starts v on).weights_are c.up.node c.up.runs;
-      }
-    where
-      starts : (v : NodeId) → is_in path v ≡ true → RunsUnder version weights w v
-      starts v on = of_path (RunsUnder version weights w) path under.begins v on
-
-      least : (v : NodeId) (c : IsCalmAt w after s a d b v) → is_in path v ≡ true → version ≤ c.up.node.live.version
-      least v c on = let same = (starts v on).version_is c.up.node c.up.runs in omega (arith, same)
-
-  up_last : AllUp arts x (es ++ after) era flow last
-  up_last = up_on arts x (es ++ after) era flow fits reads.carries is_era after start.mid last start.goes quiet up_first
-
-  sent_is : (u v : NodeId) (n : NodeState) → node_in end.nodes u ≡ Some n → sent_in end u v ≡ (link_in n v).sent
-  sent_is u v n at = ap (seen_at 0 (λ (q : NodeState). (link_in q v).sent)) at
-
-  early_is : (u v : NodeId) → is_in path u ≡ true → (n : NodeState) → node_in end.nodes u ≡ Some n
-      → polls (es ++ after) u v - sent_in end u v ≡ polls (es ++ after) u v - (link_in n v).sent
-  early_is u v on n at = ap (λ k. polls (es ++ after) u v - k) (sent_is u v n at)
-
-  runs_last : (u : NodeId) → is_in path u ≡ true → RunsUnder version weights end u
-  runs_last u on = of_path (RunsUnder version weights end) path under.ends u on
-
-  most_last : (u : NodeId) → is_in path u ≡ true → (n : NodeState) → node_in end.nodes u ≡ Some n → n.live.version ≤ version
-  most_last u on n at = let same = (runs_last u on).version_is n at in omega (arith, same)
-
-  joined_last : (u v : NodeId) → is_in path u ≡ true → is_in path v ≡ true → (n : NodeState) → node_in end.nodes u ≡ Some n
-      → is_one_of (removed_now n) v ≡ false
-  joined_last u v on v_on n at =
-      none_removed x weights s d path way (Good arts x (es ++ after) (js ++ more)) u n
-      ((signs arts x (es ++ after) (js ++ more) end fits reads.carries longer).nodes u n at) ((runs_last u on).weights_are n at) v v_on
-
-  watched_last : Watched arts x (es ++ after) era
-  watched_last = watch arts x (es ++ after) era flow fits reads.carries is_era reads.heads last up_last most_last joined_last early_is
-      (λ u v on joined n at. sent_within arts x (es ++ after) (js ++ more) end fits reads.carries longer u v joined n at)
-
-  last_at : watched_last.at ≡ last
-  unfolding watched_last
-  last_at = watch_is arts x (es ++ after) era flow fits reads.carries is_era reads.heads last up_last most_last joined_last early_is
-      (λ u v on joined n at. sent_within arts x (es ++ after) (js ++ more) end fits reads.carries longer u v joined n at)
-
-  lift : Lifted arts x (es ++ after) era fits reads.carries after start.mid watched_last
-  lift = lifted arts x (es ++ after) era fits reads.carries after start.mid last start.goes watched_last last_at
-
-  chain : Goes (Watched arts x (es ++ after) era) (Calmly arts x (es ++ after) era flow) lift.first after watched_last
-  chain = calmly_on arts x (es ++ after) era flow fits reads.carries is_era after lift.first watched_last lift.goes quiet
-      (subst (AllUp arts x (es ++ after) era flow) (sym lift.is) up_first)
-
-  first_up : AreUp arts x (es ++ after) era flow lift.first
-  first_up = are_up arts x (es ++ after) era flow fits reads.carries is_era lift.first (subst (AllUp arts x (es ++ after) era flow) (sym lift.is) up_first)
-
-  last_up : AreUp arts x (es ++ after) era flow watched_last
-  last_up = are_up arts x (es ++ after) era flow fits reads.carries is_era watched_last (subst (AllUp arts x (es ++ after) era flow) (sym last_at) up_last)
-
-  first_events : lift.first.at.events ≡ es
-  first_events = ap (λ (z : State arts x (es ++ after)). z.events) lift.is ∙ start.events
-
-  first_journal : lift.first.at.journal ≡ js
-  first_journal = ap (λ (z : State arts x (es ++ after)). z.journal) lift.is ∙ start.journal
-
-  first_world : lift.first.at.world ≡ w
-  first_world = ap (λ (z : State arts x (es ++ after)). z.world) lift.is ∙ start.world
-
-  first_past : past arts x lift.first.at.events lift.first.at.journal lift.first.at.world lift.first.at.run ≡ past arts x es js w run
-  first_past =
-      past_same arts x fits reads.carries lift.first.at.events lift.first.at.journal lift.first.at.world lift.first.at.run es js w run first_events
-      first_journal
-
-  last_past : past arts x watched_last.at.events watched_last.at.journal watched_last.at.world watched_last.at.run
-      ≡ past arts x (es ++ after) (js ++ more) end longer
-  last_past = past_same arts x fits reads.carries watched_last.at.events watched_last.at.journal watched_last.at.world watched_last.at.run (es ++ after)
-      (js ++ more) end longer
-      (ap (λ (z : State arts x (es ++ after)). z.events) last_at) (ap (λ (z : State arts x (es ++ after)). z.journal) last_at)
-
-  abbrev seen : Sight (Watched arts x (es ++ after) era)
-  seen = sight arts x (es ++ after) era flow
-
-  -- what s has and counts at the beginning
-  source_seen : (n : NodeState) → node_in w.nodes s ≡ Some n
-      → (seen.have lift.first s ≡ length (sent_under (past arts x es js w run) s a d b)) × (seen.base lift.first s ≡ (flow_at n s d).at.base)
-  source_seen n at =
-      let p = first_up s s_on in
-      let same : p.node ≡ n = same_Some p.node n (sym p.there ∙ ap (λ (z : World). node_in z.nodes s) first_world ∙ at) in (
-        sent_up arts x (es ++ after) era flow fits reads is_era lift.first p ∙ ap (λ h. length (sent_under h s a d b)) first_past,
-        ap (λ (f : FlowState). f.at.base) (seen_flow arts x (es ++ after) era flow lift.first s p.node p.there p.counts)
-            ∙ ap (λ (q : NodeState). (flow_at q s d).at.base) same,
-      )
-
-  -- what came to d by the end
-  end_seen : seen.have watched_last d ≡ length (delivered_under (past arts x (es ++ after) (js ++ more) end longer) s a d b)
-  end_seen = delivered_up arts x (es ++ after) era flow fits reads is_era watched_last (last_up d d_on) ∙ ap (λ h. length (delivered_under h s a d b)) last_past
-
-  -- what d acknowledged by the beginning, and what counts so at s at the end
-  acked_seen : seen.base lift.first d ≡ acknowledged_under arts es js s a d b
-  acked_seen =
-      acked_up arts x (es ++ after) era flow fits reads is_era lift.first (first_up d d_on)
-      ∙ ap (λ zs. acknowledged_under arts zs lift.first.at.journal s a d b) first_events ∙ ap (λ zs. acknowledged_under arts es zs s a d b) first_journal
-
-  base_seen : (n : NodeState) → node_in end.nodes s ≡ Some n → seen.base watched_last s ≡ (flow_at n s d).at.base
-  base_seen n at =
-      let p = last_up s s_on in
-      let same : p.node ≡ n = same_Some p.node n (sym p.there ∙ ap (λ (z : State arts x (es ++ after)). node_in z.world.nodes s) last_at ∙ at) in
-      ap (λ (f : FlowState). f.at.base) (seen_flow arts x (es ++ after) era flow watched_last s p.node p.there p.counts)
-      ∙ ap (λ (q : NodeState). (flow_at q s d).at.base) same
-
-  hops_are : AreHops (IsBetween x era) path
-  hops_are i u v at next =
-      let h = are_hops x s d path is i u v at next in
-      let u_on = in_path path i u at in
-      let v_on = in_path path (suc i) v next in
-      let there : IsBetween x era u v = record { hop = h.0; first = u_on; second = v_on; open_edge = hop_open x weights s d path way i u v at next } in
-      (there, between_back x era u v there)
-
-  counted_first : AreCounted (Watched arts x (es ++ after) era) seen (IsBetween x era) es lift.first
-  counted_first u v hop = ap (λ zs. polls zs u v) first_events
-
-  module _ (one : 1 ≤ x.buffer) (least : ℕ) (enough : flow_count x (es ++ after) ≤ least) where
-    facts_are : facts.Facts (Watched arts x (es ++ after) era) (Calmly arts x (es ++ after) era flow) (IsBetween x era) seen (place_at x flow) x.buffer least s
-        d
-    facts_are = facts_of (Watched arts x (es ++ after) era) (Calmly arts x (es ++ after) era flow) (IsBetween x era) seen (wires arts x (es ++ after) era flow)
-        (place_at x flow) x.buffer least s d
-        (steady arts x (es ++ after) era flow fits reads is_era one least enough)
-
-    pub delivers : (n : NodeState) → node_in w.nodes s ≡ Some n → (q k : ℕ) → q ≤ length (sent_under (past arts x es js w run) s a d b)
-        → q ≤ (flow_at n s d).at.base + k
-        → CompleteRounds least s d path (hops path + k + 1) es after → q ≤ length (delivered_under (past arts x (es ++ after) (js ++ more) end longer) s a d b)
-    delivers n at q k has near rounds =
-        let source = source_seen n at in
-        let have_is = source.0 in
-        let base_is = source.1 in
-        let count : hops path + k + 1 ≡ suc (hops path + k) = omega arith in
-        let it : q ≤ seen.have watched_last d =
-        paths.progress (Watched arts x (es ++ after) era) (Calmly arts x (es ++ after) era flow) (IsBetween x era) seen (place_at x flow) x.buffer least s d
-        facts_are (omega (arith, enough)) path (hops path) hops_are (are_inner x s d path is)
-        ends_at.long ends_at.begins ends_at.ends k q es after lift.first watched_last chain counted_first
-        (omega (arith, has, have_is)) (omega (arith, near, base_is)) (subst (λ c. CompleteRounds least s d path c es after) count rounds) in
-        let end_is = end_seen in
-        omega (arith, it, end_is)
-
-    pub returns : (n : NodeState) → node_in end.nodes s ≡ Some n → CompleteRounds least s d path (hops path + 1) es after
-        → acknowledged_under arts es js s a d b ≤ (flow_at n s d).at.base
-    returns n at rounds =
-        let acked_is = acked_seen in
-        let base_is = base_seen n at in
-        let count : hops path + 1 ≡ suc (hops path) = omega arith in
-        let it : acknowledged_under arts es js s a d b ≤ seen.base watched_last s =
-        paths.acknowledged (Watched arts x (es ++ after) era) (Calmly arts x (es ++ after) era flow) (IsBetween x era) seen (place_at x flow) x.buffer least s d
-        facts_are (omega (arith, enough)) path (hops path) hops_are (are_inner x s d path is)
-        ends_at.long ends_at.begins ends_at.ends (acknowledged_under arts es js s a d b) es after lift.first watched_last chain counted_first
-        (omega (arith, acked_is)) (subst (λ c. CompleteRounds least s d path c es after) count rounds) in
-        omega (arith, it, base_is)
-
-  -- what was sent by the beginning is at the front of what was sent by the end
-  sent_more : (T : List Message) × (sent_under (past arts x (es ++ after) (js ++ more) end longer) s a d b ≡ sent_under (past arts x es js w run) s a d b ++ T)
-  sent_more =
-      let g = past_grows arts x (es ++ after) fits reads.carries after start.mid last start.goes in
-      let first : past arts x start.mid.events start.mid.journal start.mid.world start.mid.run ≡ past arts x es js w run =
-      past_same arts x fits reads.carries start.mid.events start.mid.journal start.mid.world start.mid.run es js w run start.events start.journal in
-      let all : past arts x (es ++ after) (js ++ more) end longer ≡ past arts x es js w run ++ g.0 = g.1 ∙ ap (λ h. h ++ g.0) first in (
-        sent_under g.0 s a d b,
-        ap (λ h. sent_under h s a d b) all
-            ∙ flat_map-append (λ h. told_under s a d b (accepted_in s d h.event h.entry.reply) h.mover) (past arts x es js w run) g.0,
-      )
-
-  pub found : (q : ℕ) → 1 ≤ q → q ≤ length (sent_under (past arts x es js w run) s a d b)
-      → q ≤ length (delivered_under (past arts x (es ++ after) (js ++ more) end longer) s a d b)
-      → IsDelivered (sent_under (past arts x es js w run) s a d b) (delivered_under (past arts x (es ++ after) (js ++ more) end longer) s a d b) q
-  found q pos has long =
-      let right = is_right x s d path is in
-      let c = flows_are_kept_over_lives arts x (es ++ after) (js ++ more) end fits reads.carries longer s d (both _ _ right.from).0 right.to right.different in
-      let prefix = c.prefix right.from a b in
-      let parts = sent_more in
-      is_delivered (sent_under (past arts x es js w run) s a d b) parts.0 (delivered_under (past arts x (es ++ after) (js ++ more) end longer) s a d b) prefix.0
-      q
-      (sym parts.1 ∙ prefix.1) (c.numbered right.from a b) pos has long
+-- what d acknowledged by the beginning comes back to s
+pub comes_back : (kind : FlowKind) (arts : Arts) (x : Setting) (es : List Event) (js : List Entry) (w : World) (after : List Event) (more : List Entry)
+    (end : World)
+    (fits : SettingFits arts x) (reads : ComesThrough x.topology.format arts x.signature_len) (run : Clean arts x es js w)
+    (longer : Clean arts x (es ++ after) (js ++ more) end) (version : ℕ) (weights : List ℕ) (s d : NodeId) (path : List NodeId)
+    (way : IsPathUnder x weights s d path) (under : StaysUnder version weights path w end) (a b : ℕ) (calm : IsCalm w after s a d b path)
+    → 1 ≤ x.buffer → (n : NodeState) → node_in end.nodes s ≡ Some n
+    → (least : ℕ) → flow_count kind x (es ++ after) ≤ least → CompleteRounds kind least s d path (hops path + 1) es after
+    → acknowledged_under kind arts es js s a d b ≤ (flow_at kind n s d).at.base
+comes_back kind arts x es js w after more end fits reads run longer version weights s d path way under a b calm one n at least enough rounds =
+    returns kind 0 0 (λ edge. true) arts x es js w after more end fits reads run longer version weights s d path way under a b calm (every x path) one least
+    enough
+    (λ z fs g u v m hop there on. none_pass 0 0 (edge_to m.parts.kflow v) (flow_at kind m s d) (omega arith)) n at rounds
 
 -- ---- the laws
 
 pub delivery_is_counted_in_lives : CountedDeliveryInLives
-delivery_is_counted_in_lives arts x fits reads one es js w after more v run longer version weights s d path is under a b calm n at q k pos has near least
+delivery_is_counted_in_lives arts x fits reads one kind es js w after more v run longer version weights s d path is under a b calm n at may q k pos has near
+    least
     enough rounds =
-    found arts x es js w after more v fits reads run longer version weights s d path is under a b calm q pos has
-    (delivers arts x es js w after more v fits reads run longer version weights s d path is under a b calm one least enough n at q k has near rounds)
+    found kind 0 0 (λ edge. true) arts x es js w after more v fits reads run longer version weights s d path is under a b calm (every x path) q pos has
+    (comes kind arts x es js w after more v fits reads run longer version weights s d path is under a b calm one n at may q k has near least enough rounds)
 
 pub acknowledgements_return_in_lives : CountedReturnInLives
-acknowledgements_return_in_lives arts x fits reads one es js w after more v run longer version weights s d path is under a b calm n at least enough rounds =
-    let base = returns arts x es js w after more v fits reads run longer version weights s d path is under a b calm one least enough n at rounds in
+acknowledgements_return_in_lives arts x fits reads one kind es js w after more v run longer version weights s d path is under a b calm n at least enough
+    rounds =
+    let base = comes_back kind arts x es js w after more v fits reads run longer version weights s d path is under a b calm one n at least enough rounds in
     record { base = base; room = λ low. ne_eqb _ _ (λ full. omega (arith, full, low, base, one)) }

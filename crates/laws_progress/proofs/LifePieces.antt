@@ -11,25 +11,23 @@ use Rattle.std.proofs.lemmas.Bool.Decides.{nat_tests}
 use Rattle.sp_base.specs.declared.id.NodeId.{NodeId}
 use Rattle.sp_frame.specs.Sections.{Contents}
 use Rattle.sp_frame.specs.Views.{as_list}
-use Rattle.sp_msg.specs.declared.body.Ack.{Ack}
 use Rattle.sp_msg.specs.declared.body.Body.{Body}
 use Rattle.sp_msg.specs.declared.body.Body.TheVariants as bodies
 use Rattle.sp_msg.specs.declared.kept.Kept.{Kept}
-use Rattle.sp_msg.specs.declared.refused.SendRefused.{SendRefused}
-use Rattle.sp_rules.specs.Answers.{ack_answer, epoch_answer, is_new, prio_answer, rel_answer, weight_answer}
+use Rattle.sp_rules.specs.Answers.{ack_answer, epoch_answer, is_new, prio_answer, weight_answer}
 use Rattle.sp_rules.specs.Arrivals.{arrival_at, before_document, document_at, greeted, parts_met, pieces_in, pieces_where, read_by, reply_at, rises}
 use Rattle.sp_rules.specs.Arrivals.{sections_in}
 use Rattle.sp_rules.specs.Arts.{Arts}
-use Rattle.sp_rules.specs.Handle.{Arrival, handle, handle_all, met, offer_to, prio_handled}
+use Rattle.sp_rules.specs.Handle.{Arrival, handle, handle_all, met, offer_to, prio_handled, rel_answer_to}
 use Rattle.sp_rules.specs.Lives.{are_held, boot_said, held_boot, is_dated, is_known, judge_epoch, last_to, origin_said}
 use Rattle.sp_rules.specs.Node.{NodeState, call_refusal, kept_or, link_in, called, with_link}
-use Rattle.sp_rules.specs.Parts.{Parts, is_signed, place_of}
+use Rattle.sp_rules.specs.Parts.{Parts, is_signed, place_of, with_flows}
 use Rattle.sp_rules.specs.Pieces.{Piece, AckPiece, EpochPiece, PrioAckPiece, PrioPiece, RelPiece, ReportPiece, WeightPiece, pieces_of, prio_piece, slot_pieces}
 use Rattle.sp_rules.specs.Prio.{judge_prio}
 use Rattle.sp_rules.specs.Rel.{admit_ack, admit_rel, judge_ack_of, judge_rel_of, reported}
-use Rattle.sp_rules.specs.Sends.{rel_refusal, send_prio_refusal, signer_refusal, weight_refusal}
-use Rattle.sp_rules.specs.Steps.{Input, NodeStep, Output, Poll, Datagram, Tick, SendRel, SendPrio, SetWeight, TakeRel, TakePrio, Publish}
-use Rattle.sp_rules.specs.Ticks.{at_time, due_now, settled_by}
+use Rattle.sp_rules.specs.Sends.{rel_refusal, send_prio_refusal, weight_refusal}
+use Rattle.sp_rules.specs.Steps.{Input, NodeStep, Output, Poll, Datagram, Tick, SendRel, SendPrio, SetWeight, TakeRel, TakePrio, SendKrel, TakeKrel, Publish}
+use Rattle.laws_progress.proofs.Ticked.{ticked}
 use Rattle.sp_rules.specs.Weights.{held}
 use Rattle.sp_rules.specs.declared.answers.EpochAnswer.{EpochAnswer}
 use Rattle.sp_rules.specs.declared.answers.Item.TheVariants as items
@@ -37,6 +35,8 @@ use Rattle.sp_rules.specs.declared.answers.PrioAnswer.{PrioAnswer}
 use Rattle.sp_rules.specs.declared.answers.PrioAnswer.TheVariants as prios
 use Rattle.sp_rules.specs.declared.lives.EpochJudged.TheVariants as judged
 use Rattle.sp_rules.specs.declared.lives.Life.{Life}
+use Rattle.sp_rules.specs.declared.kflow.FlowKind.TheVariants.{Plain, Paths}
+use Rattle.sp_rules.specs.KflowSends.{send_krel_refusal}
 use Rattle.laws_node.specs.HeldBoots.{IsEpochOf}
 use Rattle.laws_node.proofs.Epochs.{epoch_taken}
 use Rattle.laws_node.proofs.Handles.{new_start}
@@ -99,12 +99,15 @@ last_piece arts at p s o is =
     let p1 = (handle_all arts at p (map WeightPiece s.weights)).parts in
     let p2 = (handle arts at p1 (PrioAckPiece s.prio_ack)).parts in
     let p3 = (handle_all arts at p2 (map prio_piece s.prios)).parts in
-    let p4 = (handle_all arts at p3 (slot_pieces s.slot)).parts in (
-      p4,
-      all_append arts at p (map WeightPiece s.weights) (PrioAckPiece s.prio_ack ∷ (map prio_piece s.prios ++ (slot_pieces s.slot ++ last)))
-          ∙ all_append arts at p2 (map prio_piece s.prios) (slot_pieces s.slot ++ last)
-          ∙ all_append arts at p3 (slot_pieces s.slot) last
-          ∙ ap (λ (e : Option Kept). (handle_all arts at p4 (map EpochPiece (as_list e))).parts) is,
+    let p4 = (handle_all arts at p3 (slot_pieces Plain s.slot)).parts in
+    let p5 = (handle_all arts at p4 (slot_pieces Paths s.paths)).parts in
+    let paths = slot_pieces Paths s.paths ++ last in (
+      p5,
+      all_append arts at p (map WeightPiece s.weights) (PrioAckPiece s.prio_ack ∷ (map prio_piece s.prios ++ (slot_pieces Plain s.slot ++ paths)))
+          ∙ all_append arts at p2 (map prio_piece s.prios) (slot_pieces Plain s.slot ++ paths)
+          ∙ all_append arts at p3 (slot_pieces Plain s.slot) paths
+          ∙ all_append arts at p4 (slot_pieces Paths s.paths) last
+          ∙ ap (λ (e : Option Kept). (handle_all arts at p5 (map EpochPiece (as_list e))).parts) is,
     )
 
 -- ---- the cycles
@@ -126,14 +129,24 @@ piece_cycles arts at p (PrioPiece number o) = go (prio_answer (is_signed arts at
     go prios.Expired = refl
     go prios.BadSig = refl
     go prios.Epoch = refl
-piece_cycles arts at p (ReportPiece flow sboot dboot base have) =
-    cond_either (SameCycles p) (are_held p.lives flow sboot dboot) (record p { rel = reported p.rel at.from flow base have }) p refl refl
-piece_cycles arts at p (AckPiece flow o) =
-    cond_either (SameCycles p) (is_new (items.Ack (ack_answer (is_signed arts at.fixed o) (is_dated p.lives o.body) (judge_ack_of p.rel flow o.body))))
-    (record p { rel = admit_ack p.rel o }) p refl refl
-piece_cycles arts at p (RelPiece flow o) =
-    cond_either (SameCycles p) (is_new (items.Rel (rel_answer (is_signed arts at.fixed o) (is_dated p.lives o.body) (judge_rel_of p.rel flow o.body))))
-    (record p { rel = admit_rel p.rel o }) p refl refl
+piece_cycles arts at p (ReportPiece Plain flow sboot dboot base have) =
+    cond_either (SameCycles p) (are_held p.lives flow sboot dboot) (with_flows Plain (reported p.rel at.from flow base have) p) p refl refl
+piece_cycles arts at p (AckPiece Plain flow o) =
+    cond_either (SameCycles p)
+    (is_new (items.Ack (ack_answer (is_signed arts at.fixed o) (is_dated p.lives o.body) (judge_ack_of p.rel flow o.body))))
+    (with_flows Plain (admit_ack p.rel o) p) p refl refl
+piece_cycles arts at p (RelPiece Plain flow o) =
+    cond_either (SameCycles p) (is_new (items.Rel (rel_answer_to arts at p (judge_rel_of p.rel flow o.body) o)))
+    (with_flows Plain (admit_rel p.rel o) p) p refl refl
+piece_cycles arts at p (ReportPiece Paths flow sboot dboot base have) =
+    cond_either (SameCycles p) (are_held p.lives flow sboot dboot) (with_flows Paths (reported p.kflow.flows at.from flow base have) p) p refl refl
+piece_cycles arts at p (AckPiece Paths flow o) =
+    cond_either (SameCycles p)
+    (is_new (items.Kack (ack_answer (is_signed arts at.fixed o) (is_dated p.lives o.body) (judge_ack_of p.kflow.flows flow o.body))))
+    (with_flows Paths (admit_ack p.kflow.flows o) p) p refl refl
+piece_cycles arts at p (RelPiece Paths flow o) =
+    cond_either (SameCycles p) (is_new (items.Krel (rel_answer_to arts at p (judge_rel_of p.kflow.flows flow o.body) o)))
+    (with_flows Paths (admit_rel p.kflow.flows o) p) p refl refl
 piece_cycles arts at p (EpochPiece o) =
     cond_either (SameCycles p) (is_new (items.Epoch (epoch_answer (is_signed arts at.fixed o) (judge_epoch at.fixed.me p.lives o.body)))) (met p o) p refl refl
 
@@ -171,16 +184,14 @@ last_stays arts n (Datagram u bytes) output new v there quiet s =
     ∙ greeted_cycles n.fixed.epochs (rises arts n u bytes) u n.parts) in
     subst (LastStays v n) (sym s.1) (kept_cycles v (call_refusal n u) n (read_by arts left (document_at arts n u bytes))
     (reading arts left (document_at arts n u bytes) (λ m told. LastStays v n m) first (λ document d is reads by. first)))
-last_stays arts n (Tick now) output new v there quiet s = subst (LastStays v n) (sym s.1) (go (due_now n) (signer_refusal n.signer))
-  where
-    go : (o : Option Ack) (r : Option SendRefused) → LastStays v n (settled_by arts (at_time n now) o r)
-    go None r = refl
-    go (Some ack) (Some refusal) = refl
-    go (Some ack) None = refl
+last_stays arts n (Tick now) output new v there quiet s =
+    subst (LastStays v n) (sym s.1) (ticked (LastStays v n) arts n now refl (λ o. refl) (λ m r same. same))
 last_stays arts n (SendRel dst payload) output new v there quiet s = subst (LastStays v n) (sym s.1) (kept_cycles v (rel_refusal n dst) n _ refl)
 last_stays arts n (SendPrio m) output new v there quiet s = subst (LastStays v n) (sym s.new_is) (kept_cycles v (send_prio_refusal n m s.choice) n _ refl)
 last_stays arts n (SetWeight u weight) output new v there quiet s = subst (LastStays v n) (sym s.1) (kept_cycles v (weight_refusal n u weight) n _ refl)
 last_stays arts n (TakeRel src) output new v there quiet s = subst (LastStays v n) (sym s.1) refl
+last_stays arts n (SendKrel m) output new v there quiet s = subst (LastStays v n) (sym s.new_is) (kept_cycles v (send_krel_refusal n m s.choice) n _ refl)
+last_stays arts n (TakeKrel src) output new v there quiet s = subst (LastStays v n) (sym s.1) refl
 last_stays arts n TakePrio output new v there quiet s = subst (LastStays v n) (sym s.1) refl
 last_stays arts n (Publish document) output new v there quiet s =
     subst (LastStays v n) (sym s.1) (publishing arts n document (λ m told. LastStays v n m) refl (λ d reads by. refl))

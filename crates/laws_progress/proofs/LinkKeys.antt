@@ -40,11 +40,11 @@ same_edge u v place (e ∷ edges) =
     ap (λ t. cond t place (first_edge u v (place + 1) edges)) (or_swap ((e.low.0 == u.0) && (e.high.0 == v.0)) ((e.low.0 == v.0) && (e.high.0 == u.0)))
     ∙ ap (λ z. cond (joins v.0 u.0 e) place z) (same_edge u v (place + 1) edges)
 
-abbrev leads : NodeId → Option NodeId → Bool
+abbrev pub leads : NodeId → Option NodeId → Bool
 leads v None = false
 leads v (Some w) = w.0 == v.0
 
-end_joins : (u v : NodeId) (e : Edge) → joins u.0 v.0 e ≡ leads v (other_end u.0 e)
+pub end_joins : (u v : NodeId) (e : Edge) → joins u.0 v.0 e ≡ leads v (other_end u.0 e)
 end_joins u v e = elim (cases_Bool (eqb e.low.0 u.0)) [
   | inl t ↦ elim (cases_Bool (eqb e.high.0 v.0)) [
     | inl y ↦ rw (t, y) refl

@@ -5,18 +5,17 @@ use Rattle.std.specs.List.{list_any}
 use Rattle.std.proofs.lemmas.Bool.{cases_eq, eqb-true, eq-eqb, ne_eqb}
 use Rattle.sp_base.specs.Rows.{first_where}
 use Rattle.sp_base.specs.declared.id.NodeId.{NodeId}
-use Rattle.sp_msg.specs.declared.body.Ack.{Ack}
-use Rattle.sp_msg.specs.declared.refused.SendRefused.{SendRefused}
 use Rattle.sp_rules.specs.Arts.{Arts}
 use Rattle.sp_rules.specs.Arrivals.{link_after, before_document, document_at, read_by}
 use Rattle.sp_rules.specs.Link.{Link, advanced, new_link}
 use Rattle.sp_rules.specs.Node.{NodeState, call_refusal, called, is_link, kept_or, link_in, with_link}
 use Rattle.sp_rules.specs.Parts.{Fixed}
 use Rattle.sp_rules.specs.Polls.{parts_after}
-use Rattle.sp_rules.specs.Sends.{rel_refusal, send_prio_refusal, signer_refusal, weight_refusal}
-use Rattle.sp_rules.specs.Steps.{Input, NodeStep, Output, Poll, Datagram, Tick, SendRel, SendPrio, SetWeight, TakeRel, TakePrio, Publish}
-use Rattle.sp_rules.specs.Ticks.{at_time, due_now, settled_by}
+use Rattle.sp_rules.specs.Sends.{rel_refusal, send_prio_refusal, weight_refusal}
+use Rattle.sp_rules.specs.Steps.{Input, NodeStep, Output, Poll, Datagram, Tick, SendRel, SendPrio, SetWeight, TakeRel, TakePrio, SendKrel, TakeKrel, Publish}
+use Rattle.laws_progress.proofs.Ticked.{ticked}
 use Rattle.sp_rules.specs.declared.node.NodeRefused.{NodeRefused}
+use Rattle.sp_rules.specs.KflowSends.{send_krel_refusal}
 use Rattle.laws_runs.proofs.FlowFacts.{first_replaced, other_replaced}
 use Rattle.laws_runs.proofs.Tables.{same_node}
 use Rattle.sp_runs.specs.Journals.{reply_word}
@@ -88,12 +87,11 @@ link_step arts x n (Datagram u bytes) o m v k reply there s says =
           let away : u ≡ v → ⊥ = λ e. z (ap (λ (w : NodeId). w.0) e) in
           Rests tt (ap (λ (q : NodeState). link_in q v) after ∙ same ∙ other_link n u v (link_after arts n u bytes) (after_peer arts n u bytes) away)
     ]
-link_step arts x n (Tick now) o m v k reply there s says = subst (λ q. LinkAfter arts n (Tick now) q v) (sym s.1) (go (due_now n) (signer_refusal n.signer))
-  where
-    go : (a : Option Ack) (r : Option SendRefused) → LinkAfter arts n (Tick now) (settled_by arts (at_time n now) a r) v
-    go None r = same_link arts n _ (Tick now) v tt refl refl
-    go (Some ack) (Some refusal) = same_link arts n _ (Tick now) v tt refl refl
-    go (Some ack) None = same_link arts n _ (Tick now) v tt refl refl
+link_step arts x n (Tick now) o m v k reply there s says =
+    subst (λ q. LinkAfter arts n (Tick now) q v) (sym s.1)
+    (same_link arts n _ (Tick now) v tt
+    (ticked (λ q. q.links ≡ n.links) arts n now refl (λ o. refl) (λ q r same. same))
+    (ticked (λ q. q.fixed ≡ n.fixed) arts n now refl (λ o. refl) (λ q r same. same)))
 link_step arts x n (SendRel dst payload) o m v k reply there s says =
     subst (λ q. LinkAfter arts n (SendRel dst payload) q v) (sym s.1) (kept_link arts (rel_refusal n dst) n _ _ v tt refl refl)
 link_step arts x n (SendPrio q) o m v k reply there s says =
@@ -101,6 +99,9 @@ link_step arts x n (SendPrio q) o m v k reply there s says =
 link_step arts x n (SetWeight u weight) o m v k reply there s says =
     subst (λ q. LinkAfter arts n (SetWeight u weight) q v) (sym s.1) (kept_link arts (weight_refusal n u weight) n _ _ v tt refl refl)
 link_step arts x n (TakeRel src) o m v k reply there s says = subst (λ q. LinkAfter arts n (TakeRel src) q v) (sym s.1) (same_link arts n _ _ v tt refl refl)
+link_step arts x n (SendKrel q) o m v k reply there s says =
+    subst (λ z. LinkAfter arts n (SendKrel q) z v) (sym s.new_is) (kept_link arts (send_krel_refusal n q s.choice) n _ _ v tt refl refl)
+link_step arts x n (TakeKrel src) o m v k reply there s says = subst (λ q. LinkAfter arts n (TakeKrel src) q v) (sym s.1) (same_link arts n _ _ v tt refl refl)
 link_step arts x n TakePrio o m v k reply there s says = subst (λ q. LinkAfter arts n TakePrio q v) (sym s.1) (same_link arts n _ _ v tt refl refl)
 link_step arts x n (Publish document) o m v k reply there s says =
     Rests tt (ap (λ (q : NodeState). link_in q v) s.1 ∙ publishing arts n document (λ q told. link_in q v ≡ link_in n v) refl (λ d reads by. refl))

@@ -1,21 +1,17 @@
 -- What the frame of a poll tells of a flow, against the node that makes it and what is seen of it.
--- that it has.
 use Rattle.laws_node.specs.Story.{journal}
 use Rattle.laws_progress.proofs.Changes.{life_is, lit, era_is}
 use Rattle.laws_progress.proofs.Hops.{IsServed, IsMade, Told}
 use Rattle.laws_progress.proofs.States.{Era, Follow, IsBetween, Leads, Watched, actives_of, flow_of, flow_seen, has_met, in_era, knows_now, sight}
 use Rattle.laws_progress.proofs.States.{view_at, view_seen}
 use Rattle.laws_runs.proofs.Running.{found_there}
-use Rattle.laws_runs.specs.Past.{holds}
 use Rattle.std.proofs.lemmas.Option.{same_Some}
 use Rattle.laws_progress.proofs.Facts.{Sight}
-use Rattle.std.proofs.Common.{◌≡◌, ◌≤◌, ◌⊎◌, ℕ, suc, ◌+◌, ◌==◌, Bool, true, false, max, List, [], ◌∷◌, ◌++◌, length, map, Option, Some, None, option_map}
+use Rattle.std.proofs.Common.{◌≡◌, ◌⊎◌, ℕ, suc, ◌==◌, Bool, true, false, List, [], ◌∷◌, ◌++◌, length, map, Option, Some, None}
 use Rattle.std.proofs.Common.{refl, sym, ap, subst, ◌∙◌, inl, inr, arith, eq-eqb, not, cond}
 use Rattle.std.specs.Prelude.{option_and_then, slice_get, ◌&&◌, ◌||◌}
-use Rattle.std.specs.Option.{option_and_then}
-use Rattle.std.proofs.lemmas.Bool.{cases_Bool, eqb-true, ne_eqb}
+use Rattle.std.proofs.lemmas.Bool.{cases_Bool, eqb-true}
 use Rattle.sp_base.specs.Cursor.{next_after}
-use Rattle.sp_base.specs.Formats.{max_rels}
 use Rattle.sp_base.specs.declared.id.Flow.{Flow}
 use Rattle.sp_base.specs.declared.id.NodeId.{NodeId}
 use Rattle.sp_frame.specs.Reliable.{Report}
@@ -24,126 +20,45 @@ use Rattle.sp_rules.specs.Flow.{FlowState, no_flow}
 use Rattle.sp_rules.specs.Node.{NodeState, is_behind, is_shut_to, link_in}
 use Rattle.sp_frame.specs.Sections.{with_document}
 use Rattle.sp_rules.specs.Parts.{nodes_of}
-use Rattle.sp_rules.specs.Polls.{contents_at, contents_to, dated, frame_to, is_served, no_contents}
-use Rattle.sp_rules.specs.Rel.{flow_in, next_flow, next_place, pairs_of, peer_in, slot_for, slot_of, view_in, View, no_view}
-use Rattle.laws_node.specs.Flows.{RelHolds}
-use Rattle.laws_node.specs.Sizes.{Sizes}
+use Rattle.sp_rules.specs.Polls.{contents_at, contents_to, frame_to, is_served, no_contents}
+use Rattle.sp_rules.specs.Rel.{flow_in, peer_in, view_in, View, no_view}
+use Rattle.sp_rules.specs.declared.kflow.FlowKind.TheVariants.{Plain}
 use Rattle.laws_runs.specs.Signs.{Good, sizes_at}
-use Rattle.laws_runs.proofs.Tables.{same_node}
 use Rattle.sp_runs.specs.Runs.{polls, is_poll}
 use Rattle.sp_runs.specs.Settings.{Setting, SettingFits}
 use Rattle.sp_runs.specs.Worlds.{frame_in, frames_in, node_in, is_running}
 use Rattle.sp_journal.specs.declared.entry.Entry.{Entry}
 use Rattle.sp_schedule_events.specs.declared.event.Event.{Event}
 use Rattle.laws_runs.specs.Premises.{ComesThrough}
-use Rattle.laws_runs.proofs.Acks.{RelAck}
 use Rattle.laws_runs.proofs.Signed.{signs}
 use Rattle.laws_progress.proofs.Framed.{Framed, frame_at}
 use Rattle.laws_progress.proofs.Versions.{has_heard}
 use Rattle.laws_progress.proofs.Made.{frames_count, FramesTurn, Makes, Misses, Leaves, frames_turn}
 use Rattle.laws_progress.proofs.Places.{get_last}
 use Rattle.laws_progress.proofs.Polls.{one_polled}
-use Rattle.laws_progress.proofs.Standing.{place_at, place_in, same_flow}
-use Rattle.laws_progress.proofs.Wires.{of_version, is_mine, number_in, slot_in, told_of, told_slot, nothing_told, is_slot}
-use Rattle.laws_progress.proofs.Makes.{SlotMade, number_taken, one_fits, slot_made, turn_flow}
-
--- ---- what a frame tells when it is made
-
--- against the node that makes it
-record MadeBy (era : Era) (flow : Flow) (place : ℕ) (n : NodeState) (u v : NodeId) (served echo : Bool) (f : Told) : Type 0 where
-  held : f.mine ≡ true → holds n flow.src era.sboot flow.dst era.dboot ≡ true
-  mine : served ≡ true → echo ≡ true → holds n flow.src era.sboot flow.dst era.dboot ≡ true → next_place n.parts.rel v ≡ Some place → f.mine ≡ true
-  base : f.mine ≡ true → f.base ≡ (flow_in n.parts.rel.flows flow).at.base
-  have : f.mine ≡ true → f.have ≡ (flow_in n.parts.rel.flows flow).at.have
-  no_ack : f.mine ≡ true → f.ack ≡ false → (flow_in n.parts.rel.flows flow).at.base ≤ (view_in (peer_in n.parts.rel.peers v).views flow).base
-  next_there : f.mine ≡ true → f.next ≤ (flow_in n.parts.rel.flows flow).at.have
-  next_near : f.mine ≡ true → f.next ≤ max (view_in (peer_in n.parts.rel.peers v).views flow).have (flow_in n.parts.rel.flows flow).at.base + 1
-  next_is : f.mine ≡ true → (u ≡ flow.dst → ⊥)
-      → ((flow_in n.parts.rel.flows flow).at.have ≤ max (view_in (peer_in n.parts.rel.peers v).views flow).have (flow_in n.parts.rel.flows flow).at.base)
-      ⊎ (f.next ≡ max (view_in (peer_in n.parts.rel.peers v).views flow).have (flow_in n.parts.rel.flows flow).at.base + 1)
-
-two_true : (a b : Bool) → (a && b) ≡ true → (a ≡ true) × (b ≡ true)
-two_true true true e = (refl, refl)
-two_true true false e = absurd (let f : false ≡ true = e in cc)
-two_true false b e = absurd (let f : false ≡ true = e in cc)
-
-made_by : (era : Era) (k : Sizes) (index format : ℕ) (flow : Flow) (nodes : List NodeId) (n : NodeState) (u v : NodeId) (served echo : Bool) → k.me ≡ u
-    → k.nodes ≡ nodes
-    → RelHolds k index n.parts.rel → RelAck n.parts.rel
-    → MadeBy era flow (place_in (pairs_of nodes) flow) n u v served echo
-    (told_slot era flow echo (option_map (dated format n.parts.lives) (slot_for n.parts.rel v)))
-made_by era k index format flow nodes n u v served echo me same h acks = go (next_flow n.parts.rel v) refl
-  where
-    go : (o : Option Flow) → next_flow n.parts.rel v ≡ o
-        → MadeBy era flow (place_in (pairs_of nodes) flow) n u v served echo
-        (told_slot era flow echo (option_map (dated format n.parts.lives) (option_map (slot_of n.parts.rel v) o)))
-    go None e = record {
-      held = λ z. absurd (let f : false ≡ true = z in cc);
-      mine = λ carried knows held turn.
-          let t = turn_flow n.parts.rel v flow nodes (h.keys ∙ ap pairs_of same) turn in
-          absurd (let f : None ≡ Some t.0 = sym e ∙ t.1 in cc);
-      base = λ z. absurd (let f : false ≡ true = z in cc);
-      have = λ z. absurd (let f : false ≡ true = z in cc);
-      no_ack = λ z. absurd (let f : false ≡ true = z in cc);
-      next_there = λ z. absurd (let f : false ≡ true = z in cc);
-      next_near = λ z. absurd (let f : false ≡ true = z in cc);
-      next_is = λ z. absurd (let f : false ≡ true = z in cc);
-    }
-    go (Some fl) e =
-        let t = dated format n.parts.lives (slot_of n.parts.rel v fl) in
-        let its : (echo && is_slot era flow t) ≡ true → fl ≡ flow = λ z. same_flow flow fl (two_true _ _ (two_true _ _ z).1).0 in
-        let of_mine : (echo && is_slot era flow t) ≡ true → SlotMade flow n.parts.rel v (slot_of n.parts.rel v fl) =
-        λ z. subst (λ g. SlotMade flow n.parts.rel v (slot_of n.parts.rel v g)) (sym (its z)) (slot_made k index n.parts.rel v flow h acks) in
-        let number : number_in t.rels ≡ number_in (slot_of n.parts.rel v fl).rels =
-        number_taken (max_rels format) (slot_of n.parts.rel v fl).rels (one_fits format) in
-        record {
-          held = λ z.
-              let boots = (two_true _ _ (two_true _ _ z).1).1 in
-              subst (λ (g : Flow). holds n g.src era.sboot g.dst era.dboot ≡ true) (its z) boots;
-          mine = λ carried knows held turn.
-              let t2 = turn_flow n.parts.rel v flow nodes (h.keys ∙ ap pairs_of same) turn in
-              let f : Some fl ≡ Some t2.0 = sym e ∙ t2.1 in
-              let g : t2.0 ≡ fl = cc in
-              let own : is_mine flow fl ≡ true = subst (λ z. is_mine flow z ≡ true) g t2.2 in
-              let is : fl ≡ flow = same_flow flow fl own in
-              let boots : holds n fl.src era.sboot fl.dst era.dboot ≡ true =
-              subst (λ (z : Flow). holds n z.src era.sboot z.dst era.dboot ≡ true) (sym is) held in
-              rw (knows, own) boots;
-          base = λ z. (of_mine z).base;
-          have = λ z. (of_mine z).have;
-          no_ack = λ z. (of_mine z).no_ack;
-          next_there = λ z. let top = (of_mine z).next_there in omega (arith, top, number);
-          next_near = λ z. let top = (of_mine z).next_near in omega (arith, top, number);
-          next_is = λ z away. elim ((of_mine z).next_is (ne_eqb _ _ (λ q. away (same_node u flow.dst (sym (ap (λ (w : NodeId). w.0) (h.me ∙ me)) ∙ q))))) [
-            | inl low ↦ inl low
-            | inr is ↦ inr (number ∙ is)
-          ];
-        }
-
--- without a slot
-none_by : (era : Era) (flow : Flow) (place : ℕ) (n : NodeState) (u v : NodeId) (served echo : Bool) → served ≡ false
-    → MadeBy era flow place n u v served echo (told_slot era flow echo None)
-none_by era flow place n u v served echo off = record {
-  held = λ z. absurd (let f : false ≡ true = z in cc);
-  mine = λ carried knows held turn. absurd (let f : true ≡ false = sym carried ∙ off in cc);
-  base = λ z. absurd (let f : false ≡ true = z in cc);
-  have = λ z. absurd (let f : false ≡ true = z in cc);
-  no_ack = λ z. absurd (let f : false ≡ true = z in cc);
-  next_there = λ z. absurd (let f : false ≡ true = z in cc);
-  next_near = λ z. absurd (let f : false ≡ true = z in cc);
-  next_is = λ z. absurd (let f : false ≡ true = z in cc);
-}
+use Rattle.laws_progress.proofs.Standing.{place_at}
+use Rattle.laws_progress.proofs.Wires.{of_version, slot_in, told_of, told_slot, nothing_told, is_slot}
+use Rattle.sp_rules.specs.Parts.{flows_of, Fixed}
+use Rattle.sp_rules.specs.declared.kflow.FlowKind.{FlowKind}
+use Rattle.sp_rules.specs.declared.kflow.FlowKind.TheVariants.{Paths}
+use Rattle.laws_node.proofs.FlowKinds.{flows_hold}
+use Rattle.laws_progress.proofs.EitherKind.{slot_of_kind}
+use Rattle.laws_progress.proofs.Makes.{Passes}
+use Rattle.sp_rules.specs.Kflow.{edge_to}
+use Rattle.sp_frame.specs.Sections.{Contents}
+use Rattle.laws_progress.proofs.MadeBy.{MadeBy, made_by, none_by, two_true}
 
 pub frame_told : (arts : Arts) (x : Setting) (era : Era) (flow : Flow) (u v : NodeId) (n : NodeState) (bytes : List ℕ) → Framed arts x u v n bytes
     → n.fixed.boot ≡ era.life u
     → told_of arts x era flow u v (Some bytes)
-    ≡ of_version (n.live.version == era.version) (told_slot era flow ((link_in n v).peer_boot == era.life v) (contents_at n v).slot)
+    ≡ of_version (n.live.version == era.version) (told_slot era flow ((link_in n v).peer_boot == era.life v) (slot_of_kind era.kind (contents_at n v)))
 frame_told arts x era flow u v n bytes f life =
     let here : ((arts.head bytes).boot == era.life u) ≡ true = eq-eqb _ _ (f.head.boot_is ∙ life) in
     rw here (ap (λ t. of_version (t == era.version)
-    (told_slot era flow ((arts.head bytes).echo == era.life v) (slot_in (arts.sections x.signature_len bytes)))) f.topology
-    ∙ ap (λ e. of_version (n.live.version == era.version) (told_slot era flow (e == era.life v) (slot_in (arts.sections x.signature_len bytes)))) f.echo
-    ∙ ap (λ s. of_version (n.live.version == era.version) (told_slot era flow ((link_in n v).peer_boot == era.life v) (slot_in s))) f.sections)
+    (told_slot era flow ((arts.head bytes).echo == era.life v) (slot_in era.kind (arts.sections x.signature_len bytes)))) f.topology
+    ∙ ap (λ e. of_version (n.live.version == era.version) (told_slot era flow (e == era.life v) (slot_in era.kind (arts.sections x.signature_len bytes))))
+    f.echo
+    ∙ ap (λ s. of_version (n.live.version == era.version) (told_slot era flow ((link_in n v).peer_boot == era.life v) (slot_in era.kind s))) f.sections)
 
 -- a frame of another life tells nothing
 pub other_told : (arts : Arts) (x : Setting) (era : Era) (flow : Flow) (u v : NodeId) (bytes : List ℕ) → ((arts.head bytes).boot == era.life u) ≡ false
@@ -170,12 +85,12 @@ served_version now f is h = record { here = is; mine = h.mine; echo = h.echo; ne
 
 -- what is seen of a node that holds the boots that count
 pub seen_flow : (arts : Arts) (x : Setting) (all : List Event) (era : Era) (flow : Flow) (w : Watched arts x all era) (u : NodeId) (n : NodeState)
-    → node_in w.at.world.nodes u ≡ Some n → in_era era flow u n ≡ true → flow_seen arts x all era flow w u ≡ flow_in n.parts.rel.flows flow
+    → node_in w.at.world.nodes u ≡ Some n → in_era era flow u n ≡ true → flow_seen arts x all era flow w u ≡ flow_in (flows_of era.kind n.parts).flows flow
 seen_flow arts x all era flow w u n at is = lit (no_flow flow) (flow_of era flow u) (node_in w.at.world.nodes u) n at ∙ rw is refl
 
 pub seen_view : (arts : Arts) (x : Setting) (all : List Event) (era : Era) (flow : Flow) (w : Watched arts x all era) (u v : NodeId) (n : NodeState)
     → node_in w.at.world.nodes u ≡ Some n → in_era era flow u n ≡ true → has_met x era v n ≡ true
-    → view_seen arts x all era flow w u v ≡ view_in (peer_in n.parts.rel.peers v).views flow
+    → view_seen arts x all era flow w u v ≡ view_in (peer_in (flows_of era.kind n.parts).peers v).views flow
 seen_view arts x all era flow w u v n at is met = lit (no_view flow) (view_at x era flow u v) (node_in w.at.world.nodes u) n at ∙ rw (is, met) refl
 
 -- the frame that a poll adds, and the node that made it
@@ -239,21 +154,32 @@ module _ (arts : Arts) (x : Setting) (all : List Event) (era : Era) (flow : Flow
 
     made_of : (b : NodeState) → Polled arts x all era flow w y u v b
         → MadeBy era flow (place_at x flow) b u v (is_served b v) ((link_in b v).peer_boot == era.life v)
-        (told_slot era flow ((link_in b v).peer_boot == era.life v) (contents_at b v).slot)
+        (told_slot era flow ((link_in b v).peer_boot == era.life v) (slot_of_kind era.kind (contents_at b v)))
     made_of b p = go (is_behind b v) (is_shut_to b v)
       where
         echo : Bool
         echo = (link_in b v).peer_boot == era.life v
 
+        none_of : (k : FlowKind) (c : Contents) → c.slot ≡ None → c.paths ≡ None → slot_of_kind k c ≡ None
+        none_of Plain c slot paths = slot
+        none_of Paths c slot paths = paths
+
+        without : (c : Contents) → c.slot ≡ None → c.paths ≡ None
+            → MadeBy era flow (place_at x flow) b u v false echo (told_slot era flow echo (slot_of_kind era.kind c))
+        without c slot paths =
+            subst (λ (o : Option Report). MadeBy era flow (place_at x flow) b u v false echo (told_slot era flow echo o)) (sym (none_of era.kind c slot paths))
+            (none_by era flow (place_at x flow) b u v false echo refl)
+
         go : (behind shut : Bool) → MadeBy era flow (place_at x flow) b u v (not behind && not shut) ((link_in b v).peer_boot == era.life v)
             (told_slot era flow ((link_in b v).peer_boot == era.life v)
-            (cond behind (with_document b.live.document) (cond shut no_contents (contents_to b.fixed b.parts v))).slot)
-        go true shut = none_by era flow (place_at x flow) b u v false echo refl
-        go false true = none_by era flow (place_at x flow) b u v false echo refl
+            (slot_of_kind era.kind (cond behind (with_document b.live.document) (cond shut no_contents (contents_to b.fixed b.parts v)))))
+        go true shut = without (with_document b.live.document) refl refl
+        go false true = without no_contents refl refl
         go false false =
             let is = (signs arts x w.at.events w.at.journal w.at.world fits reads.carries w.at.run).nodes u b p.there in
-            made_by era (sizes_at x (Good arts x w.at.events w.at.journal) u) b.signer.index b.fixed.topology.format flow (nodes_of x.topology) b u v true
-            echo refl refl is.holds.parts.rel is.acks
+            made_by era (sizes_at x (Good arts x w.at.events w.at.journal) u) b.signer.index flow (nodes_of x.topology) b u v true
+            echo refl refl (ap (λ (f : Fixed). f.topology.format) (sym is.fixed))
+            (flows_hold era.kind (sizes_at x (Good arts x w.at.events w.at.journal) u) b.parts is.holds.parts) (is.acks era.kind)
 
     met_of : (b : NodeState) → ((link_in b v).peer_boot == era.life v) ≡ true → has_met x era v b ≡ true
     met_of b is = go x.epochs
@@ -282,16 +208,16 @@ module _ (arts : Arts) (x : Setting) (all : List Event) (era : Era) (flow : Flow
       where
         of_node : (b : NodeState) → Polled arts x all era flow w y u v b → (b.fixed.boot == era.life u) ≡ true
             → IsMade (Watched arts x all era) (sight arts x all era flow) w u v
-            (told_slot era flow ((link_in b v).peer_boot == era.life v) (contents_at b v).slot)
+            (told_slot era flow ((link_in b v).peer_boot == era.life v) (slot_of_kind era.kind (contents_at b v)))
         of_node b p same =
             let made = made_of b p in
-            let f = told_slot era flow ((link_in b v).peer_boot == era.life v) (contents_at b v).slot in
+            let f = told_slot era flow ((link_in b v).peer_boot == era.life v) (slot_of_kind era.kind (contents_at b v)) in
             let era_of : f.mine ≡ true → in_era era flow u b ≡ true = λ z. let on = hop.first in let held = made.held z in rw (on, same) held in
-            let flow_of_it : f.mine ≡ true → flow_seen arts x all era flow w u ≡ flow_in b.parts.rel.flows flow =
+            let flow_of_it : f.mine ≡ true → flow_seen arts x all era flow w u ≡ flow_in (flows_of era.kind b.parts).flows flow =
             λ z. seen_flow arts x all era flow w u b p.there (era_of z) in
             let echo_of : f.mine ≡ true → ((link_in b v).peer_boot == era.life v) ≡ true = mine_echo era flow ((link_in b v).peer_boot == era.life v)
-            (contents_at b v).slot in
-            let view_of_it : f.mine ≡ true → view_seen arts x all era flow w u v ≡ view_in (peer_in b.parts.rel.peers v).views flow =
+            (slot_of_kind era.kind (contents_at b v)) in
+            let view_of_it : f.mine ≡ true → view_seen arts x all era flow w u v ≡ view_in (peer_in (flows_of era.kind b.parts).peers v).views flow =
             λ z. seen_view arts x all era flow w u v b p.there (era_of z) (met_of b (echo_of z)) in
             record {
               base = λ z. made.base z ∙ sym (ap (λ (g : FlowState). g.at.base) (flow_of_it z));
@@ -312,8 +238,9 @@ module _ (arts : Arts) (x : Setting) (all : List Event) (era : Era) (flow : Flow
     -- where u holds the boots that count, it is there, and serves the flow at its turn
     pub serves_now : (b : NodeState) → node_in w.at.world.nodes u ≡ Some b → in_era era flow u b ≡ true → b.live.version ≡ era.version
         → (has_heard x era.version v b ≡ true → is_served b v ≡ true)
+        → Passes era.low era.high (edge_to b.parts.kflow v) (flow_in (flows_of era.kind b.parts).flows flow)
         → IsServed (Watched arts x all era) (sight arts x all era flow) (place_at x flow) flow.dst w u v told
-    serves_now b there counts version carried = elim polled_now [
+    serves_now b there counts version carried passes = elim polled_now [
       | inl missed ↦ absurd (let f : true ≡ false = sym (found_there u b w.at.world.nodes there) ∙ missed.1 in cc)
       | inr made ↦
           let same : made.0 ≡ b = same_Some made.0 b (sym made.1.there ∙ there) in
@@ -326,7 +253,7 @@ module _ (arts : Arts) (x : Setting) (all : List Event) (era : Era) (flow : Flow
       where
         of_served : (b : NodeState) → Polled arts x all era flow w y u v b
             → IsServed (Watched arts x all era) (sight arts x all era flow) (place_at x flow) flow.dst w u v
-            (told_slot era flow ((link_in b v).peer_boot == era.life v) (contents_at b v).slot)
+            (told_slot era flow ((link_in b v).peer_boot == era.life v) (slot_of_kind era.kind (contents_at b v)))
         of_served c p =
             let same : c ≡ b = same_Some c b (sym p.there ∙ there) in
             let mine_era : in_era era flow u c ≡ true = ap (in_era era flow u) same ∙ counts in
@@ -334,11 +261,11 @@ module _ (arts : Arts) (x : Setting) (all : List Event) (era : Era) (flow : Flow
             let lived = in_it.0 in
             let made = made_of c p in
             let echo = (link_in c v).peer_boot == era.life v in
-            let slot = (contents_at c v).slot in
+            let slot = (slot_of_kind era.kind (contents_at c v)) in
             let knows : (sight arts x all era flow).knows w u v ≡ (echo && has_heard x era.version v c) =
             lit false (knows_now x era u v) (node_in w.at.world.nodes u) c p.there ∙ rw lived refl in
-            let last = lit None (λ q. (peer_in q.parts.rel.peers v).last) (node_in w.at.world.nodes u) c p.there in
-            let actives : (sight arts x all era flow).actives w u ≡ map (λ f. f.active) c.parts.rel.flows =
+            let last = lit None (λ q. (peer_in (flows_of era.kind q.parts).peers v).last) (node_in w.at.world.nodes u) c p.there in
+            let actives : (sight arts x all era flow).actives w u ≡ map (λ f. f.active) (flows_of era.kind c.parts).flows =
             lit [] (actives_of era flow u) (node_in w.at.world.nodes u) c p.there ∙ rw mine_era refl in
             let flow_now = seen_flow arts x all era flow w u c p.there mine_era in
             record {
@@ -346,16 +273,18 @@ module _ (arts : Arts) (x : Setting) (all : List Event) (era : Era) (flow : Flow
               mine = λ is turn.
                   let known = two_true echo (has_heard x era.version v c) (sym knows ∙ is) in
                   made.mine (subst (λ (q : NodeState). has_heard x era.version v q ≡ true → is_served q v ≡ true) (sym same) carried known.1) known.0 in_it.1
-                  (ap (λ o. next_after o (map (λ f. f.active) c.parts.rel.flows)) (sym last)
+                  (ap (λ o. next_after o (map (λ f. f.active) (flows_of era.kind c.parts).flows)) (sym last)
                   ∙ ap (next_after ((sight arts x all era flow).last w u v)) (sym actives) ∙ turn);
               echo = λ is. slot_echo era flow echo slot ∙ (two_true echo (has_heard x era.version v c) (sym knows ∙ is)).0;
-              next_is = λ z away.
+              next_is = λ z away ready.
                   let met : has_met x era v c ≡ true = met_of c (mine_echo era flow echo slot z) in
                   let view_now = seen_view arts x all era flow w u v c p.there mine_era met in
                   let base = ap (λ (g : FlowState). g.at.base) flow_now in
                   let have = ap (λ (g : FlowState). g.at.have) flow_now in
                   let view = ap (λ (g : View). g.have) view_now in
-                  elim (made.next_is z away) [
+                  elim (made.next_is z away (omega (arith, ready, base))
+                  (subst (λ (q : NodeState). Passes era.low era.high (edge_to q.parts.kflow v) (flow_in (flows_of era.kind q.parts).flows flow)) (sym same)
+                  passes)) [
                     | inl low ↦ inl (omega (arith, low, base, have, view))
                     | inr is ↦ inr (omega (arith, is, base, view))
                   ];

@@ -33,6 +33,8 @@ pass_is u v k (events.Pass a b c) is =
 pass_is u v k (events.Rel a b c) is = absurd (let e : false ≡ true = is in cc)
 pass_is u v k (events.Prio a b c f g h) is = absurd (let e : false ≡ true = is in cc)
 pass_is u v k (events.Take a b) is = absurd (let e : false ≡ true = is in cc)
+pass_is u v k (events.Krel a b c f) is = absurd (let e : false ≡ true = is in cc)
+pass_is u v k (events.KTake a b) is = absurd (let e : false ≡ true = is in cc)
 pass_is u v k (events.TakePrio a) is = absurd (let e : false ≡ true = is in cc)
 pass_is u v k (events.Tick a b) is = absurd (let e : false ≡ true = is in cc)
 pass_is u v k (events.Weight a b c) is = absurd (let e : false ≡ true = is in cc)

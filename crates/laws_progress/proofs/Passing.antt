@@ -9,7 +9,8 @@ use Rattle.sp_rules.specs.Parts.{changes}
 use Rattle.laws_progress.proofs.Becomes.{MovesNobody, readied_keeps}
 use Rattle.laws_progress.proofs.Calms.{Calmly, Moved, mover}
 use Rattle.laws_progress.proofs.Changes.{era_is, life_is, lit}
-use Rattle.laws_progress.proofs.Hears.{is_of, knows, link_row, lt_on, rise_now, rows, top_now}
+use Rattle.laws_progress.proofs.Hears.{is_of, knows, link_row, rise_now, rows, top_now}
+use Rattle.laws_progress.proofs.Meetings.{lt_on}
 use Rattle.laws_progress.proofs.KnownRuns.{KnowsOf}
 use Rattle.laws_progress.proofs.MakesNow.{slot_echo}
 use Rattle.laws_progress.proofs.Passes.{datagram_link, datagram_read, in_place, pass_is}
@@ -58,7 +59,7 @@ told_there arts x era flow u v (Some bytes) is = elim (cases_Bool ((arts.head by
     there = refl;
     life = t;
     version = rw t refl;
-    echo = rw t (slot_echo era flow ((arts.head bytes).echo == era.life v) (slot_in (arts.sections x.signature_len bytes)));
+    echo = rw t (slot_echo era flow ((arts.head bytes).echo == era.life v) (slot_in era.kind (arts.sections x.signature_len bytes)));
   }
   | inr t ↦ absurd
       (elim is [

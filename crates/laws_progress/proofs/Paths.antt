@@ -36,7 +36,8 @@ one_round : (W : Type 0) (Next : W → Event → W → Type 0) (Hop : NodeId →
     → Facts W Next Hop at place bound least s d → 1 ≤ least
     → (path : List NodeId) (h : ℕ) → AreHops Hop path → AreInner d path h → length path ≡ suc h → (before gap during : List Event) (w x y : W)
     → Goes W Next w gap x → Goes W Next x during y → AreCounted W at Hop (before ++ gap) x
-    → AreKnown W at path x → IsCompleteRound least s d path (before ++ gap) during → IsRound h (numbers W at path w) (numbers W at path y)
+    → AreKnown W at path x → IsCompleteRound at.kind least s d path (before ++ gap) during
+    → IsRound h at.low at.high (numbers W at path w) (numbers W at path y)
 one_round W Next Hop at place bound least s d facts one path h hops inner long before gap during w x y to_x to_y counted known round =
     let all = joined W Next gap during w x y to_x to_y in
     let hop : (i : ℕ) → i < h → HopRound W at (get_or path i nobody) (get_or path (suc i) nobody) x y = λ i lt.
@@ -45,7 +46,7 @@ one_round W Next Hop at place bound least s d facts one path h hops inner long b
     let both = hops i _ _ a b in
     let k = known i _ _ a b in
     hop_round W Next Hop at place bound least s d facts (get_or path i nobody) (get_or path (suc i) nobody) both.0 both.1 (inner i lt) (before ++ gap) during x
-    y to_y counted one (hop_at (λ u v. IsHopServed least s d u v (before ++ gap) during) path round i _ _ a b) k.0 k.1 in
+    y to_y counted one (hop_at (λ u v. IsHopServed at.kind least s d u v (before ++ gap) during) path round i _ _ a b) k.0 k.1 in
     let base = λ (u : NodeId). rises W Next (λ z. at.base z u) (λ p q e n. facts.base_rises p q e u n) gap w x to_x in
     let have = λ (u : NodeId). rises W Next (λ z. at.have z u) (λ p q e n. facts.have_rises p q e u n) gap w x to_x in
     record {
@@ -57,27 +58,28 @@ one_round W Next Hop at place bound least s d facts one path h hops inner long b
             all;
       };
       base_on = λ i lt. let r = (hop i lt).base_on in let b = base (get_or path i nobody) in omega (arith, r, b);
-      have_on = λ i lt. let r = (hop i lt).have_on in let a = have (get_or path i nobody) in let b = have (get_or path (suc i) nobody) in
+      have_on = λ i lt ready. let r = (hop i lt).have_on (let b = base (get_or path i nobody) in omega (arith, ready, b)) in let a = have (get_or path i nobody)
+          in let b = have (get_or path (suc i) nobody) in
           omega (arith, r, a, b);
       base_back = λ i lt. let r = (hop i lt).base_back in let b = base (get_or path (suc i) nobody) in omega (arith, r, b);
     }
 
-first_then : (h n : ℕ) (x y z : Numbers) → IsRound h x y → Rounds h n y z → Rounds h (suc n) x z
-first_then h zero x y z r Begun = Then Begun r
-first_then h (suc n) x y z r (Then {y = m} rs last) = Then (first_then h n x y m r rs) last
+first_then : (h low high n : ℕ) (x y z : Numbers) → IsRound h low high x y → Rounds h low high n y z → Rounds h low high (suc n) x z
+first_then h low high zero x y z r Begun = Then Begun r
+first_then h low high (suc n) x y z r (Then {y = m} rs last) = Then (first_then h low high n x y m r rs) last
 
 -- where complete rounds lead, and what is left of the events
 pub record After (W : Type 0) (Next : W → Event → W → Type 0) (at : Sight W) (path : List NodeId) (h n : ℕ) (w y : W) : Type 0 where
   pub there : W
   pub rest : List Event
-  pub rounds : Rounds h n (numbers W at path w) (numbers W at path there)
+  pub rounds : Rounds h at.low at.high n (numbers W at path w) (numbers W at path there)
   pub then_ : Goes W Next there rest y
 
 pub all_rounds : (W : Type 0) (Next : W → Event → W → Type 0) (Hop : NodeId → NodeId → Type 0) (at : Sight W) (place bound least : ℕ) (s d : NodeId)
     → Facts W Next Hop at place bound least s d → 1 ≤ least
     → (path : List NodeId) (h : ℕ) → AreHops Hop path → AreInner d path h → length path ≡ suc h → (n : ℕ) (before after : List Event) (w y : W)
     → Goes W Next w after y → AreCounted W at Hop before w
-    → AreKnown W at path w → CompleteRounds least s d path n before after → After W Next at path h n w y
+    → AreKnown W at path w → CompleteRounds at.kind least s d path n before after → After W Next at path h n w y
 all_rounds W Next Hop at place bound least s d facts one path h hops inner long zero before after w y g counted known None_left =
     record { there = w; rest = after; rounds = Begun; then_ = g }
 all_rounds W Next Hop at place bound least s d facts one path h hops inner long (suc n) before all w y g counted known
@@ -92,7 +94,7 @@ all_rounds W Next Hop at place bound least s d facts one path h hops inner long 
     let r = one_round W Next Hop at place bound least s d facts one path h hops inner long before gap during w p.mid q.mid p.first q.first c k round in
     let rest = all_rounds W Next Hop at place bound least s d facts one path h hops inner long n (before ++ (gap ++ during)) after q.mid y q.then_ c2 k2
     rounds in
-    record { there = rest.there; rest = rest.rest; rounds = first_then h n _ _ _ r rest.rounds; then_ = rest.then_ }
+    record { there = rest.there; rest = rest.rest; rounds = first_then h at.low at.high n _ _ _ r rest.rounds; then_ = rest.then_ }
 
 -- the first round makes the boots known
 pub record First (W : Type 0) (Next : W → Event → W → Type 0) (Hop : NodeId → NodeId → Type 0) (at : Sight W) (least : ℕ) (s d : NodeId) (path : List NodeId)
@@ -105,12 +107,12 @@ pub record First (W : Type 0) (Next : W → Event → W → Type 0) (Hop : NodeI
   pub then_ : Goes W Next there rest y
   pub counted : AreCounted W at Hop before there
   pub known : AreKnown W at path there
-  pub rounds : CompleteRounds least s d path n before rest
+  pub rounds : CompleteRounds at.kind least s d path n before rest
 
 pub first_round : (W : Type 0) (Next : W → Event → W → Type 0) (Hop : NodeId → NodeId → Type 0) (at : Sight W) (place bound least : ℕ) (s d : NodeId)
     → Facts W Next Hop at place bound least s d → 1 ≤ least
     → (path : List NodeId) → AreHops Hop path → (n : ℕ) (before after : List Event) (w y : W) → Goes W Next w after y → AreCounted W at Hop before w
-    → CompleteRounds least s d path (suc n) before after → First W Next Hop at least s d path n w y
+    → CompleteRounds at.kind least s d path (suc n) before after → First W Next Hop at least s d path n w y
 first_round W Next Hop at place bound least s d facts one path hops n before all w y g counted (Round gap during {after = after} round rounds) =
     let p = apart W Next gap (during ++ after) w y g in
     let q = apart W Next during after p.mid y p.then_ in
@@ -127,17 +129,17 @@ first_round W Next Hop at place bound least s d facts one path hops n before all
       counted = c2;
       known = λ i u v a b. let h = hops i u v a b in
           hop_known W Next Hop at place bound least s d facts u v h.0 h.1 (before ++ gap) during p.mid q.mid q.first c one
-          (hop_at (λ u v. IsHopServed least s d u v (before ++ gap) during) path round i u v a b);
+          (hop_at (λ u v. IsHopServed at.kind least s d u v (before ++ gap) during) path round i u v a b);
       rounds = rounds;
     }
 
--- a number that the source has, b above its base, is had at the end after h + b + 1 complete rounds
+-- a number of the window that the source has, at most b above its beginning, is had at the end after h + b + 1 complete rounds
 pub progress : (W : Type 0) (Next : W → Event → W → Type 0) (Hop : NodeId → NodeId → Type 0) (at : Sight W) (place bound least : ℕ) (s d : NodeId)
     → Facts W Next Hop at place bound least s d → 1 ≤ least
     → (path : List NodeId) (h : ℕ) → AreHops Hop path → AreInner d path h → length path ≡ suc h → slice_get path 0 ≡ Some s → slice_get path h ≡ Some d
     → (b q : ℕ) (before after : List Event) (w y : W) → Goes W Next w after y → AreCounted W at Hop before w
-    → q ≤ at.have w s → q ≤ at.base w s + b → CompleteRounds least s d path (suc (h + b)) before after → q ≤ at.have y d
-progress W Next Hop at place bound least s d facts one path h hops inner long from to b q before after w y g counted has near rounds =
+    → at.low ≤ at.base w s → q ≤ at.high → q ≤ at.have w s → q ≤ at.low + b → CompleteRounds at.kind least s d path (suc (h + b)) before after → q ≤ at.have y d
+progress W Next Hop at place bound least s d facts one path h hops inner long from to b q before after w y g counted ready within has near rounds =
     let f = first_round W Next Hop at place bound least s d facts one path hops (h + b) before after w y g counted rounds in
     let it = all_rounds W Next Hop at place bound least s d facts one path h hops inner long (h + b) f.before f.rest f.there y f.then_ f.counted f.known
     f.rounds in
@@ -147,8 +149,8 @@ progress W Next Hop at place bound least s d facts one path h hops inner long fr
     let base_0 = rises W Next (λ z. at.base z s) (λ p r e n. facts.base_rises p r e s n) f.events w f.there f.first in
     let end = rises W Next (λ z. at.have z d) (λ p r e n. facts.have_rises p r e d n) it.rest it.there y it.then_ in
     let law : q ≤ at.have it.there (get_or path h nobody) =
-    arrives h b q (numbers W at path f.there) (numbers W at path it.there) (λ i le. facts.sound f.there (get_or path i nobody))
-    (rw s_is (omega (arith, has, have_0))) (rw s_is (omega (arith, near, base_0))) it.rounds in
+    arrives h at.low at.high b q (numbers W at path f.there) (numbers W at path it.there) (λ i le. facts.sound f.there (get_or path i nobody))
+    (rw s_is (omega (arith, has, have_0))) (rw s_is (omega (arith, ready, base_0))) within near it.rounds in
     let law_d : q ≤ at.have it.there d = rw d_is at law in
     omega (arith, law_d, end)
 
@@ -157,7 +159,7 @@ pub acknowledged : (W : Type 0) (Next : W → Event → W → Type 0) (Hop : Nod
     → Facts W Next Hop at place bound least s d → 1 ≤ least
     → (path : List NodeId) (h : ℕ) → AreHops Hop path → AreInner d path h → length path ≡ suc h → slice_get path 0 ≡ Some s → slice_get path h ≡ Some d
     → (a : ℕ) (before after : List Event) (w y : W) → Goes W Next w after y → AreCounted W at Hop before w
-    → a ≤ at.base w d → CompleteRounds least s d path (suc h) before after → a ≤ at.base y s
+    → a ≤ at.base w d → CompleteRounds at.kind least s d path (suc h) before after → a ≤ at.base y s
 acknowledged W Next Hop at place bound least s d facts one path h hops inner long from to a before after w y g counted has rounds =
     let f = first_round W Next Hop at place bound least s d facts one path hops h before after w y g counted rounds in
     let it = all_rounds W Next Hop at place bound least s d facts one path h hops inner long h f.before f.rest f.there y f.then_ f.counted f.known f.rounds in
@@ -166,6 +168,6 @@ acknowledged W Next Hop at place bound least s d facts one path h hops inner lon
     let base_d = rises W Next (λ z. at.base z d) (λ p r e n. facts.base_rises p r e d n) f.events w f.there f.first in
     let end = rises W Next (λ z. at.base z s) (λ p r e n. facts.base_rises p r e s n) it.rest it.there y it.then_ in
     let law : a ≤ at.base it.there (get_or path 0 nobody) =
-    returns h a (numbers W at path f.there) (numbers W at path it.there) (rw d_is (omega (arith, has, base_d))) it.rounds in
+    returns h at.low at.high a (numbers W at path f.there) (numbers W at path it.there) (rw d_is (omega (arith, has, base_d))) it.rounds in
     let law_s : a ≤ at.base it.there s = rw s_is at law in
     omega (arith, law_s, end)

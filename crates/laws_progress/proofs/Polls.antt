@@ -15,7 +15,7 @@ use Rattle.sp_rules.specs.Link.{advanced}
 use Rattle.sp_rules.specs.Polls.{after_poll, polled, is_served, parts_after}
 use Rattle.sp_rules.specs.Rel.{RelPeer, RelState, is_peer, new_peer, next_place, peer_in, served, served_at}
 use Rattle.sp_rules.specs.Steps as steps
-use Rattle.sp_rules.specs.Steps.{Output, Poll}
+use Rattle.sp_rules.specs.Steps.{Output}
 use Rattle.sp_rules.specs.declared.node.NodeRefused.{NodeRefused}
 use Rattle.laws_runs.proofs.FlowFacts.{first_replaced}
 use Rattle.laws_runs.proofs.Lists.{both}
@@ -29,6 +29,9 @@ use Rattle.sp_schedule_events.specs.declared.event.Event.TheVariants as events
 use Rattle.laws_progress.proofs.States.{Era, Follow, Follows, IsBetween, IsHop, State}
 use Rattle.laws_runs.proofs.Neighbours.{hop_back}
 use Rattle.laws_progress.proofs.Keys.{peer_is}
+use Rattle.sp_rules.specs.Parts.{flows_of}
+use Rattle.sp_rules.specs.declared.kflow.FlowKind.{FlowKind}
+use Rattle.laws_runs.proofs.KindFacts.{polled_flows}
 
 -- ---- how many
 
@@ -39,6 +42,8 @@ poll_is u v (events.Poll a b) is =
 poll_is u v (events.Rel a b c) is = absurd (let e : false ≡ true = is in cc)
 poll_is u v (events.Prio a b c f g h) is = absurd (let e : false ≡ true = is in cc)
 poll_is u v (events.Take a b) is = absurd (let e : false ≡ true = is in cc)
+poll_is u v (events.Krel a b c f) is = absurd (let e : false ≡ true = is in cc)
+poll_is u v (events.KTake a b) is = absurd (let e : false ≡ true = is in cc)
 poll_is u v (events.TakePrio a) is = absurd (let e : false ≡ true = is in cc)
 poll_is u v (events.Tick a b) is = absurd (let e : false ≡ true = is in cc)
 poll_is u v (events.Weight a b c) is = absurd (let e : false ≡ true = is in cc)
@@ -102,6 +107,7 @@ between_back x era u v h =
       first = h.second;
       second = h.first;
       open_edge = ap (is_shut era.weights) (same_place v.0 u.0 x.topology.edges) ∙ h.open_edge;
+      may = ap era.over (same_place v.0 u.0 x.topology.edges) ∙ h.may;
     }
 
 -- ---- which flow
@@ -120,7 +126,8 @@ served_last r v place there next =
     (first_replaced (is_peer v) (new_peer [] v) (record (peer_in r.peers v) { last = Some place }) r.peers
     (eq-eqb _ _ (ap (λ (n : NodeId). n.0) (peer_is r v))) there)
 
-pub polled_rel : (n : NodeState) (v : NodeId) → call_refusal n v ≡ None → is_served n v ≡ true → (after_poll n v).parts.rel ≡ served n.parts.rel v
-polled_rel n v e on =
-    ap (λ (r : Option NodeRefused). (kept_or r n (called n (with_link n v (advanced (link_in n v))) (parts_after n v))).parts.rel) e
-    ∙ ap (λ (t : Bool). (cond t (polled n.fixed n.parts v) n.parts).rel) on
+pub polled_rel : (kind : FlowKind) (n : NodeState) (v : NodeId) → call_refusal n v ≡ None → is_served n v ≡ true
+    → flows_of kind (after_poll n v).parts ≡ served (flows_of kind n.parts) v
+polled_rel kind n v e on =
+    ap (λ (r : Option NodeRefused). flows_of kind (kept_or r n (called n (with_link n v (advanced (link_in n v))) (parts_after n v))).parts) e
+    ∙ ap (λ (t : Bool). flows_of kind (cond t (polled n.fixed n.parts v) n.parts)) on ∙ polled_flows kind n.fixed n.parts v

@@ -46,6 +46,9 @@ use Rattle.laws_progress.specs.Positions.{PositionClaims, PositionsAreInOrder, v
 use Rattle.laws_progress.proofs.Counting.{asked_at, few_at}
 use Rattle.laws_progress.proofs.Places.{counts_one}
 use Rattle.laws_progress.proofs.Service.{number_on}
+use Rattle.sp_rules.specs.Parts.{flows_of}
+use Rattle.sp_rules.specs.declared.kflow.FlowKind.{FlowKind}
+use Rattle.laws_node.proofs.FlowKinds.{flows_hold}
 
 -- ---- counts
 
@@ -63,7 +66,7 @@ counted_is false false h = refl
 plain_met : (x : Setting) (t : Bool) → x.epochs ≡ false → (not x.epochs || t) ≡ true
 plain_met x t off = rw off refl
 
-module _ (arts : Arts) (x : Setting) (es : List Event) (js : List Entry) (w : World) (fits : StaysUp arts x)
+module _ (kind : FlowKind) (arts : Arts) (x : Setting) (es : List Event) (js : List Entry) (w : World) (fits : StaysUp arts x)
     (through : ComesThrough x.topology.format arts x.signature_len) (one : 1 ≤ x.buffer) (run : Clean arts x es js w) (stays : TopologyStays es) where
   first_at : (u : NodeId) (n : NodeState) → node_in w.nodes u ≡ Some n → UnderFirst x n
   first_at u n at = under_first arts x es js w fits.fits through.carries run stays u n at
@@ -75,23 +78,27 @@ module _ (arts : Arts) (x : Setting) (es : List Event) (js : List Entry) (w : Wo
     abbrev flow : Flow
     flow = record { src = s; dst = d }
 
-    claims : FlowClaims arts x s d es js w
-    claims = flows_are_kept arts x es js w fits through.carries run s d (both _ _ from).0 to different
+    claims : FlowClaims kind arts x s d es js w
+    claims = flows_are_kept kind arts x es js w fits through.carries run s d (both _ _ from).0 to different
 
     -- at another node than d each number after the base has its message
-    position_at : (u : NodeId) (n : NodeState) → node_in w.nodes u ≡ Some n → (u ≡ d → ⊥) → IsPosition (flow_at n s d).at
+    position_at : (u : NodeId) (n : NodeState) → node_in w.nodes u ≡ Some n → (u ≡ d → ⊥) → IsPosition (flow_at kind n s d).at
     position_at u n at other =
         let k = sizes_at x (Good arts x es js) u in
         let nodes = nodes_hold x.topology.format x.topology.height 0 x.topology.nodes fits.fits.topology.ranges.nodes in
-        let rel = ((signs arts x es js w fits.fits through.carries run).nodes u n at).holds.parts.rel in
-        let row = read k n.signer.index n.parts.rel.flows flow (in_range x.topology.format (nodes_of x.topology) s nodes (both _ _ from).0)
+        let rel = flows_hold kind k n.parts ((signs arts x es js w fits.fits through.carries run).nodes u n at).holds.parts in
+        let row = read kind k n.signer.index (flows_of kind n.parts).flows flow (in_range x.topology.format (nodes_of x.topology) s nodes (both _ _ from).0)
         (in_range x.topology.format (nodes_of x.topology) d nodes (both _ _ to).0) rel.flows in
-        let end : (flow_at n s d).dst ≡ d = ap (λ (f : Flow). f.dst) (found_ends n.parts.rel.flows flow) in
+        let end : (flow_at kind n s d).dst ≡ d = ap (λ (f : Flow). f.dst) (found_ends (flows_of kind n.parts).flows flow) in
         row.standing.position (ne_eqb _ _ (λ same. other (sym (same_node _ _ same) ∙ end)))
 
     -- every correct node is watched in its only life
     abbrev era : Era
     era = record {
+      kind = kind;
+      low = 0;
+      high = 0;
+      over = λ edge. true;
       on = is_correct x;
       life = λ u. 1;
       version = x.topology.version;
@@ -155,7 +162,7 @@ module _ (arts : Arts) (x : Setting) (es : List Event) (js : List Entry) (w : Wo
         (λ u v on joined n at. sent_within arts x es js w fits.fits through.carries run u v joined n at)
 
     hop : (u v : NodeId) (n m : NodeState) → IsTrue (is_hop x u v) → node_in w.nodes u ≡ Some n → node_in w.nodes v ≡ Some m
-        → ((view_at n v s d).base ≤ (flow_at m s d).at.base) × ((view_at n v s d).have ≤ (flow_at m s d).at.have)
+        → ((view_at kind n v s d).base ≤ (flow_at kind m s d).at.base) × ((view_at kind n v s d).have ≤ (flow_at kind m s d).at.have)
     hop u v n m joined at there =
         let flow : Flow = record { src = s; dst = d } in
         let u_on = correct_at u n at in
@@ -166,6 +173,7 @@ module _ (arts : Arts) (x : Setting) (es : List Event) (js : List Entry) (w : Wo
           second = u_on;
           open_edge =
               first_open x fits.fits v u (both_ways x u v (record { first = u_on; second = v_on; joined = joined })).joined;
+          may = refl;
         } in
         let h = always arts x es era flow fits.fits through is_era watched v u back in
         let world = ap (λ (z : State arts x es). z.world) watched_at in
@@ -188,10 +196,10 @@ module _ (arts : Arts) (x : Setting) (es : List Event) (js : List Entry) (w : Wo
             let held = both_held n s d 0 0 (none s) (none d) in
             rw (life, held) refl
 
-    goes_on : (u : NodeId) (n : NodeState) → node_in w.nodes u ≡ Some n → has_ended n s d ≡ false
-    goes_on u n at = not_ended arts x es js w fits.fits through.carries run stays u n at s d
+    goes_on : (u : NodeId) (n : NodeState) → node_in w.nodes u ≡ Some n → has_ended kind n s d ≡ false
+    goes_on u n at = not_ended arts x es js w fits.fits through.carries run stays u n at kind s d
 
-    positions : PositionClaims arts x s d es js w
+    positions : PositionClaims kind arts x s d es js w
     positions = record {
       base = λ u n end at there. let low = claims.base u n at in let top = claims.base_at_end end there (goes_on d end there) in omega (arith, low, top);
       base_at_end = λ end there.
@@ -209,13 +217,13 @@ module _ (arts : Arts) (x : Setting) (es : List Event) (js : List Entry) (w : Wo
 -- ---- the law
 
 pub positions_are_in_order : PositionsAreInOrder
-positions_are_in_order arts x es js w fits through one run stays = record {
-  positions = λ s d from to different. positions arts x es js w fits through one run stays s d from to different;
+positions_are_in_order kind arts x es js w fits through one run stays = record {
+  positions = λ s d from to different. positions kind arts x es js w fits through one run stays s d from to different;
   counted = λ u n at k none inside on.
-      let there = slice_get-get_or n.parts.rel.flows k none inside in
-      counted_is _ _ (asked_at arts x es js w fits.fits through.carries run u n at k _ there on);
+      let there = slice_get-get_or (flows_of kind n.parts).flows k none inside in
+      counted_is _ _ (asked_at kind arts x es js w fits.fits through.carries run u n at k _ there on);
   few = λ u n at.
-      let most = few_at arts x es fits.fits through.carries (last_state arts x es js w run) u n at in
-      let same = rows_on n.parts.rel.flows in
+      let most = few_at kind arts x es fits.fits through.carries (last_state arts x es js w run) u n at in
+      let same = rows_on (flows_of kind n.parts).flows in
       omega (arith, most, same);
 }

@@ -1,11 +1,4 @@
 -- What a step does to flows: no base and no have falls, no flow that is active stops being so, and no client's taking is undone.
-use Rattle.sp_rules.specs.Link.{advanced}
-use Rattle.sp_rules.specs.Polls.{is_served, parts_after, polled}
-use Rattle.laws_progress.proofs.Versions.{closed_flow}
-use Rattle.laws_node.proofs.Adopting.{publishing, reading}
-use Rattle.sp_rules.specs.Documents.{under_topology}
-use Rattle.sp_rules.specs.declared.node.NodeRefused.{NodeRefused}
-use Rattle.sp_topology.specs.declared.topology.Topology.{Topology}
 use Rattle.std.proofs.Common.{◌≡◌, ◌<◌, ◌≤◌, ◌⊎◌, ℕ, ◌-◌, ◌==◌, Bool, true, false, cond, eqb, List, [], ◌∷◌, map, length, drop, Option, Some, None, refl, sym}
 use Rattle.std.proofs.Common.{ap, subst, ◌∙◌, inl, inr, arith}
 use Rattle.std.specs.Prelude.{◌&&◌}
@@ -14,37 +7,30 @@ use Rattle.std.proofs.lemmas.List.{length-append}
 use Rattle.sp_base.specs.declared.id.Flow.{Flow}
 use Rattle.sp_base.specs.declared.id.NodeId.{NodeId}
 use Rattle.sp_msg.specs.Bodies.{payload_of}
-use Rattle.sp_msg.specs.declared.body.Ack.{Ack}
-use Rattle.sp_msg.specs.declared.body.Body.TheVariants as bodies
 use Rattle.sp_msg.specs.declared.kept.Kept.{Kept}
-use Rattle.sp_msg.specs.declared.refused.SendRefused.{SendRefused}
 use Rattle.sp_rules.proofs.FlowJudged.{found_ends, same_ends}
-use Rattle.sp_rules.specs.Answers.{ack_answer, epoch_answer, is_new, prio_answer, rel_answer, weight_answer}
+use Rattle.sp_rules.specs.Answers.{epoch_answer, is_new}
 use Rattle.sp_rules.specs.Arts.{Arts}
-use Rattle.sp_rules.specs.Arrivals.{arrival_at, greeted, parts_met, reply_at, sections_in, before_document, document_at, read_by, rises}
+use Rattle.sp_rules.specs.Arrivals.{greeted, rises}
 use Rattle.sp_rules.specs.Flow.{FlowState, acknowledged_by, after_take, concluded, ends, flow_said, is_flow, no_flow, pushed, received}
-use Rattle.sp_rules.specs.Handle.{Arrival, handle, handle_all, met, offer_to, prio_handled}
-use Rattle.sp_rules.specs.Lives.{are_held, boot_said, held_boot, is_dated, judge_epoch, origin_said}
-use Rattle.sp_rules.specs.Node.{NodeState, call_refusal, kept_or, link_in, signed_now, called, with_link}
+use Rattle.sp_rules.specs.Handle.{Arrival, handle, handle_all, met}
+use Rattle.sp_rules.specs.Lives.{boot_said, held_boot, judge_epoch, origin_said}
+use Rattle.sp_rules.specs.Node.{NodeState}
 use Rattle.sp_rules.specs.Parts.{Parts, is_signed}
 use Rattle.sp_rules.specs.Pieces.{Piece, AckPiece, PrioAckPiece, PrioPiece, RelPiece, ReportPiece, WeightPiece, EpochPiece}
-use Rattle.sp_rules.specs.Rel.{RelPeer, RelState, View, is_end, is_over, is_peer, is_view, no_view, restarted, view_in, view_less, viewed, views_less}
-use Rattle.sp_rules.specs.Rel.{admit_ack, admit_rel, judge_ack_of, judge_rel_of, pushed_in, due_place, flow_in, flow_to_me, is_to, next_place, put_flow}
+use Rattle.sp_rules.specs.Rel.{RelPeer, RelState, View, is_end, is_peer, is_view, no_view, restarted, view_in, view_less, viewed, views_less}
+use Rattle.sp_rules.specs.Rel.{admit_ack, admit_rel, pushed_in, due_place, flow_in, flow_to_me, is_to, next_place, put_flow}
 use Rattle.sp_rules.specs.Rel.{reported, served, served_at, settled, settled_at, told, took, with_flow, with_peer, peer_in}
-use Rattle.sp_rules.specs.Sends.{rel_body, rel_refusal, send_prio_refusal, signer_refusal, weight_refusal}
-use Rattle.sp_rules.specs.Steps.{Input, NodeStep, Output, Poll, Datagram, Tick, SendRel, SendPrio, SetWeight, TakeRel, TakePrio, Publish}
-use Rattle.sp_rules.specs.Ticks.{at_time, due_now, settled_by}
-use Rattle.sp_rules.specs.Prio.{judge_prio}
-use Rattle.sp_rules.specs.Weights.{held}
 use Rattle.sp_rules.specs.declared.answers.Item.TheVariants as items
-use Rattle.sp_rules.specs.declared.answers.PrioAnswer.{PrioAnswer}
-use Rattle.sp_rules.specs.declared.answers.PrioAnswer.TheVariants as prios
 use Rattle.laws_node.proofs.Tables.{cond_either}
 use Rattle.laws_node.specs.Epochs.{Follows}
 use Rattle.laws_runs.proofs.Lists.{both}
-use Rattle.laws_runs.proofs.NoStarts.{NoStart, pieces_at}
-use Rattle.laws_runs.proofs.StartPieces.{StartLast, greeted_lives, last_where, same_lives, start_follows}
+use Rattle.laws_runs.proofs.NoStarts.{NoStart}
+use Rattle.laws_runs.proofs.StartPieces.{StartLast, same_lives, start_follows}
 use Rattle.laws_runs.proofs.Tables.{same_node}
+use Rattle.sp_rules.specs.Parts.{flows_of}
+use Rattle.sp_rules.specs.declared.kflow.FlowKind.{FlowKind}
+use Rattle.laws_progress.proofs.EitherKind.{PiecesKeep, StepsKeep, greeted_either, met_flows, piece_flows}
 
 pub record FlowLater (f g : FlowState) : Type 0 where
   pub base : f.at.base ≤ g.at.base
@@ -90,7 +76,7 @@ take_later f = record { base = omega arith; have = omega arith; active = λ on. 
 
 -- ---- all flows
 
-alike : (a b : FlowState) (flow : Flow) → ends a ≡ ends b → is_flow flow a ≡ is_flow flow b
+pub alike : (a b : FlowState) (flow : Flow) → ends a ≡ ends b → is_flow flow a ≡ is_flow flow b
 alike a b flow e = ap (λ (g : Flow). (eqb g.src.0 flow.src.0) && (eqb g.dst.0 flow.dst.0)) e
 
 put_later : (flow : Flow) (g : FlowState) (fs : List FlowState) → ends g ≡ flow → FlowLater (flow_in fs flow) g → (other : Flow)
@@ -137,7 +123,7 @@ pub reported_later : (r : RelState) (v : NodeId) (flow : Flow) (base have : ℕ)
 reported_later r v flow base have =
     cond_either (RelLater r) (flow_in r.flows flow).active (with_peer r v (told (peer_in r.peers v) flow base have)) r (rel_same r) (rel_same r)
 
-served_later : (r : RelState) (v : NodeId) → RelLater r (served r v)
+pub served_later : (r : RelState) (v : NodeId) → RelLater r (served r v)
 served_later r v = go (next_place r v)
   where
     go : (place : Option ℕ) → RelLater r (served_at r v place)
@@ -160,33 +146,26 @@ sent_later r o = let flow = flow_said o.body in let f = flow_in r.flows flow in 
 
 -- ---- pieces
 
-abbrev PartsLater : Parts → Parts → Type 0
-PartsLater p q = RelLater p.rel q.rel
+abbrev PartsLater : FlowKind → Parts → Parts → Type 0
+PartsLater kind p q = RelLater (flows_of kind p) (flows_of kind q)
 
-piece_later : (arts : Arts) (at : Arrival) (p : Parts) (piece : Piece) → NoStart piece → PartsLater p (handle arts at p piece).parts
-piece_later arts at p (WeightPiece o) none =
-    cond_either (PartsLater p) (is_new (items.Weight (weight_answer (is_signed arts at.fixed o) (offer_to at.fixed.me p.weights o.body))))
-    (record p { weights = held p.weights o }) p (rel_same p.rel) (rel_same p.rel)
-piece_later arts at p (PrioAckPiece number) none = rel_same p.rel
-piece_later arts at p (PrioPiece number o) none = go (prio_answer (is_signed arts at.fixed o) (is_dated p.lives o.body) (judge_prio p.prio o.body at.now))
-  where
-    go : (answer : PrioAnswer) → PartsLater p (prio_handled at.from answer number o p).parts
-    go prios.New = rel_same p.rel
-    go prios.Seen = rel_same p.rel
-    go prios.BadEnd = rel_same p.rel
-    go prios.Expired = rel_same p.rel
-    go prios.BadSig = rel_same p.rel
-    go prios.Epoch = rel_same p.rel
-piece_later arts at p (ReportPiece flow sboot dboot base have) none =
-    cond_either (PartsLater p) (are_held p.lives flow sboot dboot) (record p { rel = reported p.rel at.from flow base have }) p
-    (reported_later p.rel at.from flow base have) (rel_same p.rel)
-piece_later arts at p (AckPiece flow o) none =
-    cond_either (PartsLater p) (is_new (items.Ack (ack_answer (is_signed arts at.fixed o) (is_dated p.lives o.body) (judge_ack_of p.rel flow o.body))))
-    (record p { rel = admit_ack p.rel o }) p (admit_ack_later p.rel o) (rel_same p.rel)
-piece_later arts at p (RelPiece flow o) none =
-    cond_either (PartsLater p) (is_new (items.Rel (rel_answer (is_signed arts at.fixed o) (is_dated p.lives o.body) (judge_rel_of p.rel flow o.body))))
-    (record p { rel = admit_rel p.rel o }) p (admit_rel_later p.rel o) (rel_same p.rel)
-piece_later arts at p (EpochPiece o) none = absurd none
+pieces_keep : (r : RelState) (v : NodeId) → PiecesKeep (RelLater r) v
+pieces_keep r v = record {
+  report = λ t flow base have h. rel_then r t (reported t v flow base have) h (reported_later t v flow base have);
+  ack = λ t o h. rel_then r t (admit_ack t o) h (admit_ack_later t o);
+  message = λ t flow o new h. rel_then r t (admit_rel t o) h (admit_rel_later t o);
+}
+
+piece_later : (kind : FlowKind) (arts : Arts) (at : Arrival) (p : Parts) (piece : Piece) → NoStart piece → PartsLater kind p (handle arts at p piece).parts
+piece_later kind arts at p piece none =
+    piece_flows (RelLater (flows_of kind p)) kind arts at p piece none (pieces_keep (flows_of kind p) at.from) (rel_same (flows_of kind p))
+
+pub steps_keep : (r : RelState) (arts : Arts) (n : NodeState) (kind : FlowKind) → StepsKeep (RelLater r) arts n kind
+steps_keep r arts n kind = record {
+  settle = λ t o h. rel_then r t (settled t o) h (settled_later t o);
+  push = λ o is h. rel_then r (flows_of kind n.parts) (pushed_in (flows_of kind n.parts) o) h (sent_later (flows_of kind n.parts) o);
+  take = λ t src h. rel_then r t (took t src) h (took_later t src);
+}
 
 -- ---- an Epoch object
 
@@ -231,30 +210,38 @@ restarted_view v u flow r = go r.peers
 
 -- Where an event leaves the boots of a flow's ends that a node holds, the flow only goes on there; and where one of them rises, the flow is as before its first
 -- message, and nothing is known of it at any neighbour
-pub data PartsGo (flow : Flow) (p q : Parts) : Type 0 where
+pub data PartsGo (kind : FlowKind) (flow : Flow) (p q : Parts) : Type 0 where
   Goes_on : held_boot q.lives flow.src ≡ held_boot p.lives flow.src → held_boot q.lives flow.dst ≡ held_boot p.lives flow.dst
-      → FlowLater (flow_in p.rel.flows flow) (flow_in q.rel.flows flow) → PartsGo flow p q
+      → FlowLater (flow_in (flows_of kind p).flows flow) (flow_in (flows_of kind q).flows flow) → PartsGo kind flow p q
   Begins_anew : (held_boot p.lives flow.src < held_boot q.lives flow.src) ⊎ (held_boot p.lives flow.dst < held_boot q.lives flow.dst)
-      → flow_in q.rel.flows flow ≡ no_flow flow → ((u : NodeId) → view_in (peer_in q.rel.peers u).views flow ≡ no_view flow) → PartsGo flow p q
+      → flow_in (flows_of kind q).flows flow ≡ no_flow flow → ((u : NodeId) → view_in (peer_in (flows_of kind q).peers u).views flow ≡ no_view flow)
+      → PartsGo kind flow p q
+
+pub goes_same : (kind : FlowKind) (flow : Flow) (p : Parts) → PartsGo kind flow p p
+goes_same kind flow p = Goes_on refl refl (same_later (flow_in (flows_of kind p).flows flow))
 
 -- after something that leaves the boots
-then_go : (flow : Flow) (p q r : Parts) → q.lives ≡ p.lives → FlowLater (flow_in p.rel.flows flow) (flow_in q.rel.flows flow) → PartsGo flow q r
-    → PartsGo flow p r
-then_go flow p q r same one (Goes_on src dst two) =
+pub then_go : (kind : FlowKind) (flow : Flow) (p q r : Parts) → q.lives ≡ p.lives
+    → FlowLater (flow_in (flows_of kind p).flows flow) (flow_in (flows_of kind q).flows flow) → PartsGo kind flow q r
+    → PartsGo kind flow p r
+then_go kind flow p q r same one (Goes_on src dst two) =
     Goes_on (src ∙ ap (λ ls. held_boot ls flow.src) same) (dst ∙ ap (λ ls. held_boot ls flow.dst) same) (then_later _ _ _ one two)
-then_go flow p q r same one (Begins_anew rises none views) =
+then_go kind flow p q r same one (Begins_anew rises none views) =
     let src = ap (λ ls. held_boot ls flow.src) same in
     let dst = ap (λ ls. held_boot ls flow.dst) same in
     Begins_anew (elim rises [ inl up ↦ inl (omega (arith, up, src)) | inr up ↦ inr (omega (arith, up, dst)) ]) none views
 
-met_go : (flow : Flow) (p : Parts) (o : Kept) → Follows (origin_said o.body) (boot_said o.body) p (met p o) → PartsGo flow p (met p o)
-met_go flow p o done =
+met_go : (kind : FlowKind) (flow : Flow) (p : Parts) (o : Kept) → Follows (origin_said o.body) (boot_said o.body) p (met p o) → PartsGo kind flow p (met p o)
+met_go kind flow p o done =
     let v = origin_said o.body in
+    let met_view : (u : NodeId) → view_in (peer_in (flows_of kind (met p o)).peers u).views flow
+    ≡ cond (is_end v flow) (no_view flow) (view_in (peer_in (flows_of kind p).peers u).views flow) =
+    λ u. ap (λ (r : RelState). view_in (peer_in r.peers u).views flow) (met_flows kind p o) ∙ restarted_view v u flow (flows_of kind p) in
     let gone : is_end v flow ≡ true
     → (held_boot p.lives flow.src < held_boot (met p o).lives flow.src) ⊎ (held_boot p.lives flow.dst < held_boot (met p o).lives flow.dst)
-    → PartsGo flow p (met p o) =
-    λ end up. Begins_anew up (done.flows flow ∙ ap (λ t. cond t (no_flow flow) (flow_in p.rel.flows flow)) end)
-    (λ u. restarted_view v u flow p.rel ∙ ap (λ t. cond t (no_view flow) (view_in (peer_in p.rel.peers u).views flow)) end) in
+    → PartsGo kind flow p (met p o) =
+    λ end up. Begins_anew up (done.flows kind flow ∙ ap (λ t. cond t (no_flow flow) (flow_in (flows_of kind p).flows flow)) end)
+    (λ u. met_view u ∙ ap (λ t. cond t (no_view flow) (view_in (peer_in (flows_of kind p).peers u).views flow)) end) in
     let rise : (w : NodeId) → v ≡ w → held_boot p.lives w < held_boot (met p o).lives w =
     λ w is. subst (λ (z : NodeId). held_boot p.lives z < held_boot (met p o).lives z) is (let a = done.above in let h = done.held in omega (arith, a, h)) in
     elim (cases_eq flow.src.0 v.0) [
@@ -267,18 +254,22 @@ met_go flow p o done =
         | inr not_d ↦
             let t : (flow.dst.0 == v.0) ≡ false = ne_eqb _ _ not_d in
             let f : (flow.src.0 == v.0) ≡ false = ne_eqb _ _ not_s in
-            let stays : flow_in (met p o).rel.flows flow ≡ flow_in p.rel.flows flow = done.flows flow ∙ rw (f, t) refl in
-            Goes_on (done.others flow.src not_s) (done.others flow.dst not_d) (subst (FlowLater (flow_in p.rel.flows flow)) (sym stays) (same_later _))
+            let stays : flow_in (flows_of kind (met p o)).flows flow ≡ flow_in (flows_of kind p).flows flow = done.flows kind flow ∙ rw (f, t) refl in
+            Goes_on (done.others flow.src not_s) (done.others flow.dst not_d)
+            (subst (FlowLater (flow_in (flows_of kind p).flows flow)) (sym stays) (same_later _))
       ]
     ]
 
 -- where it leaves the boots of a flow's ends, it leaves the flow, and what is known of it
-pub met_same : (flow : Flow) (p : Parts) (o : Kept) → Follows (origin_said o.body) (boot_said o.body) p (met p o)
+pub met_same : (kind : FlowKind) (flow : Flow) (p : Parts) (o : Kept) → Follows (origin_said o.body) (boot_said o.body) p (met p o)
     → held_boot (met p o).lives flow.src ≡ held_boot p.lives flow.src → held_boot (met p o).lives flow.dst ≡ held_boot p.lives flow.dst
-    → (flow_in (met p o).rel.flows flow ≡ flow_in p.rel.flows flow)
-    × ((u : NodeId) → view_in (peer_in (met p o).rel.peers u).views flow ≡ view_in (peer_in p.rel.peers u).views flow)
-met_same flow p o done src dst =
+    → (flow_in (flows_of kind (met p o)).flows flow ≡ flow_in (flows_of kind p).flows flow)
+    × ((u : NodeId) → view_in (peer_in (flows_of kind (met p o)).peers u).views flow ≡ view_in (peer_in (flows_of kind p).peers u).views flow)
+met_same kind flow p o done src dst =
     let v = origin_said o.body in
+    let met_view : (u : NodeId) → view_in (peer_in (flows_of kind (met p o)).peers u).views flow
+    ≡ cond (is_end v flow) (no_view flow) (view_in (peer_in (flows_of kind p).peers u).views flow) =
+    λ u. ap (λ (r : RelState). view_in (peer_in r.peers u).views flow) (met_flows kind p o) ∙ restarted_view v u flow (flows_of kind p) in
     let rise : (w : NodeId) → v ≡ w → held_boot p.lives w < held_boot (met p o).lives w =
     λ w is. subst (λ (z : NodeId). held_boot p.lives z < held_boot (met p o).lives z) is (let a = done.above in let h = done.held in omega (arith, a, h)) in
     let off : is_end v flow ≡ false = elim (cases_eq flow.src.0 v.0) [
@@ -288,104 +279,40 @@ met_same flow p o done src dst =
         | inr not_d ↦ let t : (flow.dst.0 == v.0) ≡ false = ne_eqb _ _ not_d in let f : (flow.src.0 == v.0) ≡ false = ne_eqb _ _ not_s in rw (f, t) refl
       ]
     ] in (
-      done.flows flow ∙ ap (λ t. cond t (no_flow flow) (flow_in p.rel.flows flow)) off,
-      λ u. restarted_view v u flow p.rel ∙ ap (λ t. cond t (no_view flow) (view_in (peer_in p.rel.peers u).views flow)) off,
+      done.flows kind flow ∙ ap (λ t. cond t (no_flow flow) (flow_in (flows_of kind p).flows flow)) off,
+      λ u. met_view u ∙ ap (λ t. cond t (no_view flow) (view_in (peer_in (flows_of kind p).peers u).views flow)) off,
     )
 
 -- ---- all pieces
 
-plain_go : (flow : Flow) (arts : Arts) (at : Arrival) (p : Parts) (piece : Piece) → NoStart piece → PartsGo flow p (handle arts at p piece).parts
-plain_go flow arts at p piece none =
+plain_go : (kind : FlowKind) (flow : Flow) (arts : Arts) (at : Arrival) (p : Parts) (piece : Piece) → NoStart piece
+    → PartsGo kind flow p (handle arts at p piece).parts
+plain_go kind flow arts at p piece none =
     let same = same_lives arts at p piece none in
-    Goes_on (ap (λ ls. held_boot ls flow.src) same) (ap (λ ls. held_boot ls flow.dst) same) (piece_later arts at p piece none flow)
+    Goes_on (ap (λ ls. held_boot ls flow.src) same) (ap (λ ls. held_boot ls flow.dst) same) (piece_later kind arts at p piece none flow)
 
-one_go : (flow : Flow) (arts : Arts) (at : Arrival) (p : Parts) (piece : Piece) → PartsGo flow p (handle arts at p piece).parts
-one_go flow arts at p (EpochPiece o) =
+one_go : (kind : FlowKind) (flow : Flow) (arts : Arts) (at : Arrival) (p : Parts) (piece : Piece) → PartsGo kind flow p (handle arts at p piece).parts
+one_go kind flow arts at p (EpochPiece o) =
     elim (cases_Bool (is_new (items.Epoch (epoch_answer (is_signed arts at.fixed o) (judge_epoch at.fixed.me p.lives o.body))))) [
-      | inl t ↦ rw t (met_go flow p o (start_follows arts at p o t))
-      | inr t ↦ rw t (Goes_on refl refl (same_later _))
+      | inl t ↦ rw t (met_go kind flow p o (start_follows arts at p o t))
+      | inr t ↦ rw t (goes_same kind flow p)
     ]
-one_go flow arts at p (WeightPiece o) = plain_go flow arts at p (WeightPiece o) tt
-one_go flow arts at p (PrioAckPiece number) = plain_go flow arts at p (PrioAckPiece number) tt
-one_go flow arts at p (PrioPiece number o) = plain_go flow arts at p (PrioPiece number o) tt
-one_go flow arts at p (ReportPiece fl sboot dboot base have) = plain_go flow arts at p (ReportPiece fl sboot dboot base have) tt
-one_go flow arts at p (AckPiece fl o) = plain_go flow arts at p (AckPiece fl o) tt
-one_go flow arts at p (RelPiece fl o) = plain_go flow arts at p (RelPiece fl o) tt
+one_go kind flow arts at p (WeightPiece o) = plain_go kind flow arts at p (WeightPiece o) tt
+one_go kind flow arts at p (PrioAckPiece number) = plain_go kind flow arts at p (PrioAckPiece number) tt
+one_go kind flow arts at p (PrioPiece number o) = plain_go kind flow arts at p (PrioPiece number o) tt
+one_go kind flow arts at p (ReportPiece k fl sboot dboot base have) = plain_go kind flow arts at p (ReportPiece k fl sboot dboot base have) tt
+one_go kind flow arts at p (AckPiece k fl o) = plain_go kind flow arts at p (AckPiece k fl o) tt
+one_go kind flow arts at p (RelPiece k fl o) = plain_go kind flow arts at p (RelPiece k fl o) tt
 
-pub pieces_go : (flow : Flow) (arts : Arts) (at : Arrival) (p : Parts) (pieces : List Piece) → StartLast pieces
-    → PartsGo flow p (handle_all arts at p pieces).parts
-pieces_go flow arts at p [] last = Goes_on refl refl (same_later _)
-pieces_go flow arts at p (piece ∷ pieces) (inl plain) =
-    then_go flow p (handle arts at p piece).parts _ (same_lives arts at p piece plain.0) (piece_later arts at p piece plain.0 flow)
-    (pieces_go flow arts at (handle arts at p piece).parts pieces plain.1)
-pieces_go flow arts at p (piece ∷ pieces) (inr none) =
-    subst (λ ps. PartsGo flow p (handle_all arts at (handle arts at p piece).parts ps).parts) (sym none) (one_go flow arts at p piece)
+pub pieces_go : (kind : FlowKind) (flow : Flow) (arts : Arts) (at : Arrival) (p : Parts) (pieces : List Piece) → StartLast pieces
+    → PartsGo kind flow p (handle_all arts at p pieces).parts
+pieces_go kind flow arts at p [] last = goes_same kind flow p
+pieces_go kind flow arts at p (piece ∷ pieces) (inl plain) =
+    then_go kind flow p (handle arts at p piece).parts _ (same_lives arts at p piece plain.0) (piece_later kind arts at p piece plain.0 flow)
+    (pieces_go kind flow arts at (handle arts at p piece).parts pieces plain.1)
+pieces_go kind flow arts at p (piece ∷ pieces) (inr none) =
+    subst (λ ps. PartsGo kind flow p (handle_all arts at (handle arts at p piece).parts ps).parts) (sym none) (one_go kind flow arts at p piece)
 
-pub greeted_flows : (epochs risen : Bool) (v : NodeId) (p : Parts) → (greeted epochs risen v p).rel.flows ≡ p.rel.flows
-greeted_flows true true v p = refl
-greeted_flows true false v p = refl
-greeted_flows false risen v p = refl
-
--- ---- steps
-
-abbrev NodeGo : Flow → NodeState → NodeState → Type 0
-NodeGo flow n m = PartsGo flow n.parts m.parts
-
-kept_go : {X : Type 0} (flow : Flow) (r : Option X) (n m : NodeState) → NodeGo flow n m → NodeGo flow n (kept_or r n m)
-kept_go flow None n m go = go
-kept_go flow (Some x) n m go = Goes_on refl refl (same_later _)
-
--- of one that takes a version
-under_go : (flow : Flow) (n left : NodeState) (bytes : List ℕ) (t : Topology) → NodeGo flow n left
-    → is_over (under_topology left bytes t).parts.rel.removed flow ≡ false → NodeGo flow n (under_topology left bytes t)
-under_go flow n left bytes t (Goes_on src dst later) on =
-    Goes_on src dst (subst (FlowLater (flow_in n.parts.rel.flows flow)) (sym (closed_flow _ flow left.parts.rel.flows on)) later)
-under_go flow n left bytes t (Begins_anew rises none views) on = Begins_anew rises (closed_flow _ flow left.parts.rel.flows on ∙ none) views
-
--- of one after which the flow hasn't ended
-pub step_go : (flow : Flow) (arts : Arts) (n : NodeState) (input : Input) (output : Output) (new : NodeState) → NodeStep arts n input output new
-    → is_over new.parts.rel.removed flow ≡ false → NodeGo flow n new
-step_go flow arts n (Poll v) output new s on =
-    subst (NodeGo flow n) (sym s.1) (kept_go flow (call_refusal n v) n (called n (with_link n v (advanced (link_in n v))) (parts_after n v))
-    (cond_either (PartsGo flow n.parts) (is_served n v) (polled n.fixed n.parts v) n.parts
-    (Goes_on refl refl (served_later n.parts.rel v flow)) (Goes_on refl refl (same_later _))))
-step_go flow arts n (Datagram v bytes) output new s on =
-    subst (NodeGo flow n) (sym s.1) (go (call_refusal n v) (ap (λ (m : NodeState). is_over m.parts.rel.removed flow) (sym s.1) ∙ on))
-  where
-    left : NodeState
-    left = before_document arts n v bytes
-
-    first : NodeGo flow n left
-    first =
-        let risen = rises arts n v bytes in
-        then_go flow n.parts (parts_met arts n v bytes) _ (greeted_lives n.fixed.epochs risen v n.parts)
-        (subst (λ fs. FlowLater (flow_in n.parts.rel.flows flow) (flow_in fs flow)) (sym (greeted_flows n.fixed.epochs risen v n.parts)) (same_later _))
-        (pieces_go flow arts (arrival_at n v) (parts_met arts n v bytes) (pieces_at arts n v bytes)
-        (last_where (reply_at arts n v bytes) n.fixed (sections_in arts n.fixed bytes)))
-
-    go : (r : Option NodeRefused) → is_over (kept_or r n (read_by arts left (document_at arts n v bytes))).parts.rel.removed flow ≡ false
-        → NodeGo flow n (kept_or r n (read_by arts left (document_at arts n v bytes)))
-    go (Some refused) on = Goes_on refl refl (same_later _)
-    go None on =
-        reading arts left (document_at arts n v bytes) (λ m told. is_over m.parts.rel.removed flow ≡ false → NodeGo flow n m) (λ on. first)
-        (λ document d is reads by on. under_go flow n left document d.topology first on) on
-step_go flow arts n (Tick now) output new s on = subst (NodeGo flow n) (sym s.1) (go (due_now n) (signer_refusal n.signer))
-  where
-    go : (o : Option Ack) (r : Option SendRefused) → NodeGo flow n (settled_by arts (at_time n now) o r)
-    go None r = Goes_on refl refl (same_later _)
-    go (Some ack) (Some refusal) = Goes_on refl refl (same_later _)
-    go (Some ack) None = Goes_on refl refl (settled_later n.parts.rel (signed_now arts n (bodies.Ack ack)) flow)
-step_go flow arts n (SendRel dst payload) output new s on =
-    subst (NodeGo flow n) (sym s.1)
-    (kept_go flow (rel_refusal n dst) n _ (Goes_on refl refl (sent_later n.parts.rel (signed_now arts n (rel_body n dst payload)) flow)))
-step_go flow arts n (SendPrio m) output new s on =
-    subst (NodeGo flow n) (sym s.new_is) (kept_go flow (send_prio_refusal n m s.choice) n _ (Goes_on refl refl (same_later _)))
-step_go flow arts n (SetWeight v weight) output new s on =
-    subst (NodeGo flow n) (sym s.1) (kept_go flow (weight_refusal n v weight) n _ (Goes_on refl refl (same_later _)))
-step_go flow arts n (TakeRel src) output new s on = subst (NodeGo flow n) (sym s.1) (Goes_on refl refl (took_later n.parts.rel src flow))
-step_go flow arts n TakePrio output new s on = subst (NodeGo flow n) (sym s.1) (Goes_on refl refl (same_later _))
-step_go flow arts n (Publish document) output new s on =
-    subst (NodeGo flow n) (sym s.1)
-    (publishing arts n document (λ m told. is_over m.parts.rel.removed flow ≡ false → NodeGo flow n m) (λ on. Goes_on refl refl (same_later _))
-    (λ d reads by on. under_go flow n n document d.topology (Goes_on refl refl (same_later _)) on)
-    (ap (λ (m : NodeState). is_over m.parts.rel.removed flow) (sym s.1) ∙ on))
+pub greeted_flows : (kind : FlowKind) (epochs risen : Bool) (v : NodeId) (p : Parts)
+    → (flows_of kind (greeted epochs risen v p)).flows ≡ (flows_of kind p).flows
+greeted_flows kind epochs risen v p = greeted_either (λ (r : RelState). r.flows ≡ (flows_of kind p).flows) kind epochs risen v p refl refl

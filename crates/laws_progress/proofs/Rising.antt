@@ -1,5 +1,5 @@
 -- The law on versions that never fall, step by step of a node that runs on.
-use Rattle.std.proofs.Common.{◌≡◌, ◌++◌, Some, sym, ap, subst, ◌∙◌}
+use Rattle.std.proofs.Common.{◌++◌, sym, ap, subst, ◌∙◌}
 use Rattle.std.proofs.lemmas.Option.{same_Some}
 use Rattle.sp_runs.specs.Worlds.{World, node_in}
 use Rattle.laws_node.specs.Withdrawals.{RisesTo}

@@ -12,26 +12,56 @@ use Rattle.laws_runs.proofs.Tables.{same_node}
 use Rattle.sp_schedule_events.specs.declared.event.Event.{Event}
 use Rattle.sp_schedule_events.specs.declared.event.Event.TheVariants as events
 use Rattle.sp_runs.specs.Rounds.{is_take}
+use Rattle.sp_rules.specs.declared.kflow.FlowKind.TheVariants.{Plain}
+use Rattle.sp_rules.specs.declared.kflow.FlowKind.{FlowKind}
+use Rattle.sp_rules.specs.declared.kflow.FlowKind.TheVariants.{Paths}
 
-pub take_is : (d s : NodeId) (e : Event) → is_take d s e ≡ true → e ≡ events.Take d s
-take_is d s (events.Take a b) is =
+-- the event by which a client takes, of flows of a kind
+abbrev pub take_event : FlowKind → NodeId → NodeId → Event
+take_event Plain d s = events.Take d s
+take_event Paths d s = events.KTake d s
+
+pub take_is : (kind : FlowKind) (d s : NodeId) (e : Event) → is_take kind d s e ≡ true → e ≡ take_event kind d s
+take_is Plain d s (events.Take a b) is =
     let t = both _ _ is in
     ap (λ z. events.Take z b) (same_node a d (eqb-true _ _ t.0)) ∙ ap (events.Take d) (same_node b s (eqb-true _ _ t.1))
-take_is d s (events.Rel a b c) is = absurd (let e : false ≡ true = is in cc)
-take_is d s (events.Prio a b c f g h) is = absurd (let e : false ≡ true = is in cc)
-take_is d s (events.TakePrio a) is = absurd (let e : false ≡ true = is in cc)
-take_is d s (events.Tick a b) is = absurd (let e : false ≡ true = is in cc)
-take_is d s (events.Weight a b c) is = absurd (let e : false ≡ true = is in cc)
-take_is d s (events.Poll a b) is = absurd (let e : false ≡ true = is in cc)
-take_is d s (events.Pass a b c) is = absurd (let e : false ≡ true = is in cc)
-take_is d s (events.Flip a b c f g) is = absurd (let e : false ≡ true = is in cc)
-take_is d s (events.Inject a b c) is = absurd (let e : false ≡ true = is in cc)
-take_is d s (events.Craft a b c f) is = absurd (let e : false ≡ true = is in cc)
-take_is d s (events.CraftStatus a b c f g h) is = absurd (let e : false ≡ true = is in cc)
-take_is d s (events.Start a) is = absurd (let e : false ≡ true = is in cc)
-take_is d s (events.Publish a b) is = absurd (let e : false ≡ true = is in cc)
-take_is d s (events.CraftDocument a b c f g) is = absurd (let e : false ≡ true = is in cc)
-take_is d s (events.Stop a) is = absurd (let e : false ≡ true = is in cc)
+take_is Paths d s (events.KTake a b) is =
+    let t = both _ _ is in
+    ap (λ z. events.KTake z b) (same_node a d (eqb-true _ _ t.0)) ∙ ap (events.KTake d) (same_node b s (eqb-true _ _ t.1))
+take_is Plain d s (events.Rel a b c) is = absurd (let e : false ≡ true = is in cc)
+take_is Plain d s (events.Prio a b c f g h) is = absurd (let e : false ≡ true = is in cc)
+take_is Plain d s (events.Krel a b c f) is = absurd (let e : false ≡ true = is in cc)
+take_is Plain d s (events.KTake a b) is = absurd (let e : false ≡ true = is in cc)
+take_is Plain d s (events.TakePrio a) is = absurd (let e : false ≡ true = is in cc)
+take_is Plain d s (events.Tick a b) is = absurd (let e : false ≡ true = is in cc)
+take_is Plain d s (events.Weight a b c) is = absurd (let e : false ≡ true = is in cc)
+take_is Plain d s (events.Poll a b) is = absurd (let e : false ≡ true = is in cc)
+take_is Plain d s (events.Pass a b c) is = absurd (let e : false ≡ true = is in cc)
+take_is Plain d s (events.Flip a b c f g) is = absurd (let e : false ≡ true = is in cc)
+take_is Plain d s (events.Inject a b c) is = absurd (let e : false ≡ true = is in cc)
+take_is Plain d s (events.Craft a b c f) is = absurd (let e : false ≡ true = is in cc)
+take_is Plain d s (events.CraftStatus a b c f g h) is = absurd (let e : false ≡ true = is in cc)
+take_is Plain d s (events.Start a) is = absurd (let e : false ≡ true = is in cc)
+take_is Plain d s (events.Publish a b) is = absurd (let e : false ≡ true = is in cc)
+take_is Plain d s (events.CraftDocument a b c f g) is = absurd (let e : false ≡ true = is in cc)
+take_is Plain d s (events.Stop a) is = absurd (let e : false ≡ true = is in cc)
+take_is Paths d s (events.Rel a b c) is = absurd (let e : false ≡ true = is in cc)
+take_is Paths d s (events.Prio a b c f g h) is = absurd (let e : false ≡ true = is in cc)
+take_is Paths d s (events.Take a b) is = absurd (let e : false ≡ true = is in cc)
+take_is Paths d s (events.Krel a b c f) is = absurd (let e : false ≡ true = is in cc)
+take_is Paths d s (events.TakePrio a) is = absurd (let e : false ≡ true = is in cc)
+take_is Paths d s (events.Tick a b) is = absurd (let e : false ≡ true = is in cc)
+take_is Paths d s (events.Weight a b c) is = absurd (let e : false ≡ true = is in cc)
+take_is Paths d s (events.Poll a b) is = absurd (let e : false ≡ true = is in cc)
+take_is Paths d s (events.Pass a b c) is = absurd (let e : false ≡ true = is in cc)
+take_is Paths d s (events.Flip a b c f g) is = absurd (let e : false ≡ true = is in cc)
+take_is Paths d s (events.Inject a b c) is = absurd (let e : false ≡ true = is in cc)
+take_is Paths d s (events.Craft a b c f) is = absurd (let e : false ≡ true = is in cc)
+take_is Paths d s (events.CraftStatus a b c f g h) is = absurd (let e : false ≡ true = is in cc)
+take_is Paths d s (events.Start a) is = absurd (let e : false ≡ true = is in cc)
+take_is Paths d s (events.Publish a b) is = absurd (let e : false ≡ true = is in cc)
+take_is Paths d s (events.CraftDocument a b c f g) is = absurd (let e : false ≡ true = is in cc)
+take_is Paths d s (events.Stop a) is = absurd (let e : false ≡ true = is in cc)
 
 put_or : (P : FlowState → Type 0) (flow : Flow) (g : FlowState) (fs : List FlowState) → is_flow flow g ≡ true → P g
     → (flow_in fs flow ≡ no_flow flow → P (no_flow flow)) → P (flow_in (put_flow fs flow g) flow)

@@ -24,13 +24,19 @@ use Rattle.laws_runs.specs.Premises.{Carries}
 use Rattle.laws_runs.proofs.Goods.{plain_start}
 use Rattle.laws_runs.proofs.Signed.{signs}
 use Rattle.laws_runs.proofs.Tables.{same_node}
+use Rattle.sp_rules.specs.Parts.{flows_of, as_neighbour}
+use Rattle.sp_rules.specs.declared.kflow.FlowKind.{FlowKind}
+use Rattle.sp_rules.specs.declared.kflow.FlowKind.TheVariants.{Plain, Paths}
+use Rattle.sp_rules.specs.declared.prio.Neighbour.{Neighbour}
 
 -- the neighbours of a node
 abbrev pub near : Setting → NodeId → List NodeId
 near x u = map (λ n. n.0) (neighbours_of (fixed_of x u))
 
 pub record RowsAre (x : Setting) (u : NodeId) (n : NodeState) : Type 0 where
-  pub peers : map (λ p. p.peer) n.parts.rel.peers ≡ near x u
+  pub peers : (kind : FlowKind) → map (λ p. p.peer) (flows_of kind n.parts).peers ≡ near x u
+  -- with the edge to it
+  pub edges : n.parts.kflow.edges ≡ map as_neighbour (neighbours_of (fixed_of x u))
   pub links : map (λ l. l.peer) n.links ≡ near x u
   pub heard : map (λ h. h.peer) n.heard ≡ near x u
 
@@ -55,6 +61,10 @@ boot_among x u (v ∷ ns) n e = elim (cases_Bool (eqb v.0 u.0)) [
 
 pub at_boot : (x : Setting) (u : NodeId) (n : NodeState) → node_in (at_start x).nodes u ≡ Some n → n ≡ node_at_boot x u
 at_boot x u n at = boot_among x u (correct_nodes x) n (plain_start x u n at).1
+
+ids_back : (ns : List (NodeId × EdgeId)) → map (λ (m : Neighbour). m.id) (map as_neighbour ns) ≡ map (λ n. n.0) ns
+ids_back [] = refl
+ids_back (n ∷ ns) = ap (λ (us : List NodeId). n.0 ∷ us) (ids_back ns)
 
 -- ---- over a run
 
@@ -83,12 +93,25 @@ rows_are arts x es js w fits reads run u n at =
     let boot = booted f (signer_from x u 0 n.signer.bound) (link_keys x u) x.buffer x.store in
     let same : shape_of n ≡ shape_of boot = shape ∙ sym (shapes_begin f (signer_from x u 0 n.signer.bound) (link_keys x u) x.buffer x.store) in
     record {
-      peers = same_shapes rel_peer_shape (λ (s : RelPeerShape). s.peer) n.parts.rel.peers boot.parts.rel.peers (ap (λ (s : Shape). s.rel.peers) same)
-          ∙ new_peers (pairs_of (nodes_of x.topology)) (near x u);
+      peers = of_kind same;
+      edges = ap (λ (s : Shape). s.kflow.edges) shape;
       links = same_shapes link_shape (λ (s : LinkShape). s.peer) n.links boot.links (ap (λ (s : Shape). s.links) same)
           ∙ new_links f (λ m. x.link_key m.1.0) (neighbours_of f);
       heard = ap (λ (s : Shape). s.heard) shape;
     }
+  where
+    boot : NodeState
+    boot = booted (fixed_at x u n.fixed.boot) (signer_from x u 0 n.signer.bound) (link_keys x u) x.buffer x.store
+
+    of_kind : (same : shape_of n ≡ shape_of boot) (kind : FlowKind) → map (λ p. p.peer) (flows_of kind n.parts).peers ≡ near x u
+    of_kind same Plain =
+        same_shapes rel_peer_shape (λ (s : RelPeerShape). s.peer) n.parts.rel.peers boot.parts.rel.peers (ap (λ (s : Shape). s.rel.peers) same)
+        ∙ new_peers (pairs_of (nodes_of x.topology)) (near x u)
+    of_kind same Paths =
+        same_shapes rel_peer_shape (λ (s : RelPeerShape). s.peer) n.parts.kflow.flows.peers boot.parts.kflow.flows.peers
+        (ap (λ (s : Shape). s.kflow.flows.peers) same)
+        ∙ new_peers (pairs_of (nodes_of x.topology)) (map (λ (m : Neighbour). m.id) (map as_neighbour (neighbours_of (fixed_of x u))))
+        ∙ ids_back (neighbours_of (fixed_of x u))
 
 -- ---- whom an edge joins
 
@@ -148,8 +171,10 @@ keyed key v (x ∷ xs) some = elim (cases_Bool (eqb (key x).0 v.0)) [
 ]
 
 -- a node has the rows of whom an edge joins to it
-pub peer_there : (x : Setting) (u v : NodeId) (n : NodeState) → RowsAre x u n → is_hop x u v ≡ true → list_any (is_peer v) n.parts.rel.peers ≡ true
-peer_there x u v n rows hop = keyed (λ p. p.peer) v n.parts.rel.peers (ap (list_any (is_id v)) rows.peers ∙ neighbour_there u v 0 x.topology.edges hop)
+pub peer_there : (kind : FlowKind) (x : Setting) (u v : NodeId) (n : NodeState) → RowsAre x u n → is_hop x u v ≡ true
+    → list_any (is_peer v) (flows_of kind n.parts).peers ≡ true
+peer_there kind x u v n rows hop = keyed (λ p. p.peer) v (flows_of kind n.parts).peers
+    (ap (list_any (is_id v)) (rows.peers kind) ∙ neighbour_there u v 0 x.topology.edges hop)
 
 pub heard_there : (x : Setting) (u v : NodeId) (n : NodeState) → RowsAre x u n → is_hop x u v ≡ true → list_any (is_heard_of v) n.heard ≡ true
 heard_there x u v n rows hop = keyed (λ h. h.peer) v n.heard (ap (list_any (is_id v)) rows.heard ∙ neighbour_there u v 0 x.topology.edges hop)

@@ -22,7 +22,7 @@ use Rattle.sp_journal.specs.declared.entry.Entry.{Entry}
 use Rattle.sp_schedule_events.specs.declared.event.Event.{Event}
 use Rattle.laws_runs.specs.Flows.{AreNumbered}
 use Rattle.laws_runs.proofs.Determined.{runs_are_determined}
-use Rattle.laws_runs.proofs.Signed.{even}
+use Rattle.laws_runs.proofs.SignedEvents.{even}
 use Rattle.laws_progress.specs.Delivery.{IsDelivered}
 use Rattle.laws_progress.proofs.Begins.{begins}
 use Rattle.laws_progress.proofs.Facts.{AreHops, AreInner, Goes, Stays, Steps}

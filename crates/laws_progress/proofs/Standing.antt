@@ -28,16 +28,20 @@ use Rattle.laws_node.proofs.Tables.{cond_either}
 use Rattle.laws_progress.proofs.States.{Era, IsEra, Leads, Watched, actives_of, flow_of, flow_seen, in_era, seen_at, sight}
 use Rattle.laws_progress.proofs.Service.{is_on}
 use Rattle.laws_progress.proofs.Changes.{flow_later}
+use Rattle.sp_rules.specs.Parts.{flows_of}
+use Rattle.sp_rules.specs.declared.kflow.FlowKind.{FlowKind}
+use Rattle.laws_node.proofs.FlowKinds.{flows_hold}
 
 -- ---- a node that is seen
 
-pub rel_of : (arts : Arts) (x : Setting) (es : List Event) (js : List Entry) (w : World) → SettingFits arts x → Carries x.topology.format arts
+pub rel_of : (kind : FlowKind) (arts : Arts) (x : Setting) (es : List Event) (js : List Entry) (w : World) → SettingFits arts x → Carries x.topology.format arts
     → Clean arts x es js w
-    → (u : NodeId) (n : NodeState) → node_in w.nodes u ≡ Some n → RelHolds (sizes_at x (Good arts x es js) u) n.signer.index n.parts.rel
-rel_of arts x es js w fits reads run u n at = ((signs arts x es js w fits reads run).nodes u n at).holds.parts.rel
+    → (u : NodeId) (n : NodeState) → node_in w.nodes u ≡ Some n → RelHolds kind (sizes_at x (Good arts x es js) u) n.signer.index (flows_of kind n.parts)
+rel_of kind arts x es js w fits reads run u n at =
+    flows_hold kind (sizes_at x (Good arts x es js) u) n.parts ((signs arts x es js w fits reads run).nodes u n at).holds.parts
 
 -- what is read of rows is a row, or nothing
-first_is : (P : FlowState → Type 0) (flow : Flow) (fs : List FlowState) → P (no_flow flow) → ((i : ℕ) (f : FlowState) → slice_get fs i ≡ Some f → P f)
+pub first_is : (P : FlowState → Type 0) (flow : Flow) (fs : List FlowState) → P (no_flow flow) → ((i : ℕ) (f : FlowState) → slice_get fs i ≡ Some f → P f)
     → P (flow_in fs flow)
 first_is P flow [] none each = none
 first_is P flow (f ∷ fs) none each = elim (cases_Bool (is_flow flow f)) [
@@ -54,9 +58,10 @@ seen_stands arts x all era flow fits reads P none each w u = go (node_in w.at.wo
     go None e = none
     go (Some n) e =
         let k = sizes_at x (Good arts x w.at.events w.at.journal) u in
-        let rel = rel_of arts x w.at.events w.at.journal w.at.world fits reads w.at.run u n e in
-        cond_either P (in_era era flow u n) (flow_in n.parts.rel.flows flow) (no_flow flow)
-        (first_is P flow n.parts.rel.flows none (λ i f at. each u f (all_get (FlowHolds k n.signer.index) n.parts.rel.flows i f rel.flows at).standing)) none
+        let rel = rel_of era.kind arts x w.at.events w.at.journal w.at.world fits reads w.at.run u n e in
+        cond_either P (in_era era flow u n) (flow_in (flows_of era.kind n.parts).flows flow) (no_flow flow)
+        (first_is P flow (flows_of era.kind n.parts).flows none
+        (λ i f at. each u f (all_get (FlowHolds era.kind k n.signer.index) (flows_of era.kind n.parts).flows i f rel.flows at).standing)) none
 
 pub sound : (arts : Arts) (x : Setting) (all : List Event) (era : Era) (flow : Flow) → SettingFits arts x → Carries x.topology.format arts
     → (w : Watched arts x all era) (u : NodeId)
@@ -116,12 +121,12 @@ get_map (g ∷ fs) zero f at = let same : g ≡ f = cc in ap (λ (h : FlowState)
 get_map (g ∷ fs) (suc i) f at = get_map fs i f at
 
 -- where a flow is active, its place is
-active_at : (k : Sizes) (index : ℕ) (r : RelState) (flow : Flow) → RelHolds k index r → 1 ≤ (flow_in r.flows flow).at.have
+active_at : (kind : FlowKind) (k : Sizes) (index : ℕ) (r : RelState) (flow : Flow) → RelHolds kind k index r → 1 ≤ (flow_in r.flows flow).at.have
     → is_on (map (λ f. f.active) r.flows) (place_in (pairs_of k.nodes) flow) ≡ true
-active_at k index r flow rel some =
+active_at kind k index r flow rel some =
     let flows = r.flows in
     let at : slice_get flows (place_in (map ends flows) flow) ≡ Some (flow_in flows flow) = at_place flow flows some in
-    let stands = (all_get (FlowHolds k index) flows (place_in (map ends flows) flow) (flow_in flows flow) rel.flows at).standing in
+    let stands = (all_get (FlowHolds kind k index) flows (place_in (map ends flows) flow) (flow_in flows flow) rel.flows at).standing in
     let on = busy_on k.me k.buffer (flow_in flows flow) stands some in
     ap (λ ps. is_on (map (λ f. f.active) flows) (place_in ps flow)) (sym rel.keys)
     ∙ on_at (λ f. f.active) flows (place_in (map ends flows) flow) (flow_in flows flow) at ∙ on
@@ -145,10 +150,10 @@ same_flow flow f is =
     ap (λ s. let g : Flow = record { src = s; dst = f.dst } in g) a ∙ ap (λ d. let g : Flow = record { src = flow.src; dst = d } in g) b
 
 -- and the other way round
-pub active_of : (k : Sizes) (index : ℕ) (r : RelState) (flow : Flow) → RelHolds k index r
+pub active_of : (kind : FlowKind) (k : Sizes) (index : ℕ) (r : RelState) (flow : Flow) → RelHolds kind k index r
     → is_on (map (λ f. f.active) r.flows) (place_in (pairs_of k.nodes) flow) ≡ true
     → (flow_in r.flows flow).active ≡ true
-active_of k index r flow h on =
+active_of kind k index r flow h on =
     let place = place_in (pairs_of k.nodes) flow in
     let f = there_on r.flows place on in
     let key : slice_get (pairs_of k.nodes) place ≡ Some (ends f.0) = ap (λ ks. slice_get ks place) (sym h.keys) ∙ get_map r.flows place f.0 f.1 in
@@ -166,9 +171,9 @@ is_active arts x all era flow fits reads w u some = go (node_in w.at.world.nodes
     go None e some = absurd (omega (arith, some))
     go (Some n) e some = elim (cases_Bool (in_era era flow u n)) [
       | inl t ↦
-          let rel = rel_of arts x w.at.events w.at.journal w.at.world fits reads w.at.run u n e in
-          let have : 1 ≤ (flow_in n.parts.rel.flows flow).at.have = rw t at some in
-          rw t (active_at (sizes_at x (Good arts x w.at.events w.at.journal) u) n.signer.index n.parts.rel flow rel have)
+          let rel = rel_of era.kind arts x w.at.events w.at.journal w.at.world fits reads w.at.run u n e in
+          let have : 1 ≤ (flow_in (flows_of era.kind n.parts).flows flow).at.have = rw t at some in
+          rw t (active_at era.kind (sizes_at x (Good arts x w.at.events w.at.journal) u) n.signer.index (flows_of era.kind n.parts) flow rel have)
       | inr t ↦ absurd (let none : 0 < (no_flow flow).at.have = rw t at some in omega (arith, none))
     ]
 
@@ -184,8 +189,8 @@ seen_active arts x all era flow fits reads w u on = go (node_in w.at.world.nodes
     go None e on = absurd (let f : false ≡ true = on in cc)
     go (Some n) e on = elim (cases_Bool (in_era era flow u n)) [
       | inl t ↦
-          let rel = rel_of arts x w.at.events w.at.journal w.at.world fits reads w.at.run u n e in
-          rw t (active_of (sizes_at x (Good arts x w.at.events w.at.journal) u) n.signer.index n.parts.rel flow rel (rw t at on))
+          let rel = rel_of era.kind arts x w.at.events w.at.journal w.at.world fits reads w.at.run u n e in
+          rw t (active_of era.kind (sizes_at x (Good arts x w.at.events w.at.journal) u) n.signer.index (flows_of era.kind n.parts) flow rel (rw t at on))
       | inr t ↦ absurd (let f : is_on [] (place_at x flow) ≡ true = rw t at on in let g : false ≡ true = f in cc)
     ]
 
@@ -200,9 +205,9 @@ seen_busy arts x all era flow fits reads w u on = go (node_in w.at.world.nodes u
     go (Some n) e on = elim (cases_Bool (in_era era flow u n)) [
       | inl t ↦
           let k = sizes_at x (Good arts x w.at.events w.at.journal) u in
-          let rel = rel_of arts x w.at.events w.at.journal w.at.world fits reads w.at.run u n e in
-          rw t (first_is (λ f. f.active ≡ true → 0 < f.at.have) flow n.parts.rel.flows (λ z. absurd (let f : false ≡ true = z in cc))
-          (λ i f at z. (all_get (FlowHolds k n.signer.index) n.parts.rel.flows i f rel.flows at).busy z) (rw t at on))
+          let rel = rel_of era.kind arts x w.at.events w.at.journal w.at.world fits reads w.at.run u n e in
+          rw t (first_is (λ f. f.active ≡ true → 0 < f.at.have) flow (flows_of era.kind n.parts).flows (λ z. absurd (let f : false ≡ true = z in cc))
+          (λ i f at z. (all_get (FlowHolds era.kind k n.signer.index) (flows_of era.kind n.parts).flows i f rel.flows at).busy z) (rw t at on))
       | inr t ↦ absurd (let f : (no_flow flow).active ≡ true = rw t at on in let g : false ≡ true = f in cc)
     ]
 

@@ -1,5 +1,5 @@
 -- The law on told starts: the nodes of a path that stay up hold the boots of each other's lives after hops + 1 rounds that tell starts.
-use Rattle.std.proofs.Common.{sym, ◌≡◌, ◌<◌, ◌≤◌, ℕ, suc, ◌+◌, true, List, [], ◌∷◌, ◌++◌, length, get_or, Some, refl, ap, subst, ◌∙◌, arith}
+use Rattle.std.proofs.Common.{sym, ◌≡◌, ◌<◌, ◌≤◌, ℕ, suc, ◌+◌, List, [], ◌∷◌, ◌++◌, length, get_or, Some, refl, ap, subst, ◌∙◌, arith}
 use Rattle.std.specs.Prelude.{IsTrue, slice_get}
 use Rattle.std.proofs.lemmas.Option.{get_or_from_slice_get, slice_get-get_or}
 use Rattle.sp_base.specs.declared.id.NodeId.{NodeId}

@@ -22,6 +22,8 @@ use Rattle.sp_schedule_events.specs.declared.event.Event.{Event}
 use Rattle.laws_runs.specs.Past.{holds}
 use Rattle.laws_progress.proofs.Facts.{Sight}
 use Rattle.laws_progress.proofs.LastBoots.{last_boot}
+use Rattle.sp_rules.specs.Parts.{flows_of}
+use Rattle.sp_rules.specs.declared.kflow.FlowKind.{FlowKind}
 
 -- ---- the states of a run
 
@@ -45,9 +47,15 @@ pub data Follows (arts : Arts) (x : Setting) (all : List Event) (w : State arts 
 
 -- ---- an era: lives of nodes, and a pair of boots of the flow's ends
 
--- whom is watched, in which life, in which version with which weights, which boots of the flow's ends count, and how many places of a direction were there
--- before its node's life
+-- flows of which kind are looked at, whom is watched, in which life, in which version with which weights, which boots of the flow's ends count, and how many
+-- places of a direction were there before its node's life
 pub record Era : Type 0 where
+  pub kind : FlowKind
+  -- a window of the numbers of the flow: messages above low, up to high, go over all hops
+  pub low : ℕ
+  pub high : ℕ
+  -- the edges over which they may go
+  pub over : ℕ → Bool
   pub on : NodeId → Bool
   pub life : NodeId → ℕ
   pub version : ℕ
@@ -92,10 +100,10 @@ abbrev pub has_met : Setting → Era → NodeId → NodeState → Bool
 has_met x era v n = not x.epochs || ((link_in n v).peer_boot == era.life v)
 
 abbrev pub flow_of : Era → Flow → NodeId → NodeState → FlowState
-flow_of era flow u n = if in_era era flow u n then flow_in n.parts.rel.flows flow else no_flow flow
+flow_of era flow u n = if in_era era flow u n then flow_in (flows_of era.kind n.parts).flows flow else no_flow flow
 
 abbrev pub view_at : Setting → Era → Flow → NodeId → NodeId → NodeState → View
-view_at x era flow u v n = if in_era era flow u n && has_met x era v n then view_in (peer_in n.parts.rel.peers v).views flow else no_view flow
+view_at x era flow u v n = if in_era era flow u n && has_met x era v n then view_in (peer_in (flows_of era.kind n.parts).peers v).views flow else no_view flow
 
 -- the number of a frame in its direction, by its counter. 0 of none
 abbrev pub numbered : ℕ → ℕ → ℕ
@@ -110,7 +118,7 @@ abbrev pub knows_now : Setting → Era → NodeId → NodeId → NodeState → B
 knows_now x era u v n = knows_life era u v n && has_heard x era.version v n
 
 abbrev pub actives_of : Era → Flow → NodeId → NodeState → List Bool
-actives_of era flow u n = if in_era era flow u n then map (λ f. f.active) n.parts.rel.flows else []
+actives_of era flow u n = if in_era era flow u n then map (λ f. f.active) (flows_of era.kind n.parts).flows else []
 
 abbrev pub heard_of : Era → NodeId → NodeId → NodeState → ℕ
 heard_of era v u n = if knows_life era v u n then numbered (era.early u v) (link_in n u).seen.1 else 0
@@ -126,6 +134,9 @@ view_seen arts x all era flow w u v = at_node arts x all era (no_view flow) (vie
 
 abbrev pub sight : (arts : Arts) (x : Setting) (all : List Event) (era : Era) → Flow → Sight (Watched arts x all era)
 sight arts x all era flow = record {
+  kind = era.kind;
+  low = era.low;
+  high = era.high;
   base = λ w u. (flow_seen arts x all era flow w u).at.base;
   have = λ w u. (flow_seen arts x all era flow w u).at.have;
   taken = λ w. (flow_seen arts x all era flow w flow.dst).at.have - length (flow_seen arts x all era flow w flow.dst).inbox;
@@ -134,7 +145,7 @@ sight arts x all era flow = record {
   knows = λ w u v. at_node arts x all era false (knows_now x era u v) w u;
   polled = λ w u v. polls w.at.events u v;
   actives = λ w u. at_node arts x all era [] (actives_of era flow u) w u;
-  last = λ w u v. at_node arts x all era None (λ n. (peer_in n.parts.rel.peers v).last) w u;
+  last = λ w u v. at_node arts x all era None (λ n. (peer_in (flows_of era.kind n.parts).peers v).last) w u;
 }
 
 -- ---- hops
@@ -145,12 +156,13 @@ pub record IsHop (x : Setting) (u v : NodeId) : Type 0 where
   pub second : IsTrue (is_correct x v)
   pub joined : IsTrue (is_hop x u v)
 
--- and both are watched, and the version doesn't withdraw it
+-- and both are watched, the version doesn't withdraw it, and the messages of the window may go over it
 pub record IsBetween (x : Setting) (era : Era) (u v : NodeId) : Type 0 where
   pub hop : IsHop x u v
   pub first : era.on u ≡ true
   pub second : era.on v ≡ true
   pub open_edge : is_shut era.weights (position_or_len (joins u.0 v.0) x.topology.edges) ≡ false
+  pub may : era.over (position_or_len (joins u.0 v.0) x.topology.edges) ≡ true
 
 -- ---- what is asked of an era
 

@@ -1,16 +1,16 @@
 -- A frame that a node took of a neighbour's life: what it tells, and what it leaves of what is seen of that neighbour.
 use Rattle.sp_rules.specs.Rel.{no_view}
-use Rattle.laws_runs.proofs.NoStarts.{heeded_slot}
 use Rattle.laws_node.specs.Flows.{RelHolds}
 use Rattle.laws_progress.proofs.Becomes.{readied_keeps}
 use Rattle.laws_progress.proofs.Changes.{Acted, holds_both, life_is}
 use Rattle.laws_progress.proofs.Greets.{greet_view, greeted_peer, greeted_rows}
 use Rattle.laws_progress.proofs.Versions.{served_contents}
-use Rattle.laws_progress.proofs.Hears.{HandledAt, TakenAt, boots_stay, epochs_are, is_of, knows, peer_row, view_off}
+use Rattle.laws_progress.proofs.Hears.{boots_stay, epochs_are, is_of, knows, peer_row, view_off}
+use Rattle.laws_progress.proofs.Meetings.{HandledAt, TakenAt}
 use Rattle.laws_progress.proofs.MakesNow.{frame_told}
 use Rattle.laws_progress.proofs.Rises.{greeted_flows}
 use Rattle.laws_progress.proofs.SlotHeeds.{SlotDone, slot_done}
-use Rattle.laws_progress.proofs.Slots.{SameFlow, after_slot, frame_rel}
+use Rattle.laws_progress.proofs.Slots.{SameFlow, after_slot, frame_flows}
 use Rattle.laws_progress.proofs.States.{heard_of, Era, IsBetween, IsEra, Watched, in_era, in_life, has_met, view_at, numbered}
 use Rattle.laws_progress.proofs.Views.{RelRows, views_are}
 use Rattle.laws_progress.proofs.Wires.{of_version, told_of, told_slot, wires}
@@ -25,6 +25,7 @@ use Rattle.sp_frame.specs.Sections.{Contents}
 use Rattle.sp_rules.specs.Arrivals.{arrival_at, has_risen, heeded, link_after, parts_met}
 use Rattle.sp_rules.specs.Flow.{ends, is_flow}
 use Rattle.sp_rules.specs.Handle.{handle_all}
+use Rattle.sp_rules.specs.Kflow.{came_over}
 use Rattle.sp_rules.specs.Lives.{held_boot}
 use Rattle.sp_rules.specs.Node.{NodeState, link_in}
 use Rattle.sp_rules.specs.Parts.{Parts, nodes_of}
@@ -43,6 +44,9 @@ use Rattle.sp_schedule_events.specs.declared.event.Event.{Event}
 use Rattle.sp_rules.specs.Link.{Link, is_above, pair_of}
 use Rattle.sp_rules.specs.Arts.{Arts}
 use Rattle.sp_frame.specs.declared.head.Head.{Head}
+use Rattle.sp_rules.specs.Parts.{flows_of}
+use Rattle.laws_node.proofs.FlowKinds.{flows_hold}
+use Rattle.laws_progress.proofs.EitherKind.{slot_of_kind, heeded_slot_of}
 
 numbered_some : (early counter : ℕ) → 1 ≤ counter → numbered early counter ≡ early + counter
 numbered_some early zero some = absurd (omega (arith, some))
@@ -85,7 +89,7 @@ module _ (arts : Arts) (x : Setting) (all : List Event) (era : Era) (flow : Flow
   maker_life = sym it.arrived.framed.head.boot_is ∙ it.life
 
   pub told_at : (wires arts x all era flow).told w u v (k + 1)
-      ≡ of_version (it.arrived.from.node.live.version == era.version) (told_slot era flow true (contents_at it.arrived.from.node v).slot)
+      ≡ of_version (it.arrived.from.node.live.version == era.version) (told_slot era flow true (slot_of_kind era.kind (contents_at it.arrived.from.node v)))
   told_at =
       let ds = w.at.world.directions in
       let mine : a.node.fixed.boot ≡ era.life v = (life_is era v a.node first).1 in
@@ -93,14 +97,15 @@ module _ (arts : Arts) (x : Setting) (all : List Event) (era : Era) (flow : Flow
       ap (λ j. told_of arts x era flow u v (frame_in ds u v j)) (let q : k + 1 ≡ suc k = omega arith in q)
       ∙ ap (λ place. told_of arts x era flow u v (option_and_then (λ frame. frame) place)) it.arrived.there
       ∙ frame_told arts x era flow u v it.arrived.from.node it.bytes it.arrived.framed maker_life
-      ∙ ap (λ t. of_version (it.arrived.from.node.live.version == era.version) (told_slot era flow t (contents_at it.arrived.from.node v).slot)) echo
+      ∙ ap (λ t. of_version (it.arrived.from.node.live.version == era.version)
+      (told_slot era flow t (slot_of_kind era.kind (contents_at it.arrived.from.node v)))) echo
 
   pub told_is : HandledAt arts u v a.node a.after it.arrived.from.node it.bytes → (wires arts x all era flow).told w u v (k + 1)
       ≡ of_version (it.arrived.from.node.live.version == era.version)
-      (told_slot era flow true (contents_to it.arrived.from.node.fixed it.arrived.from.node.parts v).slot)
+      (told_slot era flow true (slot_of_kind era.kind (contents_to it.arrived.from.node.fixed it.arrived.from.node.parts v)))
   told_is handled =
       told_at
-      ∙ ap (λ (c : Contents). of_version (it.arrived.from.node.live.version == era.version) (told_slot era flow true c.slot))
+      ∙ ap (λ (c : Contents). of_version (it.arrived.from.node.live.version == era.version) (told_slot era flow true (slot_of_kind era.kind c)))
       (served_contents it.arrived.from.node v handled.served)
 
   pub number_is : k + 1 ≡ era.early u v + (arts.head it.bytes).counter
@@ -112,22 +117,24 @@ module _ (arts : Arts) (x : Setting) (all : List Event) (era : Era) (flow : Flow
   pub lives_met : (parts_met arts a.node u it.bytes).lives ≡ a.node.parts.lives
   lives_met = greeted_lives a.node.fixed.epochs (has_risen (link_in a.node u) (link_after arts a.node u it.bytes)) u a.node.parts
 
-  pub rel_is : RelHolds (sizes_at x (Good arts x w.at.events w.at.journal) v) a.node.signer.index a.node.parts.rel
-  rel_is = (is_of arts x all era flow fits reads is_era w y e u v hop a first second).holds.parts.rel
+  pub rel_is : RelHolds era.kind (sizes_at x (Good arts x w.at.events w.at.journal) v) a.node.signer.index (flows_of era.kind a.node.parts)
+  rel_is =
+      flows_hold era.kind (sizes_at x (Good arts x w.at.events w.at.journal) v) a.node.parts
+      (is_of arts x all era flow fits reads is_era w y e u v hop a first second).holds.parts
 
-  pub peers_row : list_any (is_peer u) a.node.parts.rel.peers ≡ true
+  pub peers_row : list_any (is_peer u) (flows_of era.kind a.node.parts).peers ≡ true
   peers_row = peer_row arts x all era flow fits reads is_era w y e u v hop a first second
 
-  pub flow_row : list_any (is_flow flow) a.node.parts.rel.flows ≡ true
-  flow_row = row_of_keys (nodes_of x.topology) flow.src flow.dst a.node.parts.rel.flows is_era.right.different (both _ _ is_era.right.from).0
+  pub flow_row : list_any (is_flow flow) (flows_of era.kind a.node.parts).flows ≡ true
+  flow_row = row_of_keys (nodes_of x.topology) flow.src flow.dst (flows_of era.kind a.node.parts).flows is_era.right.different (both _ _ is_era.right.from).0
       (both _ _ is_era.right.to).0 rel_is.keys
 
-  pub views_rows : RelRows (nodes_of x.topology) a.node.parts.rel
-  views_rows = readied_keeps x w.at.world a.before a.node (λ q. RelRows (nodes_of x.topology) q.parts.rel) (λ upto h. h) a.readied
-      (views_are arts x w.at.events w.at.journal w.at.world fits reads.carries w.at.run v a.before a.there)
+  pub views_rows : RelRows (nodes_of x.topology) (flows_of era.kind a.node.parts)
+  views_rows = readied_keeps x w.at.world a.before a.node (λ q. RelRows (nodes_of x.topology) (flows_of era.kind q.parts)) (λ upto h. h) a.readied
+      (views_are era.kind arts x w.at.events w.at.journal w.at.world fits reads.carries w.at.run v a.before a.there)
 
-  pub flows_met : (parts_met arts a.node u it.bytes).rel.flows ≡ a.node.parts.rel.flows
-  flows_met = greeted_flows a.node.fixed.epochs (has_risen (link_in a.node u) (link_after arts a.node u it.bytes)) u a.node.parts
+  pub flows_met : (flows_of era.kind (parts_met arts a.node u it.bytes)).flows ≡ (flows_of era.kind a.node.parts).flows
+  flows_met = greeted_flows era.kind a.node.fixed.epochs (has_risen (link_in a.node u) (link_after arts a.node u it.bytes)) u a.node.parts
 
   -- where the boots that count are held
   module _ (held : holds a.node flow.src era.sboot flow.dst era.dboot ≡ true) where
@@ -137,33 +144,37 @@ module _ (arts : Arts) (x : Setting) (all : List Event) (era : Era) (flow : Flow
 
     -- the slot, on the parts that it meets
     abbrev pub rel_after : RelState
-    rel_after = after_slot arts a.node.fixed (parts_met arts a.node u it.bytes).lives (parts_met arts a.node u it.bytes).rel u
-        (contents_to it.arrived.from.node.fixed it.arrived.from.node.parts v).slot
+    rel_after = after_slot arts a.node.fixed (parts_met arts a.node u it.bytes).lives (came_over (parts_met arts a.node u it.bytes).kflow u)
+        (flows_of era.kind (parts_met arts a.node u it.bytes)) u (slot_of_kind era.kind (contents_to it.arrived.from.node.fixed it.arrived.from.node.parts v))
 
-    pub left_is : HandledAt arts u v a.node a.after it.arrived.from.node it.bytes → SameFlow flow rel_after a.after.parts.rel
+    pub left_is : HandledAt arts u v a.node a.after it.arrived.from.node it.bytes → SameFlow flow rel_after (flows_of era.kind a.after.parts)
     left_is handled =
         let heard = heeded a.node.fixed (contents_to it.arrived.from.node.fixed it.arrived.from.node.parts v) in
         let boots : (z : NodeId) → held_boot a.after.parts.lives z ≡ held_boot a.node.parts.lives z
         → held_boot (handle_all arts (arrival_at a.node u) (parts_met arts a.node u it.bytes) (pieces_of heard)).parts.lives z
         ≡ held_boot (parts_met arts a.node u it.bytes).lives z =
         λ z same. sym (ap (λ (p : Parts). held_boot p.lives z) handled.parts) ∙ same ∙ sym (ap (λ ls. held_boot ls z) lives_met) in
-        let same = frame_rel arts (arrival_at a.node u) (parts_met arts a.node u it.bytes) heard flow (boots flow.src stay.1) (boots flow.dst stay.2) in
-        let slot = heeded_slot a.node.fixed (contents_to it.arrived.from.node.fixed it.arrived.from.node.parts v) in
-        subst (λ (p : Parts). SameFlow flow rel_after p.rel) (sym handled.parts)
-        (subst (λ s. SameFlow flow (after_slot arts a.node.fixed (parts_met arts a.node u it.bytes).lives (parts_met arts a.node u it.bytes).rel u s)
-        (handle_all arts (arrival_at a.node u) (parts_met arts a.node u it.bytes) (pieces_of heard)).parts.rel) slot same)
+        let same = frame_flows era.kind arts (arrival_at a.node u) (parts_met arts a.node u it.bytes) heard flow (boots flow.src stay.1) (boots flow.dst stay.2)
+        in
+        let slot = heeded_slot_of era.kind a.node.fixed (contents_to it.arrived.from.node.fixed it.arrived.from.node.parts v) in
+        subst (λ (p : Parts). SameFlow flow rel_after (flows_of era.kind p)) (sym handled.parts)
+        (subst (λ s. SameFlow flow (after_slot arts a.node.fixed (parts_met arts a.node u it.bytes).lives
+        (came_over (parts_met arts a.node u it.bytes).kflow u) (flows_of era.kind (parts_met arts a.node u it.bytes)) u s)
+        (flows_of era.kind (handle_all arts (arrival_at a.node u) (parts_met arts a.node u it.bytes) (pieces_of heard)).parts)) slot same)
 
-    pub done : SlotDone flow (parts_met arts a.node u it.bytes).rel rel_after u
-        (told_slot era flow true (contents_to it.arrived.from.node.fixed it.arrived.from.node.parts v).slot)
+    pub done : SlotDone flow (flows_of era.kind (parts_met arts a.node u it.bytes)) rel_after u
+        (told_slot era flow true (slot_of_kind era.kind (contents_to it.arrived.from.node.fixed it.arrived.from.node.parts v)))
     done =
         let boots = holds_both a.node flow.src flow.dst era.sboot era.dboot held in
-        slot_done arts a.node.fixed (parts_met arts a.node u it.bytes).lives (nodes_of x.topology) (parts_met arts a.node u it.bytes).rel u era flow
-        (contents_to it.arrived.from.node.fixed it.arrived.from.node.parts v).slot (ap (λ ls. held_boot ls flow.src) lives_met ∙ boots.0)
+        slot_done arts a.node.fixed (parts_met arts a.node u it.bytes).lives (came_over (parts_met arts a.node u it.bytes).kflow u) (nodes_of x.topology)
+        (flows_of era.kind (parts_met arts a.node u it.bytes)) u era flow
+        (slot_of_kind era.kind (contents_to it.arrived.from.node.fixed it.arrived.from.node.parts v)) (ap (λ ls. held_boot ls flow.src) lives_met ∙ boots.0)
         (ap (λ ls. held_boot ls flow.dst) lives_met ∙ boots.1)
-        (greeted_rows (nodes_of x.topology) a.node.fixed.epochs (has_risen (link_in a.node u) (link_after arts a.node u it.bytes)) u a.node.parts peers_row
+        (greeted_rows era.kind (nodes_of x.topology) a.node.fixed.epochs (has_risen (link_in a.node u) (link_after arts a.node u it.bytes)) u a.node.parts
+        peers_row
         views_rows)
         (ap (map ends) flows_met ∙ rel_is.keys)
-        (greeted_peer a.node.fixed.epochs (has_risen (link_in a.node u) (link_after arts a.node u it.bytes)) u a.node.parts peers_row)
+        (greeted_peer era.kind a.node.fixed.epochs (has_risen (link_in a.node u) (link_after arts a.node u it.bytes)) u a.node.parts peers_row)
         (ap (list_any (is_flow flow)) flows_met ∙ flow_row)
 
     met_life : (not x.epochs || ((link_after arts a.node u it.bytes).peer_boot == era.life u)) ≡ true
@@ -177,14 +188,14 @@ module _ (arts : Arts) (x : Setting) (all : List Event) (era : Era) (flow : Flow
         either false = refl
 
     -- what was seen before, and what is seen after
-    pub before_view : view_in (peer_in (parts_met arts a.node u it.bytes).rel.peers u).views flow ≡ view_at x era flow v u a.node
+    pub before_view : view_in (peer_in (flows_of era.kind (parts_met arts a.node u it.bytes)).peers u).views flow ≡ view_at x era flow v u a.node
     before_view =
         let seen = greet_view arts x era flow u v a.node it.bytes (epochs_are arts x all era flow fits reads is_era w y e u v hop a first second) peers_row
         it.rise it.top in
         let met = met_life in
         let is : cond (in_era era flow v a.node && (not x.epochs || ((link_after arts a.node u it.bytes).peer_boot == era.life u)))
-        (view_in (peer_in (parts_met arts a.node u it.bytes).rel.peers u).views flow) (no_view flow)
-        ≡ view_in (peer_in (parts_met arts a.node u it.bytes).rel.peers u).views flow = rw (first, held, met) refl in
+        (view_in (peer_in (flows_of era.kind (parts_met arts a.node u it.bytes)).peers u).views flow) (no_view flow)
+        ≡ view_in (peer_in (flows_of era.kind (parts_met arts a.node u it.bytes)).peers u).views flow = rw (first, held, met) refl in
         sym is ∙ seen
 
     pub after_view : HandledAt arts u v a.node a.after it.arrived.from.node it.bytes → view_at x era flow v u a.after
@@ -195,9 +206,11 @@ module _ (arts : Arts) (x : Setting) (all : List Event) (era : Era) (flow : Flow
         rw (second, now, met) ((left_is handled).views u)
 
     pub views_held : HandledAt arts u v a.node a.after it.arrived.from.node it.bytes → (view_at x era flow v u a.after ≡ view_at x era flow v u a.node)
-        ⊎ (((told_slot era flow true (contents_to it.arrived.from.node.fixed it.arrived.from.node.parts v).slot).mine ≡ true)
-        × ((view_at x era flow v u a.after).base ≡ (told_slot era flow true (contents_to it.arrived.from.node.fixed it.arrived.from.node.parts v).slot).base)
-        × ((view_at x era flow v u a.after).have ≡ (told_slot era flow true (contents_to it.arrived.from.node.fixed it.arrived.from.node.parts v).slot).have))
+        ⊎ (((told_slot era flow true (slot_of_kind era.kind (contents_to it.arrived.from.node.fixed it.arrived.from.node.parts v))).mine ≡ true)
+        × ((view_at x era flow v u a.after).base
+        ≡ (told_slot era flow true (slot_of_kind era.kind (contents_to it.arrived.from.node.fixed it.arrived.from.node.parts v))).base)
+        × ((view_at x era flow v u a.after).have
+        ≡ (told_slot era flow true (slot_of_kind era.kind (contents_to it.arrived.from.node.fixed it.arrived.from.node.parts v))).have))
     views_held handled = elim done.views [
       | inl same ↦ inl (after_view handled ∙ same ∙ before_view)
       | inr got ↦ inr (got.0, ap (λ (z : View). z.base) (after_view handled) ∙ got.1, ap (λ (z : View). z.have) (after_view handled) ∙ got.2)
@@ -205,9 +218,11 @@ module _ (arts : Arts) (x : Setting) (all : List Event) (era : Era) (flow : Flow
 
   -- the views of the neighbour stay, or are what the frame tells
   pub views_after : HandledAt arts u v a.node a.after it.arrived.from.node it.bytes → (view_at x era flow v u a.after ≡ view_at x era flow v u a.node)
-      ⊎ (((told_slot era flow true (contents_to it.arrived.from.node.fixed it.arrived.from.node.parts v).slot).mine ≡ true)
-      × ((view_at x era flow v u a.after).base ≡ (told_slot era flow true (contents_to it.arrived.from.node.fixed it.arrived.from.node.parts v).slot).base)
-      × ((view_at x era flow v u a.after).have ≡ (told_slot era flow true (contents_to it.arrived.from.node.fixed it.arrived.from.node.parts v).slot).have))
+      ⊎ (((told_slot era flow true (slot_of_kind era.kind (contents_to it.arrived.from.node.fixed it.arrived.from.node.parts v))).mine ≡ true)
+      × ((view_at x era flow v u a.after).base
+      ≡ (told_slot era flow true (slot_of_kind era.kind (contents_to it.arrived.from.node.fixed it.arrived.from.node.parts v))).base)
+      × ((view_at x era flow v u a.after).have
+      ≡ (told_slot era flow true (slot_of_kind era.kind (contents_to it.arrived.from.node.fixed it.arrived.from.node.parts v))).have))
   views_after handled = elim (cases_Bool (holds a.node flow.src era.sboot flow.dst era.dboot)) [
     | inl held ↦ views_held held handled
     | inr off ↦ inl (view_off arts x all era flow fits reads is_era w y e u v hop a first second off)

@@ -21,7 +21,7 @@ use Rattle.laws_node.specs.Shapes.{Shape}
 use Rattle.laws_node.proofs.Epochs.{boots_never_fall}
 use Rattle.sp_runs.specs.Journals.{reply_word}
 use Rattle.sp_runs.specs.Lives.{ready}
-use Rattle.sp_runs.specs.Runs.{is_poll, next_frame, polls, is_hop}
+use Rattle.sp_runs.specs.Runs.{is_poll, next_frame, polls}
 use Rattle.sp_runs.specs.Settings.{Setting, is_correct, is_node, is_one_of}
 use Rattle.sp_runs.specs.Worlds.{World, node_in}
 use Rattle.sp_schedule_events.specs.declared.event.Event.{Event}

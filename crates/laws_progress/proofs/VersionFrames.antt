@@ -28,7 +28,8 @@ use Rattle.laws_runs.specs.Versions.{Brings, IsPublished}
 use Rattle.laws_runs.proofs.Adopted.{weights_under}
 use Rattle.laws_runs.proofs.Goods.{all_of}
 use Rattle.laws_runs.proofs.Ready.{Readied, readied_parts}
-use Rattle.laws_runs.proofs.Signed.{frame_back, of_setting, signs}
+use Rattle.laws_runs.proofs.SignedEvents.{frame_back}
+use Rattle.laws_runs.proofs.Signed.{of_setting, signs}
 use Rattle.laws_runs.proofs.Versions.{follows_node}
 use Rattle.sp_runs.specs.Runs.{Clean, is_hop}
 use Rattle.sp_runs.specs.Settings.{Setting, SettingFits, may_change}
@@ -65,7 +66,7 @@ opens_all : (arts : Arts) (format len : ℕ) → ComesThrough format arts len �
 opens_all arts format len reads documents h key document turn range same room plain goods true shut fits =
     (reads.documents_open h document key range same fits room, λ on. documents h document key range same fits room)
 opens_all arts format len reads documents h key document turn range same room plain goods false true fits = (
-  reads.opens h no_contents key range same (record { document = refl; paths = refl; probe = refl }) fits (All-nil (λ o. IsTrue (arts.is_good o.body))),
+  reads.opens h no_contents key range same (record { document = refl; probe = refl }) fits (All-nil (λ o. IsTrue (arts.is_good o.body))),
   λ on. absurd (let f : false ≡ true = on in cc),
 )
 opens_all arts format len reads documents h key document turn range same room plain goods false false fits =
@@ -92,7 +93,7 @@ written_at arts x es js w fits reads documents run u v hop n at =
     (all_less (Good arts x es js) (λ o. IsTrue (arts.is_good o.body)) (λ o is_it. is_it.good) (pieces_of turn) kept) in
     let read = reads.heads h s key range in
     let opened = opens_all arts x.topology.format x.signature_len reads documents h key n.live.document turn range format is.holds.live.document
-    (record { document = refl; paths = refl; probe = refl }) goods (is_behind n v) (is_shut_to n v) few in
+    (record { document = refl; probe = refl }) goods (is_behind n v) (is_shut_to n v) few in
     record {
       head = frame_head arts x es js w fits reads.carries reads.heads run u v hop n at;
       version = ap (λ (g : Head). g.topology) read;

@@ -105,7 +105,7 @@ module _ (c : Interval) (documents : DocumentsBegin c.x.topology.format c.arts c
       let last = ap (seen_at 0 (λ m. m.live.version)) t.left in
       let ready_is = readied_keeps x w.state.world t.before t.node (λ q. q.live.version ≡ t.before.live.version) (λ upto h. h) t.readied refl in
       let size : IsSized t.node =
-      readied_keeps x w.state.world t.before t.node IsSized (λ upto h. record { weights = h.weights; me = h.me }) t.readied
+      readied_keeps x w.state.world t.before t.node IsSized (λ upto h. record { weights = h.weights; me = h.me; on_paths = h.on_paths }) t.readied
       (sized (sizes_at x (Good arts x w.state.events w.state.journal) u) t.before (is_node_of c w u t.before t.there).holds) in
       elim t.how [
         | inl still ↦ let same = ap (λ (m : NodeState). m.live.version) still.0 in omega (arith, first, last, ready_is, same)

@@ -44,6 +44,11 @@ use Rattle.sp_runs.specs.Runs.{Clean, is_hop}
 use Rattle.sp_runs.specs.Worlds.{World, node_in}
 use Rattle.sp_schedule_events.specs.declared.event.Event.{Event}
 use Rattle.sp_runs.specs.Settings.{Setting, SettingFits, fixed_at, may_change}
+use Rattle.sp_rules.specs.Parts.{flows_of}
+use Rattle.sp_rules.specs.declared.kflow.FlowKind.{FlowKind}
+use Rattle.laws_runs.proofs.KindFacts.{closed_flows}
+use Rattle.laws_progress.proofs.EitherKind.{obeyed}
+use Rattle.sp_rules.specs.Rel.{RelState}
 
 -- ---- what leaves the version
 
@@ -95,13 +100,19 @@ pub record SameKnown (n m : NodeState) : Type 0 where
   pub links : m.links ≡ n.links
   pub fixed : m.fixed ≡ n.fixed
   pub lives : m.parts.lives ≡ n.parts.lives
-  pub peers : m.parts.rel.peers ≡ n.parts.rel.peers
+  pub peers : (kind : FlowKind) → (flows_of kind m.parts).peers ≡ (flows_of kind n.parts).peers
   pub heard : m.heard ≡ n.heard
 
 pub read_known : (arts : Arts) (n : NodeState) (document : Option (List ℕ)) → SameKnown n (read_by arts n document)
 read_known arts n document =
-    reading arts n document (λ m told. SameKnown n m) (record { links = refl; fixed = refl; lives = refl; peers = refl; heard = refl })
-    (λ bytes d is reads by. record { links = refl; fixed = refl; lives = refl; peers = refl; heard = refl })
+    reading arts n document (λ m told. SameKnown n m) (record { links = refl; fixed = refl; lives = refl; peers = λ kind. refl; heard = refl })
+    (λ bytes d is reads by. record {
+      links = refl;
+      fixed = refl;
+      lives = refl;
+      peers = λ kind. ap (λ (r : RelState). r.peers) (closed_flows kind n.parts _ _);
+      heard = refl;
+    })
 
 -- ---- a frame that carries what is in turn
 
@@ -247,8 +258,8 @@ module _ (arts : Arts) (x : Setting) (fits : SettingFits arts x) (P : Kept → T
       ∙ ap (removed_of (nodes_of x.topology)) (under_own x.topology.edges)
       ∙ none_removed_of (nodes_of x.topology) x.topology.edges fits.all_open
 
-  pub never_over : (flow : Flow) → is_over n.parts.rel.removed flow ≡ false
-  never_over flow = ap (λ (us : List NodeId). is_over us flow) (is.obeys.rel ∙ gone_at)
+  pub never_over : (kind : FlowKind) (flow : Flow) → is_over (flows_of kind n.parts).removed flow ≡ false
+  never_over kind flow = ap (λ (us : List NodeId). is_over us flow) (obeyed kind n is.obeys ∙ gone_at)
 
 module _ (arts : Arts) (x : Setting) (es : List Event) (js : List Entry) (w : World) (fits : SettingFits arts x) (reads : Carries x.topology.format arts)
     (run : Clean arts x es js w) (stays : TopologyStays es) (u : NodeId) (n : NodeState) (at : node_in w.nodes u ≡ Some n) where
@@ -258,5 +269,5 @@ module _ (arts : Arts) (x : Setting) (es : List Event) (js : List Entry) (w : Wo
   first : UnderFirst x n
   first = under_first arts x es js w fits reads run stays u n at
 
-  pub not_ended : (s d : NodeId) → has_ended n s d ≡ false
-  not_ended s d = never_over arts x fits (Good arts x es js) u n its first (record { src = s; dst = d })
+  pub not_ended : (kind : FlowKind) (s d : NodeId) → has_ended kind n s d ≡ false
+  not_ended kind s d = never_over arts x fits (Good arts x es js) u n its first kind (record { src = s; dst = d })

@@ -33,6 +33,7 @@ use Rattle.std.proofs.lemmas.Option.{same_Some}
 use Rattle.std.specs.List.{list_any}
 use Rattle.laws_progress.proofs.Facts as facts
 use Rattle.laws_progress.proofs.UpStates.{off_first}
+use Rattle.laws_progress.proofs.Calms.{MayPass}
 
 -- ---- a state of the interval, by nodes, lives and boots alone
 
@@ -159,12 +160,13 @@ module _ (arts : Arts) (x : Setting) (all : List Event) (era : Era) (flow : Flow
 
   pub calmly_on : (es : List Event) (w y : Watched arts x all era) → Goes (Watched arts x all era) (Leads arts x all era) w es y → IsFree era es
       → AllUp arts x all era flow w.at
+      → ((z : Watched arts x all era) (fs : List Event) → Goes (Watched arts x all era) (Leads arts x all era) z fs y → MayPass arts x all era flow z)
       → Goes (Watched arts x all era) (Calmly arts x all era flow) w es y
-  calmly_on [] w y facts.Stays idle up = facts.Stays
-  calmly_on (e ∷ es) w y (facts.Steps {x = m} step g) idle up =
+  calmly_on [] w y facts.Stays idle up may = facts.Stays
+  calmly_on (e ∷ es) w y (facts.Steps {x = m} step g) idle up may =
       let now = up_step w.at m.at e step (λ v on. (off_first (is_life_of v e) (list_any (is_life_of v) es) (idle v on)).0) up in
-      facts.Steps (record { leads = step; before = are_up w up; after = are_up m now })
-      (calmly_on es m y g (λ v on. (off_first (is_life_of v e) (list_any (is_life_of v) es) (idle v on)).1) now)
+      facts.Steps (record { leads = step; before = are_up w up; after = are_up m now; passes = may w (e ∷ es) (facts.Steps step g) })
+      (calmly_on es m y g (λ v on. (off_first (is_life_of v e) (list_any (is_life_of v) es) (idle v on)).1) now may)
 
   -- the last state is watched, where the frames of each life are counted by its end
   pub watch : HeadsReadBack arts → (y : State arts x all) → AllUp arts x all era flow y

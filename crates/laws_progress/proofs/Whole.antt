@@ -24,7 +24,7 @@ use Rattle.laws_progress.proofs.Passing as passing
 
 pub steady : (arts : Arts) (x : Setting) (all : List Event) (era : Era) (flow : Flow) (fits : SettingFits arts x)
     (reads : ComesThrough x.topology.format arts x.signature_len)
-    → (is_era : IsEra x flow era) → 1 ≤ x.buffer → (least : ℕ) → flow_count x all ≤ least
+    → (is_era : IsEra x flow era) → 1 ≤ x.buffer → (least : ℕ) → flow_count era.kind x all ≤ least
     → Steady (Watched arts x all era) (Calmly arts x all era flow) (IsBetween x era) (sight arts x all era flow) (wires arts x all era flow) (place_at x flow)
     x.buffer least flow.src flow.dst
 steady arts x all era flow fits reads is_era one least enough = record {
@@ -46,7 +46,8 @@ steady arts x all era flow fits reads is_era one least enough = record {
       let p = c.before u hop.first in
       serves_now arts x all era flow fits reads w y e u v hop c.leads poll p.node p.there p.counts p.runs.0
       (λ heard. served_there x era.version era.weights u v hop.hop.joined hop.open_edge p.node
-      ((signs arts x w.at.events w.at.journal w.at.world fits reads.carries w.at.run).nodes u p.node p.there).fixed p.runs heard);
+      ((signs arts x w.at.events w.at.journal w.at.world fits reads.carries w.at.run).nodes u p.node p.there).fixed p.runs heard)
+      (c.passes u v p.node hop p.there p.counts);
   hears = λ w y e u v hop c. heeding.hears arts x all era flow fits reads is_era w y e c u v hop;
   learns = λ w y e u v k hop c pass here. passing.learns arts x all era flow fits reads is_era w y e c u v hop k pass here;
   comes = λ w y e u v k hop c pass pos on. passing.comes arts x all era flow fits reads is_era w y e c u v hop k pass on;
@@ -54,7 +55,7 @@ steady arts x all era flow fits reads is_era one least enough = record {
   sent = λ w y e u c. calms.sent_most arts x all era flow fits reads is_era w c.before u;
   sound = λ w u. sound arts x all era flow fits reads.carries w u;
   is_active = λ w u some. is_active arts x all era flow fits reads.carries w u some;
-  among = waiting x all;
+  among = waiting era.kind x all;
   within = λ w u. within arts x all era flow fits reads.carries w u;
-  few = let most = few_wait x all in omega (arith, most, enough);
+  few = let most = few_wait era.kind x all in omega (arith, most, enough);
 }

@@ -15,6 +15,8 @@ use Rattle.sp_schedule_events.specs.declared.event.Event.{Event}
 use Rattle.laws_progress.proofs.Hops.{Told, Wires}
 use Rattle.laws_progress.proofs.States.{Era, Leads, Watched, at_node, heard_of}
 use Rattle.laws_progress.proofs.Made.{frames_stay}
+use Rattle.sp_rules.specs.declared.kflow.FlowKind.{FlowKind}
+use Rattle.laws_progress.proofs.EitherKind.{slot_of_kind}
 
 abbrev pub has_ack : Option Kept → Bool
 has_ack None = false
@@ -37,9 +39,9 @@ told_slot era flow echo None = record { here = true; mine = false; echo = echo; 
 told_slot era flow echo (Some r) =
     record { here = true; mine = echo && is_slot era flow r; echo = echo; base = r.base; have = r.have; ack = has_ack r.ack; next = number_in r.rels }
 
-abbrev pub slot_in : Result Contents SectionRefused → Option Report
-slot_in (Ok contents) = contents.slot
-slot_in (Err refused) = None
+abbrev pub slot_in : FlowKind → Result Contents SectionRefused → Option Report
+slot_in kind (Ok contents) = slot_of_kind kind contents
+slot_in kind (Err refused) = None
 
 abbrev pub nothing_told : Told
 nothing_told = record { here = false; mine = false; echo = false; base = 0; have = 0; ack = false; next = 0 }
@@ -54,7 +56,7 @@ told_of arts x era flow u v None = nothing_told
 told_of arts x era flow u v (Some bytes) =
     if (arts.head bytes).boot == era.life u
     then of_version ((arts.head bytes).topology == era.version)
-    (told_slot era flow ((arts.head bytes).echo == era.life v) (slot_in (arts.sections x.signature_len bytes)))
+    (told_slot era flow ((arts.head bytes).echo == era.life v) (slot_in era.kind (arts.sections x.signature_len bytes)))
     else nothing_told
 
 abbrev pub wires : (arts : Arts) (x : Setting) (all : List Event) (era : Era) → Flow → Wires (Watched arts x all era)

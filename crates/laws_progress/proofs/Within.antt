@@ -21,6 +21,8 @@ use Rattle.laws_runs.specs.Signs.{NodeIs}
 use Rattle.laws_progress.specs.Within.{IsOpenHop, IsPathUnder}
 use Rattle.laws_progress.proofs.Places.{hop_at}
 use Rattle.laws_progress.proofs.RunStates.{are_hops, ends_are}
+use Rattle.sp_rules.specs.declared.kflow.FlowKind.{FlowKind}
+use Rattle.laws_progress.proofs.EitherKind.{obeyed}
 
 -- ---- the nodes of a path
 
@@ -140,8 +142,9 @@ module _ (x : Setting) (weights : List ℕ) (s d : NodeId) (path : List NodeId) 
       (joined_stays (under x.topology.edges weights) v (of_path Joined path all_joined v on))
 
   -- so no flow between them ends there
-  pub never_ends : (P : Kept → Type 0) (u : NodeId) (n : NodeState) → NodeIs x P u n → n.live.weights ≡ weights → (a b : NodeId) → is_in path a ≡ true
-      → is_in path b ≡ true → has_ended n a b ≡ false
-  never_ends P u n its same a b a_on b_on =
-      ap (λ gone. is_over gone (record { src = a; dst = b })) its.obeys.rel
+  pub never_ends : (kind : FlowKind) (P : Kept → Type 0) (u : NodeId) (n : NodeState) → NodeIs x P u n → n.live.weights ≡ weights → (a b : NodeId)
+      → is_in path a ≡ true
+      → is_in path b ≡ true → has_ended kind n a b ≡ false
+  never_ends kind P u n its same a b a_on b_on =
+      ap (λ gone. is_over gone (record { src = a; dst = b })) (obeyed kind n its.obeys)
       ∙ ap₂ (λ (t z : Bool). t || z) (none_removed P u n its same a a_on) (none_removed P u n its same b b_on)

@@ -15,8 +15,9 @@ use Rattle.laws_progress.specs.Worked.{line_path, line_round, line_weights, node
 use Rattle.laws_progress.specs.WorkedLives.{LivesAreCounted, again, behind, changed, four_rounds, holding, restless, sent_by, told}
 use Rattle.laws_progress.proofs.Changes.{holds_both}
 use Rattle.laws_progress.proofs.Worked.{line_is, three_path, three_under}
+use Rattle.sp_rules.specs.declared.kflow.FlowKind.TheVariants.{Plain}
 
-rounds_are : CompleteRounds 1 (node 1) (node 3) line_path 4 sent_by four_rounds
+rounds_are : CompleteRounds Plain 1 (node 1) (node 3) line_path 4 sent_by four_rounds
 rounds_are =
     Round [] (line_round 6) (line_is (sent_by ++ []) 6 refl refl refl refl)
     (Round [] (line_round 7) (line_is _ 7 refl refl refl refl)
@@ -79,7 +80,8 @@ lives_are_counted = record {
       let last : 2 ≡ version = second_of version weights changed _ refl under.ends in
       omega (arith, first, last);
   is_delivered = λ arts js more w v n promise run longer under calm at has.
-      let it = promise sent_by js w four_rounds more v run longer 1 line_weights (node 1) (node 3) line_path is_path under 1 1 calm n at 1 1 (omega arith) has
+      let it = promise Plain sent_by js w four_rounds more v run longer 1 line_weights (node 1) (node 3) line_path is_path under 1 1 calm n at tt 1 1
+      (omega arith) has
       (omega arith) 1
       (omega arith) rounds_are in
       (it.payload, it.sent.there, it.delivered.there);

@@ -4,12 +4,13 @@ use Rattle.sp_base.specs.declared.id.NodeId.{NodeId}
 use Rattle.sp_rules.specs.Arts.{Arts}
 use Rattle.sp_rules.specs.Flow.{no_flow}
 use Rattle.sp_runs.specs.Worlds.{World}
+use Rattle.sp_rules.specs.declared.kflow.FlowKind.TheVariants.{Plain}
 use Rattle.laws_progress.specs.Positions.{PositionClaims, ProgressClaims}
 use Rattle.laws_progress.specs.Worked.{line, node, send}
 use Rattle.laws_progress.specs.WorkedPositions.{PositionsAreWorked, accepted, flow_from}
 
 -- the claims of the flow from 1 to 3
-claims : (arts : Arts) (w : World) → ProgressClaims arts line send accepted w → PositionClaims arts line (node 1) (node 3) send accepted w
+claims : (arts : Arts) (w : World) → ProgressClaims Plain arts line send accepted w → PositionClaims Plain arts line (node 1) (node 3) send accepted w
 claims arts w h = h.positions (node 1) (node 3) refl refl (λ same. (let e : ◌≡◌ {A = ℕ} 1 3 = ap (λ (v : NodeId). v.0) same in omega (arith, e)))
 
 apart : (u v : ℕ) → (u ≡ v → ⊥) → node u ≡ node v → ⊥

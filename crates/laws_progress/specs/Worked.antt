@@ -1,14 +1,20 @@
--- Two worked examples of complete rounds, along three nodes in a row, and along a path round a compromised node: the first message is delivered by the end
--- of four, and its acknowledgement is back by the end of three more. What a version withdraws of both. And events in which nothing is published, as both are,
--- and others in which something is.
+-- Worked examples of complete rounds, along three nodes in a row, along a path round a compromised node, and along one of two paths of a message on paths: the
+-- first message is delivered by the end of four, and in the row its acknowledgement is back by the end of three more. What a version withdraws of paths. And
+-- events in which nothing is published, as these are, and others in which something is.
 use Rattle.std.specs.Prelude.{ℕ, zero, suc, ◌≡◌, ◌+◌, ◌*◌, ◌<◌, ◌≤◌, false, List, [], ◌∷◌, ◌++◌, length, map, slice_get, None, Some}
+use Rattle.std.specs.List.{All}
 use Rattle.sp_base.specs.declared.id.NodeId.{NodeId}
+use Rattle.sp_graph.specs.Walks.{steps}
+use Rattle.sp_msg.specs.Masks.{bits}
+use Rattle.sp_msg.specs.declared.mask.Mask.{Mask}
 use Rattle.sp_topology.specs.declared.topology.Edge.{Edge}
 use Rattle.sp_topology.specs.declared.topology.LmsHeight.TheVariants.{Five}
 use Rattle.sp_topology.specs.declared.topology.NodeKey.{NodeKey}
 use Rattle.sp_rules.specs.Arts.{Arts}
 use Rattle.sp_rules.specs.Flow.{is_full}
+use Rattle.sp_rules.specs.Kflow.{waiting_mask}
 use Rattle.sp_rules.specs.Node.{NodeState}
+use Rattle.sp_rules.specs.declared.kflow.FlowKind.TheVariants.{Plain, Paths}
 use Rattle.sp_runs.specs.Paths.{hops}
 use Rattle.sp_runs.specs.Rounds.{CompleteRounds, flow_count}
 use Rattle.sp_runs.specs.Runs.{Clean, polls}
@@ -22,7 +28,7 @@ use Rattle.laws_runs.specs.Acknowledged.{acknowledged}
 use Rattle.laws_runs.specs.Flows.{flow_at}
 use Rattle.laws_progress.specs.Delivery.{DeliversInRounds, ReturnsInRounds}
 use Rattle.laws_progress.specs.Positions.{TopologyStays}
-use Rattle.laws_progress.specs.Within.{IsPathUnder, StaysUnder}
+use Rattle.laws_progress.specs.Within.{HasEdge, IsPathUnder, StaysUnder}
 
 abbrev pub node : ℕ → NodeId
 node u = record { 0 = u }
@@ -79,17 +85,18 @@ abbrev pub IsDeliveredBy : Setting → (weights : List ℕ) → (path : List Nod
 IsDeliveredBy x weights path after = (arts : Arts) (js more : List Entry) (w v : World) (n : NodeState)
     → DeliversInRounds arts x → Clean arts x send js w → Clean arts x (send ++ after) (js ++ more) v → StaysUnder 1 weights path w v
     → node_in w.nodes (node 1) ≡ Some n
-    → 1 ≤ length (sent send js (node 1) (node 3))
-    → (payload : List ℕ) × (slice_get (sent send js (node 1) (node 3)) 0 ≡ Some (1, payload))
-    × (slice_get (delivered (send ++ after) (js ++ more) (node 1) (node 3)) 0 ≡ Some (1, payload))
+    → 1 ≤ length (sent Plain send js (node 1) (node 3))
+    → (payload : List ℕ) × (slice_get (sent Plain send js (node 1) (node 3)) 0 ≡ Some (1, payload))
+    × (slice_get (delivered Plain (send ++ after) (js ++ more) (node 1) (node 3)) 0 ≡ Some (1, payload))
 
 -- where 3 acknowledged it before, that is back at 1 by the end of these events, and 1 has room for messages 2 and 3
 abbrev pub HasReturnedBy : Setting → (weights : List ℕ) → (path : List NodeId) → (before after : List Event) → Type 0
 HasReturnedBy x weights path before after = (arts : Arts) (js more : List Entry) (w v : World) (n : NodeState)
     → ReturnsInRounds arts x → Clean arts x before js w → Clean arts x (before ++ after) (js ++ more) v → StaysUnder 1 weights path w v
     → node_in v.nodes (node 1) ≡ Some n
-    → acknowledged arts before js (node 1) (node 3) ≡ 1
-    → (1 ≤ (flow_at n (node 1) (node 3)).at.base) × ((flow_at n (node 1) (node 3)).at.have < 3 → is_full 2 (flow_at n (node 1) (node 3)) ≡ false)
+    → acknowledged Plain arts before js (node 1) (node 3) ≡ 1
+    → (1 ≤ (flow_at Plain n (node 1) (node 3)).at.base)
+    × ((flow_at Plain n (node 1) (node 3)).at.have < 3 → is_full 2 (flow_at Plain n (node 1) (node 3)) ≡ false)
 
 -- ---- three nodes in a row
 
@@ -122,12 +129,12 @@ pub record FirstMessage : Type 0 where
   pub path : IsPathUnder line line_weights (node 1) (node 3) line_path
   pub two_hops : hops line_path ≡ 2
   -- the one flow that a client sends to
-  pub one_flow : flow_count line (send ++ (first_rounds ++ (tick ++ later_rounds))) ≡ 1
+  pub one_flow : flow_count Plain line (send ++ (first_rounds ++ (tick ++ later_rounds))) ≡ 1
   -- four rounds are enough for the first message: two hops, one above the base, and one
-  pub there : CompleteRounds 1 (node 1) (node 3) line_path 4 send first_rounds
+  pub there : CompleteRounds Plain 1 (node 1) (node 3) line_path 4 send first_rounds
   pub is_delivered : IsDeliveredBy line line_weights line_path first_rounds
   -- and three for its acknowledgement: two hops, and one
-  pub back : CompleteRounds 1 (node 1) (node 3) line_path 3 (send ++ (first_rounds ++ tick)) later_rounds
+  pub back : CompleteRounds Plain 1 (node 1) (node 3) line_path 3 (send ++ (first_rounds ++ tick)) later_rounds
   pub has_returned : HasReturnedBy line line_weights line_path (send ++ (first_rounds ++ tick)) later_rounds
 
 -- ---- round a compromised node
@@ -157,12 +164,56 @@ pub record RoundACompromisedNode : Type 0 where
   pub path : IsPathUnder square square_weights (node 1) (node 3) square_path
   pub two_hops : hops square_path ≡ 2
   -- the flow that a client sends to, and the six that begin or end at 2
-  pub seven_flows : flow_count square (send ++ four_rounds) ≡ 7
+  pub seven_flows : flow_count Plain square (send ++ four_rounds) ≡ 7
   -- four rounds, which are enough for the first message. Each has seven polls of each of its four directions
-  pub rounds : CompleteRounds 7 (node 1) (node 3) square_path 4 send four_rounds
+  pub rounds : CompleteRounds Plain 7 (node 1) (node 3) square_path 4 send four_rounds
   pub is_delivered : IsDeliveredBy square square_weights square_path four_rounds
   pub events : length four_rounds ≡ 4 * (4 * 7 * 2 + 1)
   pub frames : polls four_rounds (node 4) (node 3) ≡ 28
+
+-- ---- a message on two paths
+
+-- the square in format 2, of which all nodes are correct
+abbrev pub two_paths : Setting
+two_paths =
+    let s = setting (1 ∷ 2 ∷ 3 ∷ 4 ∷ []) (edge 1 2 ∷ edge 1 4 ∷ edge 2 3 ∷ edge 3 4 ∷ []) [] in
+    record s { topology = record s.topology { format = 2 } }
+
+-- a client of 1 sends to 3 over two paths, by 2 and by 4
+abbrev pub send_twice : List Event
+send_twice = events.Krel (node 1) (node 3) 2 (104 ∷ 105 ∷ []) ∷ []
+
+-- a client of 3 takes what came from 1 on paths
+abbrev pub take_on_paths : List Event
+take_on_paths = events.KTake (node 3) (node 1) ∷ []
+
+-- one frame over each hop of the path by 4 in each direction, and a take before the last, after so many such rounds
+abbrev pub upper_round : ℕ → List Event
+upper_round before = frames 4 1 before 1 ++ (frames 1 4 before 1 ++ (frames 3 4 before 1 ++ (take_on_paths ++ frames 4 3 before 1)))
+
+-- four rounds along it
+abbrev pub upper_rounds : List Event
+upper_rounds = upper_round 0 ++ (upper_round 1 ++ (upper_round 2 ++ (upper_round 3 ++ [])))
+
+-- the rounds of a message over one of its paths, while nothing goes over the other one
+pub record OnTwoPaths : Type 0 where
+  pub path : IsPathUnder two_paths square_weights (node 1) (node 3) square_path
+  -- the one flow on paths that a client sends to
+  pub one_flow : flow_count Paths two_paths (send_twice ++ upper_rounds) ≡ 1
+  pub rounds : CompleteRounds Paths 1 (node 1) (node 3) square_path 4 send_twice upper_rounds
+  -- 2 makes no frame
+  pub silent : polls upper_rounds (node 2) (node 1) + polls upper_rounds (node 2) (node 3) ≡ 0
+  -- a mask of both paths, which has all four edges, has those of this path; one of the other path, which has the first and the third, hasn't
+  pub both_paths : (mask : Mask) → bits mask ≡ 15 → All (HasEdge two_paths mask) (steps square_path)
+  pub other_path : (mask : Mask) → bits mask ≡ 5 → All (HasEdge two_paths mask) (steps square_path) → ⊥
+  -- where 1 accepted the message, and what waits there has the mask of both paths, it is delivered
+  pub is_delivered : (arts : Arts) (js more : List Entry) (w v : World) (n : NodeState)
+      → DeliversInRounds arts two_paths → Clean arts two_paths send_twice js w → Clean arts two_paths (send_twice ++ upper_rounds) (js ++ more) v
+      → StaysUnder 1 square_weights square_path w v → node_in w.nodes (node 1) ≡ Some n
+      → ((mask : Mask) → waiting_mask n.parts.kflow (node 3) ≡ Some mask → bits mask ≡ 15)
+      → 1 ≤ length (sent Paths send_twice js (node 1) (node 3))
+      → (payload : List ℕ) × (slice_get (sent Paths send_twice js (node 1) (node 3)) 0 ≡ Some (1, payload))
+      × (slice_get (delivered Paths (send_twice ++ upper_rounds) (js ++ more) (node 1) (node 3)) 0 ≡ Some (1, payload))
 
 -- ---- what a version withdraws
 
@@ -203,5 +254,6 @@ pub record WhereItStays : Type 0 where
 pub record RoundsAreCounted : Type 0 where
   pub first_message : FirstMessage
   pub compromised : RoundACompromisedNode
+  pub on_paths : OnTwoPaths
   pub version : WithinAVersion
   pub stays : WhereItStays

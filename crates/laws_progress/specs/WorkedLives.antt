@@ -6,6 +6,7 @@ use Rattle.sp_msg.specs.declared.body.Body.TheVariants as bodies
 use Rattle.sp_rules.specs.Arts.{Arts}
 use Rattle.sp_rules.specs.Node.{NodeState}
 use Rattle.sp_rules.specs.declared.lives.Life.{Life}
+use Rattle.sp_rules.specs.declared.kflow.FlowKind.TheVariants.{Plain}
 use Rattle.sp_runs.specs.Paths.{hops}
 use Rattle.sp_runs.specs.Rounds.{CompleteRounds, flow_count}
 use Rattle.sp_runs.specs.Runs.{Clean}
@@ -82,18 +83,18 @@ abbrev pub IsDeliveredUnder : Type 0
 IsDeliveredUnder = (arts : Arts) (js more : List Entry) (w v : World) (n : NodeState)
     → DeliversInLives arts restless → (run : Clean arts restless sent_by js w) → (longer : Clean arts restless (sent_by ++ four_rounds) (js ++ more) v)
     → StaysUnder 1 line_weights line_path w v → IsCalm w four_rounds (node 1) 1 (node 3) 1 line_path → node_in w.nodes (node 1) ≡ Some n
-    → 1 ≤ length (sent_under (past arts restless sent_by js w run) (node 1) 1 (node 3) 1)
-    → (payload : List ℕ) × (slice_get (sent_under (past arts restless sent_by js w run) (node 1) 1 (node 3) 1) 0 ≡ Some (1, payload))
-    × (slice_get (delivered_under (past arts restless (sent_by ++ four_rounds) (js ++ more) v longer) (node 1) 1 (node 3) 1) 0 ≡ Some (1, payload))
+    → 1 ≤ length (sent_under Plain (past arts restless sent_by js w run) (node 1) 1 (node 3) 1)
+    → (payload : List ℕ) × (slice_get (sent_under Plain (past arts restless sent_by js w run) (node 1) 1 (node 3) 1) 0 ≡ Some (1, payload))
+    × (slice_get (delivered_under Plain (past arts restless (sent_by ++ four_rounds) (js ++ more) v longer) (node 1) 1 (node 3) 1) 0 ≡ Some (1, payload))
 
 -- a message is counted in the lives of its path
 pub record LivesAreCounted : Type 0 where
   pub path : IsPathUnder restless line_weights (node 1) (node 3) line_path
   pub two_hops : hops line_path ≡ 2
   -- the one flow that a client sends to
-  pub one_flow : flow_count restless (sent_by ++ four_rounds) ≡ 1
+  pub one_flow : flow_count Plain restless (sent_by ++ four_rounds) ≡ 1
   -- four rounds are enough for the first message: two hops, one above the base, and one
-  pub rounds : CompleteRounds 1 (node 1) (node 3) line_path 4 sent_by four_rounds
+  pub rounds : CompleteRounds Plain 1 (node 1) (node 3) line_path 4 sent_by four_rounds
   -- where all starts are told their interval is calm for the boots 1 of both, and so for no others
   pub calm : IsCalm told four_rounds (node 1) 1 (node 3) 1 line_path
   pub no_other : (a b : ℕ) → IsCalm told four_rounds (node 1) a (node 3) b line_path → (a ≡ 1) × (b ≡ 1)

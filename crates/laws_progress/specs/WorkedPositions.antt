@@ -12,6 +12,7 @@ use Rattle.sp_runs.specs.Settings.{node_at_boot}
 use Rattle.sp_runs.specs.Worlds.{World, node_in}
 use Rattle.sp_journal.specs.declared.entry.Entry.{Entry}
 use Rattle.sp_journal.specs.declared.entry.Reply.TheVariants as replies
+use Rattle.sp_rules.specs.declared.kflow.FlowKind.TheVariants.{Plain}
 use Rattle.laws_progress.specs.Positions.{ProgressClaims}
 use Rattle.laws_progress.specs.Worked.{line, node, send}
 use Rattle.sp_schedule_events.specs.Documents.{none_published}
@@ -70,12 +71,12 @@ world one two three = record { keys = []; nodes = one ∷ two ∷ three ∷ []; 
 
 -- a world that the claims exclude
 abbrev pub IsRefused : World → Type 0
-IsRefused w = (arts : Arts) → ProgressClaims arts line send accepted w → ⊥
+IsRefused w = (arts : Arts) → ProgressClaims Plain arts line send accepted w → ⊥
 
 -- what the claims exclude
 pub record PositionsAreWorked : Type 0 where
   -- only the flow from 1 to 3 can be active
-  pub one_active : (arts : Arts) (w : World) (u : NodeId) (n : NodeState) → ProgressClaims arts line send accepted w → node_in w.nodes u ≡ Some n
+  pub one_active : (arts : Arts) (w : World) (u : NodeId) (n : NodeState) → ProgressClaims Plain arts line send accepted w → node_in w.nodes u ≡ Some n
       → count_by (λ f. f.active) n.parts.rel.flows ≤ 1
   -- 2 counts as acknowledged what 3 doesn't, 3 what it hasn't, and 2 has what 1 hasn't
   pub base_ahead : IsRefused (world source (standing 2 1 1 []) (at_boot 3))

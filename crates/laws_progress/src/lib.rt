@@ -1,5 +1,6 @@
-//! Counted delivery: what a source accepted is delivered, and its acknowledgement is back, after so many complete rounds of a path of correct nodes. Of runs in
-//! which nodes start and stop it is claimed while those of the path stay in their lives and know those of its ends.
+//! Counted delivery of flows of either kind: what a source accepted is delivered, and its acknowledgement is back, after so many complete rounds of a path of
+//! correct nodes. Messages on paths that wait go over the edges of their mask alone, so the path has those. Of runs in which nodes start and stop it is claimed
+//! while those of the path stay in their lives and know those of its ends.
 //! And told starts: while the nodes of a path stay up, each holds the boot of each other's life after so many rounds that tell starts.
 //! What is counted is claimed within a version of the topology: while each node of the path runs under one version, which withdraws no edge of the path. Other
 //! nodes may run under others, and the administrator may publish more.
@@ -24,7 +25,7 @@ pub fn positions_are_in_order()
     ensures { PositionsAreInOrder }
 {}
 
-/// A law: a message that a source accepted, at most b above its base, is delivered by the end of hops + b + 1 complete rounds.
+/// A law: a message that a source accepted, at most b above its base, is delivered by the end of hops + b + 1 complete rounds of a path that it may go.
 pub fn delivery_is_counted()
     ensures { CountedDelivery }
 {}
@@ -46,13 +47,14 @@ pub fn acknowledgements_return_in_lives()
     ensures { CountedReturnInLives }
 {}
 
-/// A law: the count of flows never falls when events are added. So who counts rounds may take that of all events of a run.
+/// A law: the count of flows of a kind never falls when events are added. So who counts rounds may take that of all events of a run.
 pub fn flow_counts_never_fall()
     ensures { FlowCountNeverFalls }
 {}
 
-/// A law: in two worked examples, along three nodes and round a compromised node, the first message is delivered by the end of four rounds, and its
-/// acknowledgement is back by the end of three more, by the promises. The rounds are computed.
+/// A law: in worked examples, along three nodes, round a compromised node, and along one of the two paths of a message on paths, the first message is
+/// delivered by the end of four rounds, and along the three nodes its acknowledgement is back by the end of three more, by the promises. The rounds are
+/// computed.
 pub fn two_examples_are_counted()
     ensures { RoundsAreCounted }
 {}

@@ -1,10 +1,12 @@
 -- Where something is acknowledged, the node keeps the acknowledgement of exactly that number, and each step keeps it so.
-use Rattle.laws_node.proofs.Adopting.{publishing, reading}
+use Rattle.laws_node.proofs.Adopting.{IsAdopted, publishing, reading}
+use Rattle.laws_node.proofs.FlowKinds.{ack_numbered, ack_said}
+use Rattle.laws_node.proofs.Ticking.{still_due}
 use Rattle.laws_node.proofs.Changing.{still_removed}
 use Rattle.laws_node.proofs.Priority.{all_map}
 use Rattle.laws_node.proofs.Withdrawing.{left_obeys}
 use Rattle.laws_node.specs.Withdrawals.{Obeys}
-use Rattle.sp_rules.specs.Topologies.{removed_of}
+use Rattle.sp_rules.specs.Topologies.{removed_of, weights_in}
 use Rattle.sp_rules.specs.Link.{advanced}
 use Rattle.sp_rules.specs.Polls.{is_served, parts_after, polled}
 use Rattle.std.proofs.Common.{◌≡◌, ◌≤◌, ◌<◌, ℕ, Bool, true, false, cond, List, [], ◌∷◌, length, drop, map, Option, Some, None, refl, sym, subst, ◌∙◌, arith}
@@ -23,24 +25,30 @@ use Rattle.sp_msg.specs.declared.body.Body.TheVariants as bodies
 use Rattle.sp_msg.specs.declared.kept.Kept.{Kept}
 use Rattle.sp_msg.specs.declared.refused.SendRefused.{SendRefused}
 use Rattle.sp_rules.proofs.FlowJudged.{new_ack, same_flow}
-use Rattle.sp_rules.specs.Answers.{ack_answer, epoch_answer, is_new, prio_answer, rel_answer, weight_answer}
-use Rattle.sp_rules.specs.Arts.{Arts}
+use Rattle.sp_rules.specs.Answers.{ack_answer, epoch_answer, is_new, prio_answer, weight_answer}
+use Rattle.sp_rules.specs.Arts.{Arts, Document}
 use Rattle.sp_rules.specs.Arrivals.{arrival_at, before_document, document_at, greeted, parts_met, pieces_in, pieces_where, read_by, reply_at, rises}
 use Rattle.sp_rules.specs.Arrivals.{sections_in}
 use Rattle.sp_rules.specs.Flow.{FlowState, acknowledged_by, after_take, concluded, ended, ends, flow_said, is_flow, no_flow, number_said, pushed, received}
-use Rattle.sp_rules.specs.Handle.{Arrival, handle, handle_all, met, offer_to, prio_handled}
+use Rattle.sp_rules.specs.Handle.{Arrival, ack_item, handle, handle_all, met, offer_to, prio_handled, rel_answer_to, rel_item}
+use Rattle.sp_rules.specs.Kflow as kflow
+use Rattle.sp_rules.specs.Kflow.{ack_body}
+use Rattle.sp_rules.specs.KflowSends.{krel_sends, send_krel_refusal}
 use Rattle.sp_rules.specs.Lives.{are_held, is_dated, judge_epoch, origin_said}
 use Rattle.sp_rules.specs.Node.{NodeState, call_refusal, called, kept_or, link_in, signed_now, with_link}
-use Rattle.sp_rules.specs.Parts.{Parts, is_signed, nodes_of}
+use Rattle.sp_rules.specs.Parts.{Fixed, Parts, bare_parts, empty_parts, flows_of, is_signed, nodes_of, with_flows}
+use Rattle.sp_rules.specs.Parts as parts
 use Rattle.sp_rules.specs.Pieces.{Piece, AckPiece, PrioAckPiece, PrioPiece, RelPiece, ReportPiece, WeightPiece, EpochPiece}
-use Rattle.sp_rules.specs.Rel.{closed, ended_where, is_one_of, is_over, RelState, admit_ack, admit_rel, ack_of, are_ends, due_place, flow_at, flow_in}
+use Rattle.sp_rules.specs.Rel.{closed, ended_where, is_one_of, is_over, pairs_of, RelState, admit_ack, admit_rel, ack_of, are_ends, due_place, flow_at, flow_in}
 use Rattle.sp_rules.specs.Rel.{flow_less, flow_to_me, is_end, is_to, judge_ack, judge_ack_of, judge_rel_of, next_place, peer_in, plain_ack, pushed_in, reported}
 use Rattle.sp_rules.specs.Rel.{served, served_at, settled, settled_at, told, took, with_flow, with_peer}
-use Rattle.sp_rules.specs.Sends.{rel_body, rel_refusal, send_prio_refusal, signer_refusal, weight_refusal}
-use Rattle.sp_rules.specs.Steps.{Input, NodeStep, Output, Poll, Datagram, Tick, SendRel, SendPrio, SetWeight, TakeRel, TakePrio, Publish}
-use Rattle.sp_rules.specs.Ticks.{at_time, due_now, settled_by}
-use Rattle.sp_rules.specs.Prio.{judge_prio}
+use Rattle.sp_rules.specs.Sends.{after_take_prio, own_prio, rel_body, rel_refusal, send_prio_refusal, signer_refusal, weight_body, weight_refusal}
+use Rattle.sp_rules.specs.Steps.{Input, NodeStep, Output, Poll, Datagram, Tick, SendRel, SendPrio, SetWeight, TakeRel, TakePrio, SendKrel, TakeKrel, Publish}
+use Rattle.sp_rules.specs.Ticks.{after_plain, at_time, due_now, second_refusal, settled_by}
+use Rattle.sp_rules.specs.Prio.{admit_prio, judge_prio}
 use Rattle.sp_rules.specs.Weights.{held}
+use Rattle.sp_rules.specs.declared.kflow.FlowKind.{FlowKind}
+use Rattle.sp_rules.specs.declared.kflow.FlowKind.TheVariants.{Plain, Paths}
 use Rattle.sp_rules.specs.declared.answers.Item.TheVariants as items
 use Rattle.sp_rules.specs.declared.answers.PrioAnswer.{PrioAnswer}
 use Rattle.sp_rules.specs.declared.answers.PrioAnswer.TheVariants as prios
@@ -50,6 +58,7 @@ use Rattle.laws_runs.specs.Signs.{FlowAck}
 use Rattle.laws_node.proofs.Handles as judged
 use Rattle.laws_node.proofs.Reliable.{dated_due}
 use Rattle.laws_node.proofs.Tables.{all_first, all_replace, cond_either, cond_where}
+use Rattle.laws_runs.proofs.EachKind.{of_both, of_one}
 
 abbrev pub RelAck : RelState → Type 0
 RelAck r = All (FlowAck r.removed) r.flows
@@ -130,17 +139,12 @@ above_new r flow (bodies.Weight a) new = absurd (let e : acks.BadEnd ≡ acks.Ne
 above_new r flow (bodies.Krel a) new = absurd (let e : acks.BadEnd ≡ acks.New = new in cc)
 above_new r flow (bodies.Epoch a) new = absurd (let e : acks.BadEnd ≡ acks.New = new in cc)
 
--- a new acknowledgement, whatever its signature and its boots
-pub ack_ack : (right dated : Bool) (r : RelState) (flow : Flow) (o : Kept) → RelAck r
-    → RelAck (cond (is_new (items.Ack (ack_answer right dated (judge_ack_of r flow o.body)))) (admit_ack r o) r)
-ack_ack right dated r flow o h =
-    cond_where RelAck (is_new (items.Ack (ack_answer right dated (judge_ack_of r flow o.body)))) (admit_ack r o) r
-    (λ new.
+-- a new acknowledgement is kept
+admit_ack_ack : (r : RelState) (flow : Flow) (o : Kept) → judge_ack_of r flow o.body ≡ acks.New → RelAck r → RelAck (admit_ack r o)
+admit_ack_ack r flow o new h =
     let said = flow_said o.body in
     let f = flow_in r.flows said in
-    with_ack r said (acknowledged_by f o) h
-    (acked_ack r.removed f o (above_new r flow o.body (judged.new_ack right dated (judge_ack_of r flow o.body) new).1) (flow_ack r said h)))
-    (λ old. h)
+    with_ack r said (acknowledged_by f o) h (acked_ack r.removed f o (above_new r flow o.body new) (flow_ack r said h))
 
 pub reported_ack : (r : RelState) (v : NodeId) (flow : Flow) (base have : ℕ) → RelAck r → RelAck (reported r v flow base have)
 reported_ack r v flow base have h = cond_either RelAck (flow_in r.flows flow).active (with_peer r v (told (peer_in r.peers v) flow base have)) r h h
@@ -176,51 +180,70 @@ less_ack gone v f h = cond_either (FlowAck gone) (is_end v (ends f)) (no_flow (e
 less_all_ack : (gone : List NodeId) (v : NodeId) (fs : List FlowState) → All (FlowAck gone) fs → All (FlowAck gone) (map (flow_less v) fs)
 less_all_ack gone v fs h = all_map (FlowAck gone) (FlowAck gone) (flow_less v) (less_ack gone v) fs h
 
-greeted_ack : (epochs risen : Bool) (v : NodeId) (p : Parts) → RelAck p.rel → RelAck (greeted epochs risen v p).rel
-greeted_ack true true v p h = h
+-- ---- the flows of both kinds
+
+-- what holds of the acknowledgements of each kind
+abbrev pub AllAcks : Parts → Type 0
+AllAcks p = (kind : FlowKind) → RelAck (flows_of kind p)
+
+-- where flows of a kind change
+with_acks : (kind : FlowKind) (r : RelState) (p : Parts) → RelAck r → AllAcks p → AllAcks (with_flows kind r p)
+with_acks = of_one (λ kind r. RelAck r)
+
+-- of plain ones, and of those on paths
+pub acks_of : (p : Parts) → RelAck p.rel → RelAck p.kflow.flows → AllAcks p
+acks_of = of_both (λ kind r. RelAck r)
+
+greeted_ack : (epochs risen : Bool) (v : NodeId) (p : Parts) → AllAcks p → AllAcks (greeted epochs risen v p)
+greeted_ack true true v p h = acks_of (greeted true true v p) (h Plain) (h Paths)
 greeted_ack true false v p h = h
 greeted_ack false risen v p h = h
 
+-- another life of a node
+met_ack : (p : Parts) (o : Kept) → AllAcks p → AllAcks (met p o)
+met_ack p o h =
+    acks_of (met p o) (less_all_ack p.rel.removed (origin_said o.body) p.rel.flows (h Plain))
+    (less_all_ack p.kflow.flows.removed (origin_said o.body) p.kflow.flows.flows (h Paths))
+
+-- a poll
+polled_ack : (n : NodeState) (v : NodeId) → AllAcks n.parts → AllAcks (polled n.fixed n.parts v)
+polled_ack n v h = acks_of (polled n.fixed n.parts v) (served_ack n.parts.rel v (h Plain)) (served_ack n.parts.kflow.flows v (h Paths))
+
 -- ---- pieces
 
-piece_ack : (arts : Arts) (at : Arrival) (p : Parts) (piece : Piece) → RelAck p.rel → RelAck (handle arts at p piece).parts.rel
+piece_ack : (arts : Arts) (at : Arrival) (p : Parts) (piece : Piece) → AllAcks p → AllAcks (handle arts at p piece).parts
 piece_ack arts at p (WeightPiece o) h =
-    cond_either (λ (q : Parts). RelAck q.rel) (is_new (items.Weight (weight_answer (is_signed arts at.fixed o) (offer_to at.fixed.me p.weights o.body))))
-    (record p { weights = held p.weights o }) p h h
-piece_ack arts at p (PrioAckPiece number) h = h
+    cond_either AllAcks (is_new (items.Weight (weight_answer (is_signed arts at.fixed o) (offer_to at.fixed.me p.weights o.body))))
+    (record p { weights = held p.weights o }) p (acks_of (record p { weights = held p.weights o }) (h Plain) (h Paths)) h
+piece_ack arts at p (PrioAckPiece number) h = acks_of (handle arts at p (PrioAckPiece number)).parts (h Plain) (h Paths)
 piece_ack arts at p (PrioPiece number o) h = go (prio_answer (is_signed arts at.fixed o) (is_dated p.lives o.body) (judge_prio p.prio o.body at.now))
   where
-    go : (answer : PrioAnswer) → RelAck (prio_handled at.from answer number o p).parts.rel
-    go prios.New = h
-    go prios.Seen = h
+    go : (answer : PrioAnswer) → AllAcks (prio_handled at.from answer number o p).parts
+    go prios.New = acks_of (prio_handled at.from prios.New number o p).parts (h Plain) (h Paths)
+    go prios.Seen = acks_of (prio_handled at.from prios.Seen number o p).parts (h Plain) (h Paths)
     go prios.BadEnd = h
     go prios.Expired = h
     go prios.BadSig = h
     go prios.Epoch = h
-piece_ack arts at p (ReportPiece flow sboot dboot base have) h =
-    cond_either (λ (q : Parts). RelAck q.rel) (are_held p.lives flow sboot dboot) (record p { rel = reported p.rel at.from flow base have }) p
-    (reported_ack p.rel at.from flow base have h) h
-piece_ack arts at p (AckPiece flow o) h =
-    cond_where (λ (q : Parts). RelAck q.rel)
-    (is_new (items.Ack (ack_answer (is_signed arts at.fixed o) (is_dated p.lives o.body) (judge_ack_of p.rel flow o.body))))
-    (record p { rel = admit_ack p.rel o }) p
-    (λ new.
-    let said = flow_said o.body in
-    let f = flow_in p.rel.flows said in
-    with_ack p.rel said (acknowledged_by f o) h
-    (acked_ack p.rel.removed f o
-    (above_new p.rel flow o.body (judged.new_ack (is_signed arts at.fixed o) (is_dated p.lives o.body) (judge_ack_of p.rel flow o.body) new).1)
-    (flow_ack p.rel said h)))
-    (λ old. h)
-piece_ack arts at p (RelPiece flow o) h =
-    cond_either (λ (q : Parts). RelAck q.rel)
-    (is_new (items.Rel (rel_answer (is_signed arts at.fixed o) (is_dated p.lives o.body) (judge_rel_of p.rel flow o.body))))
-    (record p { rel = admit_rel p.rel o }) p (admit_rel_ack p.rel o h) h
+piece_ack arts at p (ReportPiece kind flow sboot dboot base have) h =
+    let r = reported (flows_of kind p) at.from flow base have in
+    cond_either AllAcks (are_held p.lives flow sboot dboot) (with_flows kind r p) p
+    (with_acks kind r p (reported_ack (flows_of kind p) at.from flow base have (h kind)) h) h
+piece_ack arts at p (AckPiece kind flow o) h =
+    let right = is_signed arts at.fixed o in
+    let dated = is_dated p.lives o.body in
+    let r = flows_of kind p in
+    let j = judge_ack_of r flow o.body in
+    cond_where AllAcks (is_new (ack_item kind (ack_answer right dated j))) (with_flows kind (admit_ack r o) p) p
+    (λ new. with_acks kind (admit_ack r o) p (admit_ack_ack r flow o (judged.new_ack kind right dated j new).1 (h kind)) h) (λ old. h)
+piece_ack arts at p (RelPiece kind flow o) h =
+    let r = flows_of kind p in
+    cond_either AllAcks (is_new (rel_item kind (rel_answer_to arts at p (judge_rel_of r flow o.body) o))) (with_flows kind (admit_rel r o) p) p
+    (with_acks kind (admit_rel r o) p (admit_rel_ack r o (h kind)) h) h
 piece_ack arts at p (EpochPiece o) h =
-    cond_either (λ (q : Parts). RelAck q.rel) (is_new (items.Epoch (epoch_answer (is_signed arts at.fixed o) (judge_epoch at.fixed.me p.lives o.body))))
-    (met p o) p (less_all_ack p.rel.removed (origin_said o.body) p.rel.flows h) h
+    cond_either AllAcks (is_new (items.Epoch (epoch_answer (is_signed arts at.fixed o) (judge_epoch at.fixed.me p.lives o.body)))) (met p o) p (met_ack p o h) h
 
-pub pieces_ack : (arts : Arts) (at : Arrival) (p : Parts) (pieces : List Piece) → RelAck p.rel → RelAck (handle_all arts at p pieces).parts.rel
+pub pieces_ack : (arts : Arts) (at : Arrival) (p : Parts) (pieces : List Piece) → AllAcks p → AllAcks (handle_all arts at p pieces).parts
 pieces_ack arts at p [] h = h
 pieces_ack arts at p (piece ∷ pieces) h = pieces_ack arts at (handle arts at p piece).parts pieces (piece_ack arts at p piece h)
 
@@ -254,14 +277,23 @@ pub closed_ack : (r : RelState) (more : List NodeId) → ((u : NodeId) → is_on
     → RelAck (closed r more)
 closed_ack r more less h = all_map (FlowAck r.removed) (FlowAck more) (ended_where more) (ended_ack r.removed more less) r.flows h
 
+-- who is removed under a version stays removed under the next
+parts_closed_ack : (p : Parts) (least : List ℕ) (more : List NodeId)
+    → ((kind : FlowKind) (u : NodeId) → is_one_of (flows_of kind p).removed u ≡ true → is_one_of more u ≡ true) → AllAcks p
+    → AllAcks (parts.closed p least more)
+parts_closed_ack p least more less h =
+    acks_of (parts.closed p least more) (closed_ack p.rel more (less Plain) (h Plain)) (closed_ack p.kflow.flows more (less Paths) (h Paths))
+
+-- who is removed in either kind stays so
+pub still_gone : (arts : Arts) (n : NodeState) (d : Document) → IsAdopted arts n d → Obeys n → (kind : FlowKind) (u : NodeId)
+    → is_one_of (flows_of kind n.parts).removed u ≡ true → is_one_of (removed_of (nodes_of d.topology) d.topology.edges) u ≡ true
+still_gone arts n d by obeys Plain u gone = still_removed arts n d by obeys u gone
+still_gone arts n d by obeys Paths u gone =
+    still_removed arts n d by obeys u (subst (λ (these : List NodeId). is_one_of these u ≡ true) (obeys.kflow ∙ sym obeys.rel) gone)
+
 -- ---- steps
 
-kept_where : {X : Type 0} (r : Option X) (n m new : NodeState) → new ≡ kept_or r n m → RelAck n.parts.rel → (r ≡ None → new ≡ m → RelAck m.parts.rel)
-    → RelAck new.parts.rel
-kept_where None n m new is old then = subst (λ (y : NodeState). RelAck y.parts.rel) (sym is) (then refl is)
-kept_where (Some x) n m new is old then = subst (λ (y : NodeState). RelAck y.parts.rel) (sym is) old
-
-kept_ack : {X : Type 0} (r : Option X) (n m : NodeState) → RelAck n.parts.rel → RelAck m.parts.rel → RelAck (kept_or r n m).parts.rel
+kept_ack : {X : Type 0} (r : Option X) (n m : NodeState) → AllAcks n.parts → AllAcks m.parts → AllAcks (kept_or r n m).parts
 kept_ack None n m old new = new
 kept_ack (Some x) n m old new = old
 
@@ -271,43 +303,69 @@ due_is r a None e = absurd (let f : None ≡ Some a = e in cc)
 due_is r a (Some fl) e = let f : Some (ack_of r fl) ≡ Some a = e in let is : ack_of r fl ≡ a = cc in
     subst (λ (b : Ack). b.seq ≡ (flow_in r.flows (record { src = b.src; dst = b.dst })).at.have) is refl
 
+-- the node signs what is due
+signs_due : (arts : Arts) (kind : FlowKind) (n : NodeState) (o : Option Ack) → due_now kind n ≡ o → (r : Option SendRefused) → AllAcks n.parts
+    → AllAcks (settled_by arts kind n o r).parts
+signs_due arts kind n None e r h = h
+signs_due arts kind n (Some ack) e (Some refusal) h = h
+signs_due arts kind n (Some ack) e None h =
+    let d = dated_due kind n ack e in
+    let flows = flows_of kind n.parts in
+    let o = signed_now arts n (ack_body kind ack) in
+    let due = due_is flows d.raw (option_and_then (flow_at flows.flows) (due_place flows)) d.is_due in
+    let number = subst (λ (a : Ack). a.seq ≡ (flow_in flows.flows (record { src = a.src; dst = a.dst })).at.have) (sym d.is) due in
+    let said = ap (λ (fl : Flow). (flow_in flows.flows fl).at.have) (ack_said kind ack) in
+    with_acks kind (settled flows o) n.parts (settled_ack flows o (ack_numbered kind ack ∙ number ∙ sym said) (h kind)) h
+
 pub step_ack : (arts : Arts) (n : NodeState) (input : Input) (output : Output) (new : NodeState) → NodeStep arts n input output new → Obeys n
-    → RelAck n.parts.rel → RelAck new.parts.rel
+    → AllAcks n.parts → AllAcks new.parts
 step_ack arts n (Poll v) output new s obeys h =
-    subst (λ (m : NodeState). RelAck m.parts.rel) (sym s.1)
+    subst (λ (m : NodeState). AllAcks m.parts) (sym s.1)
     (kept_ack (call_refusal n v) n (called n (with_link n v (advanced (link_in n v))) (parts_after n v)) h
-    (cond_either (λ (p : Parts). RelAck p.rel) (is_served n v) (polled n.fixed n.parts v) n.parts (served_ack n.parts.rel v h) h))
+    (cond_either AllAcks (is_served n v) (polled n.fixed n.parts v) n.parts (polled_ack n v h) h))
 step_ack arts n (Datagram v bytes) output new s obeys h =
     let left = before_document arts n v bytes in
-    let first : RelAck left.parts.rel =
+    let first : AllAcks left.parts =
     pieces_ack arts (arrival_at n v) (parts_met arts n v bytes) (pieces_where (reply_at arts n v bytes) (pieces_in n.fixed (sections_in arts n.fixed bytes)))
     (greeted_ack n.fixed.epochs (rises arts n v bytes) v n.parts h) in
-    subst (λ (m : NodeState). RelAck m.parts.rel) (sym s.1) (kept_ack (call_refusal n v) n (read_by arts left (document_at arts n v bytes)) h
-    (reading arts left (document_at arts n v bytes) (λ m caused. RelAck m.parts.rel) first
-    (λ document d is reads by. closed_ack left.parts.rel (removed_of (nodes_of d.topology) d.topology.edges)
-    (still_removed arts left d by (left_obeys arts n v bytes obeys)) first)))
-step_ack arts n (Tick now) output new s obeys h = subst (λ (m : NodeState). RelAck m.parts.rel) (sym s.1) (go (due_now n) refl (signer_refusal n.signer))
-  where
-    go : (o : Option Ack) → due_now n ≡ o → (r : Option SendRefused) → RelAck (settled_by arts (at_time n now) o r).parts.rel
-    go None e r = h
-    go (Some ack) e (Some refusal) = h
-    go (Some ack) e None =
-        let d = dated_due n ack e in
-        let number = due_is n.parts.rel d.raw (option_and_then (flow_at n.parts.rel.flows) (due_place n.parts.rel)) d.is_due in
-        settled_ack n.parts.rel (signed_now arts (at_time n now) (bodies.Ack ack))
-        (subst (λ (a : Ack). a.seq ≡ (flow_in n.parts.rel.flows (record { src = a.src; dst = a.dst })).at.have) (sym d.is) number) h
+    subst (λ (m : NodeState). AllAcks m.parts) (sym s.1) (kept_ack (call_refusal n v) n (read_by arts left (document_at arts n v bytes)) h
+    (reading arts left (document_at arts n v bytes) (λ m caused. AllAcks m.parts) first
+    (λ document d is reads by. parts_closed_ack left.parts (weights_in d.topology.edges) (removed_of (nodes_of d.topology) d.topology.edges)
+    (still_gone arts left d by (left_obeys arts n v bytes obeys)) first)))
+step_ack arts n (Tick now) output new s obeys h =
+    let first = signs_due arts Plain (at_time n now) (due_now Plain n) refl (signer_refusal n.signer)
+    (acks_of (at_time n now).parts (h Plain) (h Paths)) in
+    subst (λ (m : NodeState). AllAcks m.parts) (sym s.1)
+    (signs_due arts Paths (after_plain arts n now) (due_now Paths n) (still_due arts (at_time n now) (due_now Plain n) (signer_refusal n.signer))
+    (second_refusal arts n now) first)
 step_ack arts n (SendRel dst payload) output new s obeys h =
-    subst (λ (m : NodeState). RelAck m.parts.rel) (sym s.1)
-    (kept_ack (rel_refusal n dst) n _ h (sent_ack n.parts.rel (signed_now arts n (rel_body n dst payload)) h))
+    let o = signed_now arts n (rel_body n dst payload) in
+    subst (λ (m : NodeState). AllAcks m.parts) (sym s.1)
+    (kept_ack (rel_refusal n dst) n _ h (with_acks Plain (pushed_in n.parts.rel o) n.parts (sent_ack n.parts.rel o (h Plain)) h))
 step_ack arts n (SendPrio m) output new s obeys h =
-    subst (λ (m : NodeState). RelAck m.parts.rel) (sym s.new_is) (kept_ack (send_prio_refusal n m s.choice) n _ h h)
+    subst (λ (m : NodeState). AllAcks m.parts) (sym s.new_is)
+    (kept_ack (send_prio_refusal n m s.choice) n _ h
+    (acks_of (record n.parts { prio = admit_prio n.parts.prio (own_prio arts n m s.choice) None }) (h Plain) (h Paths)))
 step_ack arts n (SetWeight v weight) output new s obeys h =
-    subst (λ (m : NodeState). RelAck m.parts.rel) (sym s.1) (kept_ack (weight_refusal n v weight) n _ h h)
-step_ack arts n (TakeRel src) output new s obeys h = subst (λ (m : NodeState). RelAck m.parts.rel) (sym s.1) (took_ack n.parts.rel src h)
-step_ack arts n TakePrio output new s obeys h = subst (λ (m : NodeState). RelAck m.parts.rel) (sym s.1) h
+    subst (λ (m : NodeState). AllAcks m.parts) (sym s.1)
+    (kept_ack (weight_refusal n v weight) n _ h
+    (acks_of (record n.parts { weights = held n.parts.weights (signed_now arts n (weight_body n v weight)) }) (h Plain) (h Paths)))
+step_ack arts n (TakeRel src) output new s obeys h =
+    subst (λ (m : NodeState). AllAcks m.parts) (sym s.1) (with_acks Plain (took n.parts.rel src) n.parts (took_ack n.parts.rel src (h Plain)) h)
+step_ack arts n TakePrio output new s obeys h =
+    subst (λ (m : NodeState). AllAcks m.parts) (sym s.1) (acks_of (after_take_prio n).parts (h Plain) (h Paths))
+step_ack arts n (SendKrel m) output new s obeys h =
+    let o = signed_now arts n (krel_sends n m s.choice) in
+    subst (λ (m : NodeState). AllAcks m.parts) (sym s.new_is)
+    (kept_ack (send_krel_refusal n m s.choice) n _ h
+    (acks_of (record n.parts { kflow = kflow.pushed n.parts.kflow o m.paths }) (h Plain) (sent_ack n.parts.kflow.flows o (h Paths))))
+step_ack arts n (TakeKrel src) output new s obeys h =
+    subst (λ (m : NodeState). AllAcks m.parts) (sym s.1)
+    (with_acks Paths (took n.parts.kflow.flows src) n.parts (took_ack n.parts.kflow.flows src (h Paths)) h)
 step_ack arts n (Publish document) output new s obeys h =
-    subst (λ (m : NodeState). RelAck m.parts.rel) (sym s.1) (publishing arts n document (λ m caused. RelAck m.parts.rel) h
-    (λ d reads by. closed_ack n.parts.rel (removed_of (nodes_of d.topology) d.topology.edges) (still_removed arts n d by obeys) h))
+    subst (λ (m : NodeState). AllAcks m.parts) (sym s.1) (publishing arts n document (λ m caused. AllAcks m.parts) h
+    (λ d reads by. parts_closed_ack n.parts (weights_in d.topology.edges) (removed_of (nodes_of d.topology) d.topology.edges)
+    (still_gone arts n d by obeys) h))
 
 -- ---- over a run
 
@@ -318,3 +376,11 @@ all_none (f ∷ flows) = All-cons (FlowAck []) (no_flow f) (map no_flow flows) (
 -- whatever is removed at the start
 pub none_closed : (r : RelState) (more : List NodeId) → r.removed ≡ [] → RelAck r → RelAck (closed r more)
 none_closed r more none h = closed_ack r more (λ u gone. absurd (let wrong : false ≡ true = ap (λ (x : List NodeId). is_one_of x u) (sym none) ∙ gone in cc)) h
+
+-- where parts are empty, whatever is removed
+pub bare_acks : (f : Fixed) (buffer store : ℕ) → AllAcks (empty_parts f buffer store)
+bare_acks f buffer store =
+    let bare = bare_parts f buffer store in
+    let gone = removed_of (nodes_of f.topology) f.topology.edges in
+    let none = all_none (pairs_of (nodes_of f.topology)) in
+    acks_of (empty_parts f buffer store) (none_closed bare.rel gone refl none) (none_closed bare.kflow.flows gone refl none)

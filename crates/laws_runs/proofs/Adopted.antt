@@ -13,10 +13,13 @@ use Rattle.sp_rules.specs.Arrivals.{before_document, document_at, document_where
 use Rattle.sp_rules.specs.Arts.{Arts, Document}
 use Rattle.sp_rules.specs.Documents.{adopted_where, adopting, answer_to, document_answer}
 use Rattle.sp_rules.specs.Node.{NodeState, call_refusal, kept_or, topology_now}
+use Rattle.sp_rules.specs.KflowSends.{send_krel_refusal}
 use Rattle.sp_rules.specs.Sends.{rel_refusal, send_prio_refusal, signer_refusal, weight_refusal}
+use Rattle.sp_rules.specs.declared.kflow.FlowKind.{FlowKind}
+use Rattle.sp_rules.specs.declared.kflow.FlowKind.TheVariants.{Plain, Paths}
 use Rattle.sp_rules.specs.Steps as steps
 use Rattle.sp_rules.specs.Steps.{Input, NodeStep, Output, arrived, document_adopted, refused_call, refused_send}
-use Rattle.sp_rules.specs.Ticks.{at_time, due_now, settled_by}
+use Rattle.sp_rules.specs.Ticks.{after_plain, at_time, due_now, second_refusal, settled_by}
 use Rattle.sp_rules.specs.Topologies.{under, weights_in}
 use Rattle.sp_rules.specs.Versions.{Live}
 use Rattle.sp_rules.specs.declared.answers.DocumentAnswer.{DocumentAnswer}
@@ -35,7 +38,7 @@ use Rattle.sp_runs.specs.Forgery.{forged_document, is_published, lists_in, says_
 use Rattle.sp_runs.specs.Inputs.{crafted_contents, crafted_document, crafted_frame, flipped, handed_out, input_of, last_weights, may_sign}
 use Rattle.sp_runs.specs.Runs.{AreFields}
 use Rattle.sp_runs.specs.Settings as settings
-use Rattle.sp_runs.specs.Settings.{Setting, SettingFits, may_change}
+use Rattle.sp_runs.specs.Settings.{Setting, SettingFits}
 use Rattle.sp_runs.specs.Worlds.{World, crafts}
 use Rattle.sp_schedule_crafts.specs.Objects.{body_of}
 use Rattle.sp_schedule_events.proofs.PublishedLemmas.{published_more}
@@ -85,8 +88,10 @@ is_it x w e a b none same = Hands_none (subst IsNoDocument (one_input a b same) 
 
 pub hands : (arts : Arts) (x : Setting) (w : World) (n : NodeState) (e : Event) (input : Input) → input_of arts x w n e ≡ Some input → Hands x w e input
 hands arts x w n (events.Rel s d payload) input reaches = is_it x w _ _ input tt reaches
+hands arts x w n (events.Krel s d count payload) input reaches = is_it x w _ _ input tt reaches
 hands arts x w n (events.Prio s d level expiry paths payload) input reaches = is_it x w _ _ input tt reaches
 hands arts x w n (events.Take d s) input reaches = is_it x w _ _ input tt reaches
+hands arts x w n (events.KTake d s) input reaches = is_it x w _ _ input tt reaches
 hands arts x w n (events.TakePrio d) input reaches = is_it x w _ _ input tt reaches
 hands arts x w n (events.Tick u now) input reaches = is_it x w _ _ input tt reaches
 hands arts x w n (events.Weight u v weight) input reaches = is_it x w _ _ input tt reaches
@@ -144,10 +149,11 @@ either_live : {X : Type 0} (o : Option X) (n m : NodeState) → m.live ≡ n.liv
 either_live None n m same = same
 either_live (Some refused) n m same = refl
 
-settled_live : (arts : Arts) (n : NodeState) (o : Option Ack) (refusal : Option SendRefused) → (settled_by arts n o refusal).live ≡ n.live
-settled_live arts n None refusal = refl
-settled_live arts n (Some ack) (Some why) = refl
-settled_live arts n (Some ack) None = refl
+settled_live : (arts : Arts) (kind : FlowKind) (n : NodeState) (o : Option Ack) (refusal : Option SendRefused)
+    → (settled_by arts kind n o refusal).live ≡ n.live
+settled_live arts kind n None refusal = refl
+settled_live arts kind n (Some ack) (Some why) = refl
+settled_live arts kind n (Some ack) None = refl
 
 came_by : (arts : Arts) (n : NodeState) (input : Input) (output : Output) (after : NodeState) → NodeStep arts n input output after
     → Came_by input output n.live after.live
@@ -165,13 +171,17 @@ came_by arts n (steps.Datagram v bytes) output after s = go (call_refusal n v) (
       | inr adopted ↦ By_frame (told ∙ adopted ∙ ap (λ (m : NodeState). Some m.live.document) (sym is))
     ]
 came_by arts n (steps.Tick now) output after s =
-    As_it_was (ap (λ (m : NodeState). m.live) s.1 ∙ settled_live arts (at_time n now) (due_now n) (signer_refusal n.signer))
+    As_it_was (ap (λ (m : NodeState). m.live) s.1 ∙ settled_live arts Paths (after_plain arts n now) (due_now Paths n) (second_refusal arts n now)
+    ∙ settled_live arts Plain (at_time n now) (due_now Plain n) (signer_refusal n.signer))
 came_by arts n (steps.SendRel dst payload) output after s = As_it_was (ap (λ (m : NodeState). m.live) s.1 ∙ either_live (rel_refusal n dst) n _ refl)
 came_by arts n (steps.SendPrio m) output after s =
     As_it_was (ap (λ (m : NodeState). m.live) s.new_is ∙ either_live (send_prio_refusal n m s.choice) n _ refl)
 came_by arts n (steps.SetWeight v weight) output after s =
     As_it_was (ap (λ (m : NodeState). m.live) s.1 ∙ either_live (weight_refusal n v weight) n _ refl)
+came_by arts n (steps.SendKrel m) output after s =
+    As_it_was (ap (λ (m : NodeState). m.live) s.new_is ∙ either_live (send_krel_refusal n m s.choice) n _ refl)
 came_by arts n (steps.TakeRel src) output after s = As_it_was (ap (λ (m : NodeState). m.live) s.1)
+came_by arts n (steps.TakeKrel src) output after s = As_it_was (ap (λ (m : NodeState). m.live) s.1)
 came_by arts n steps.TakePrio output after s = As_it_was (ap (λ (m : NodeState). m.live) s.1)
 came_by arts n (steps.Publish document) output after s =
     subst (λ (m : NodeState). Came_by (steps.Publish document) output n.live m.live) (sym s.1)

@@ -7,7 +7,7 @@ use Rattle.sp_runs.specs.Worlds.{at_start}
 use Rattle.sp_journal.specs.declared.entry.Entry.{Entry}
 use Rattle.sp_schedule_events.specs.declared.event.Event.{Event}
 use Rattle.laws_runs.specs.States.{BeginningsAreClean}
-use Rattle.laws_runs.proofs.Signed.{even}
+use Rattle.laws_runs.proofs.SignedEvents.{even}
 
 -- of a list with one more element, so many are of the list, or all are taken
 front : {X : Type 0} (n : ℕ) (xs : List X) (y : X) → n ≤ length xs → take n (xs ++ y ∷ []) ≡ take n xs

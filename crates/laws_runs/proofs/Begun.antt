@@ -12,7 +12,6 @@ use Rattle.sp_msg.specs.declared.kept.Kept.{Kept}
 use Rattle.sp_rules.specs.Arts.{Arts}
 use Rattle.sp_rules.specs.Node.{NodeState, announced, booted, own_epoch, signed_now}
 use Rattle.sp_rules.specs.Parts.{Fixed, nodes_of}
-use Rattle.sp_rules.specs.Rel.{pairs_of}
 use Rattle.laws_node.specs.Inputs.{ArtsFit}
 use Rattle.laws_node.specs.Shapes.{shape_of}
 use Rattle.laws_node.specs.Sizes.{IsNode}
@@ -37,8 +36,9 @@ use Rattle.sp_rules.specs.Topologies.{removed_of, weights_in}
 use Rattle.laws_runs.specs.KeyFiles.{KeysStand}
 use Rattle.laws_runs.specs.Premises.{Carries}
 use Rattle.laws_runs.specs.Signs.{Good, NodeIs, sizes_at}
-use Rattle.laws_runs.proofs.Acks.{all_none, none_closed}
-use Rattle.laws_runs.proofs.Dated.{closed_dated, no_flows_dated}
+use Rattle.sp_rules.specs.declared.kflow.FlowKind.TheVariants.{Plain, Paths}
+use Rattle.laws_runs.proofs.Acks.{AllAcks, acks_of, bare_acks}
+use Rattle.laws_runs.proofs.Dated.{closed_dated, bare_dated}
 use Rattle.laws_runs.proofs.Goods.{fit_in}
 use Rattle.laws_runs.proofs.Lists.{among_right, both, first_among, told_more}
 
@@ -102,6 +102,9 @@ module _ (arts : Arts) (x : Setting) (es : List Event) (js : List Entry) (old ne
     good = fit.own (own_epoch f) (epoch_fields f x.topology.format (fits.format on) node early) (epoch_about arts f before.signer fit);
   }
 
+  announced_acks : AllAcks (announced arts before).parts
+  announced_acks = acks_of (announced arts before).parts (bare_acks f x.buffer x.store Plain) (bare_acks f x.buffer x.store Paths)
+
   pub start_is : (v : NodeId) (n : NodeState) → (v ≡ (node_at_start arts x u (next_start x old u)).fixed.me) × (n ≡ node_at_start arts x u (next_start x old u))
       → NodeIs x (Good arts x (es ++ events.Start u ∷ []) (js ++ j ∷ [])) v n
   start_is v n it =
@@ -122,10 +125,9 @@ module _ (arts : Arts) (x : Setting) (es : List Event) (js : List Entry) (old ne
               document = fits.room x.topology.version (weights_in x.topology.edges);
               signer = record { index = let a = below in omega (arith, a); bound = within; total = fits.total };
             }));
-        acks = none_closed (bare_parts f x.buffer x.store).rel (removed_of (nodes_of x.topology) x.topology.edges) refl
-            (all_none (pairs_of (nodes_of x.topology)));
+        acks = announced_acks;
         obeys = subst Obeys begins (start_obeys arts f before.signer (link_keys x u) x.buffer x.store);
         dated = closed_dated (record (bare_parts f x.buffer x.store) { lives = (announced arts before).parts.lives }) (weights_in x.topology.edges)
-            (removed_of (nodes_of x.topology) x.topology.edges) (no_flows_dated (announced arts before).parts.lives (pairs_of (nodes_of x.topology)));
+            (removed_of (nodes_of x.topology) x.topology.edges) (bare_dated f x.buffer x.store (announced arts before).parts.lives);
         plain = λ off. absurd (let wrong : false ≡ true = sym off ∙ on in cc);
       }))

@@ -5,9 +5,13 @@ use Rattle.std.proofs.lemmas.Bool.{cases_Bool}
 use Rattle.sp_base.specs.declared.id.NodeId.{NodeId}
 use Rattle.sp_frame.specs.Views.{as_list}
 use Rattle.sp_msg.specs.declared.kept.Kept.{Kept}
-use Rattle.sp_rules.specs.Flow.{FlowState, IsStanding}
+use Rattle.sp_rules.specs.Flow.{FlowState, IsStanding, ends}
 use Rattle.sp_rules.specs.Node.{NodeState}
-use Rattle.sp_rules.specs.Parts.{neighbours_of}
+use Rattle.sp_rules.specs.Parts.{flows_of, neighbours_of, nodes_of}
+use Rattle.sp_rules.specs.Rel.{pairs_of}
+use Rattle.sp_rules.specs.declared.kflow.FlowKind.{FlowKind}
+use Rattle.laws_node.proofs.FlowKinds.{flows_hold}
+use Rattle.laws_runs.proofs.EachKind.{of_both}
 use Rattle.sp_rules.specs.PrioPeer.{PrioPeer}
 use Rattle.sp_rules.specs.Weights.{held_in, row_for}
 use Rattle.laws_node.specs.Flows.{FlowHolds}
@@ -32,8 +36,9 @@ within me bound f h = elim (cases_Bool (f.dst.0 == me.0)) [
   | inr t ↦ let whole = h.position t in omega (arith, whole, h.bounded)
 ]
 
-flow_bounded : (x : Setting) (P : Kept → Type 0) (u : NodeId) (index : ℕ) (f : FlowState) → FlowHolds (sizes_at x P u) index f → FlowIsBounded x.buffer f
-flow_bounded x P u index f h = record {
+flow_bounded : (kind : FlowKind) (x : Setting) (P : Kept → Type 0) (u : NodeId) (index : ℕ) (f : FlowState) → FlowHolds kind (sizes_at x P u) index f
+    → FlowIsBounded x.buffer f
+flow_bounded kind x P u index f h = record {
   list = within u x.buffer f h.standing;
   inbox = h.standing.inbox;
   acknowledgement = at_most_one f.ack;
@@ -68,9 +73,10 @@ is_bounded x P u n is =
     let prio = is.holds.parts.prio in
     let numbers = numbers_after n.calls in
     record {
-      flows = is.holds.parts.rel.keys;
-      each_flow = all_weaker (FlowHolds k n.signer.index) (FlowIsBounded x.buffer) n.parts.rel.flows (flow_bounded x P u n.signer.index)
-          is.holds.parts.rel.flows;
+      flows = of_both (λ kind r. map ends r.flows ≡ pairs_of (nodes_of x.topology)) n.parts is.holds.parts.rel.keys is.holds.parts.kflow.keys;
+      each_flow = λ kind.
+          all_weaker (FlowHolds kind k n.signer.index) (FlowIsBounded x.buffer) (flows_of kind n.parts).flows (flow_bounded kind x P u n.signer.index)
+          (flows_hold kind k n.parts is.holds.parts).flows;
       inbox = let entries = prio.inbox.bounded in let capacity = prio.inbox.capacity in omega (arith, entries, capacity);
       peers = places x P u n is;
       each_peer = all_weaker (PrioPeerHolds k numbers _) (PeerIsBounded x.store) n.parts.prio.peers (peer_bounded x P u numbers _) prio.peers;

@@ -11,12 +11,15 @@ use Rattle.sp_msg.specs.declared.refused.SendRefused.{SendRefused}
 use Rattle.sp_rules.specs.Arts.{Arts}
 use Rattle.sp_epoch.specs.declared.started.Started.{Started}
 use Rattle.sp_rules.specs.Node.{NodeState, announced, booted, call_refusal, kept_or}
+use Rattle.sp_rules.specs.KflowSends.{send_krel_refusal}
 use Rattle.sp_rules.specs.Parts.{nodes_of}
+use Rattle.sp_rules.specs.declared.kflow.FlowKind.{FlowKind}
+use Rattle.sp_rules.specs.declared.kflow.FlowKind.TheVariants.{Plain, Paths}
 use Rattle.sp_rules.specs.Sends.{rel_refusal, send_prio_refusal, signer_refusal, weight_refusal}
 use Rattle.sp_rules.specs.Polls.{frame_to}
 use Rattle.sp_rules.specs.Steps as steps
 use Rattle.sp_rules.specs.Steps.{Input, NodeStep, Output}
-use Rattle.sp_rules.specs.Ticks.{at_time, due_now, settled_by}
+use Rattle.sp_rules.specs.Ticks.{after_plain, at_time, due_now, second_refusal, settled_by}
 use Rattle.sp_rules.specs.declared.node.NodeRefused.{NodeRefused}
 use Rattle.sp_rules.specs.Arrivals.{before_document, document_at, read_by}
 use Rattle.sp_runs.specs.Inputs.{acting, input_of}
@@ -40,7 +43,7 @@ use Rattle.laws_runs.proofs.Lists.{both}
 use Rattle.laws_runs.proofs.Lives.{step_stays}
 use Rattle.laws_runs.proofs.Ready.{As_was, Extended, Readied, ready_frames, was_there}
 use Rattle.laws_runs.proofs.Running.{more_found, without_left}
-use Rattle.laws_runs.proofs.Signed.{even}
+use Rattle.laws_runs.proofs.SignedEvents.{even}
 use Rattle.laws_runs.proofs.Tables.{node_is, node_put, same_node}
 use Rattle.laws_node.proofs.Adopting.{publishing, reading}
 
@@ -51,10 +54,11 @@ either_calls : {X : Type 0} (o : Option X) (n m : NodeState) → m.calls ≤ n.c
 either_calls None n m few = few
 either_calls (Some refusal) n m few = omega arith
 
-settled_calls : (arts : Arts) (n : NodeState) (o : Option Ack) (refusal : Option SendRefused) → (settled_by arts n o refusal).calls ≡ n.calls
-settled_calls arts n None refusal = refl
-settled_calls arts n (Some ack) (Some why) = refl
-settled_calls arts n (Some ack) None = refl
+settled_calls : (arts : Arts) (kind : FlowKind) (n : NodeState) (o : Option Ack) (refusal : Option SendRefused)
+    → (settled_by arts kind n o refusal).calls ≡ n.calls
+settled_calls arts kind n None refusal = refl
+settled_calls arts kind n (Some ack) (Some why) = refl
+settled_calls arts kind n (Some ack) None = refl
 
 -- a step is one call at most
 step_calls : (arts : Arts) (n : NodeState) (input : Input) (output : Output) (after : NodeState) → NodeStep arts n input output after
@@ -66,15 +70,19 @@ step_calls arts n (steps.Datagram v bytes) output after s =
     subst (λ (m : NodeState). m.calls ≤ n.calls + 1) (sym s.1)
     (either_calls (call_refusal n v) n (read_by arts left (document_at arts n v bytes)) (omega (arith, same)))
 step_calls arts n (steps.Tick now) output after s =
-    let same = settled_calls arts (at_time n now) (due_now n) (signer_refusal n.signer) in
+    let one = settled_calls arts Plain (at_time n now) (due_now Plain n) (signer_refusal n.signer) in
+    let two = settled_calls arts Paths (after_plain arts n now) (due_now Paths n) (second_refusal arts n now) in
     let is = ap (λ (m : NodeState). m.calls) s.1 in
-    omega (arith, same, is)
+    omega (arith, one, two, is)
 step_calls arts n (steps.SendRel dst payload) output after s =
     subst (λ (m : NodeState). m.calls ≤ n.calls + 1) (sym s.1) (either_calls (rel_refusal n dst) n _ (omega arith))
 step_calls arts n (steps.SendPrio m) output after s =
     subst (λ (m : NodeState). m.calls ≤ n.calls + 1) (sym s.new_is) (either_calls (send_prio_refusal n m s.choice) n _ (omega arith))
 step_calls arts n (steps.SetWeight v weight) output after s =
     subst (λ (m : NodeState). m.calls ≤ n.calls + 1) (sym s.1) (either_calls (weight_refusal n v weight) n _ (omega arith))
+step_calls arts n (steps.SendKrel m) output after s =
+    subst (λ (y : NodeState). y.calls ≤ n.calls + 1) (sym s.new_is) (either_calls (send_krel_refusal n m s.choice) n _ (omega arith))
+step_calls arts n (steps.TakeKrel src) output after s = let is = ap (λ (m : NodeState). m.calls) s.1 in omega (arith, is)
 step_calls arts n (steps.TakeRel src) output after s = let is = ap (λ (m : NodeState). m.calls) s.1 in omega (arith, is)
 step_calls arts n steps.TakePrio output after s = let is = ap (λ (m : NodeState). m.calls) s.1 in omega (arith, is)
 step_calls arts n (steps.Publish document) output after s =
@@ -213,8 +221,10 @@ frame_more ds (events.Poll a b) r u v made =
     + cond (is_poll u v (events.Poll a b)) 1 0)
     (sym made.1) (one_frame ds a b u v (Some made.0))
 frame_more ds (events.Rel a b p) r u v made = none_more (length (frames_in ds u v))
+frame_more ds (events.Krel a b count p) r u v made = none_more (length (frames_in ds u v))
 frame_more ds (events.Prio a b c d f p) r u v made = none_more (length (frames_in ds u v))
 frame_more ds (events.Take a b) r u v made = none_more (length (frames_in ds u v))
+frame_more ds (events.KTake a b) r u v made = none_more (length (frames_in ds u v))
 frame_more ds (events.TakePrio a) r u v made = none_more (length (frames_in ds u v))
 frame_more ds (events.Tick a b) r u v made = none_more (length (frames_in ds u v))
 frame_more ds (events.Weight a b c) r u v made = none_more (length (frames_in ds u v))
@@ -241,8 +251,10 @@ makes_frame arts x es w n (events.Poll a b) input output after number words reac
     go None is = (frame_to arts n b, is)
     go (Some why) is = absurd (let none : None ≡ Some words = ap (λ (q : steps.Reply). reply_word x number q) (sym is) ∙ told in cc)
 makes_frame arts x es w n (events.Rel a b p) input output after number words reaches step told = tt
+makes_frame arts x es w n (events.Krel a b count p) input output after number words reaches step told = tt
 makes_frame arts x es w n (events.Prio a b c d f p) input output after number words reaches step told = tt
 makes_frame arts x es w n (events.Take a b) input output after number words reaches step told = tt
+makes_frame arts x es w n (events.KTake a b) input output after number words reaches step told = tt
 makes_frame arts x es w n (events.TakePrio a) input output after number words reaches step told = tt
 makes_frame arts x es w n (events.Tick a b) input output after number words reaches step told = tt
 makes_frame arts x es w n (events.Weight a b c) input output after number words reaches step told = tt
@@ -265,8 +277,10 @@ missed_more : (ds : List Direction) (e : Event) (u v : NodeId)
     → length (frames_in (directions_missed ds e) u v) ≡ length (frames_in ds u v) + cond (is_poll u v e) 1 0
 missed_more ds (events.Poll a b) u v = one_frame ds a b u v None
 missed_more ds (events.Rel a b p) u v = none_more (length (frames_in ds u v))
+missed_more ds (events.Krel a b count p) u v = none_more (length (frames_in ds u v))
 missed_more ds (events.Prio a b c d f p) u v = none_more (length (frames_in ds u v))
 missed_more ds (events.Take a b) u v = none_more (length (frames_in ds u v))
+missed_more ds (events.KTake a b) u v = none_more (length (frames_in ds u v))
 missed_more ds (events.TakePrio a) u v = none_more (length (frames_in ds u v))
 missed_more ds (events.Tick a b) u v = none_more (length (frames_in ds u v))
 missed_more ds (events.Weight a b c) u v = none_more (length (frames_in ds u v))

@@ -1,7 +1,6 @@
 -- A journal says all that was left open: so it determines each turn, the node that moved in it, and the run.
 use Rattle.std.proofs.Common.{◌≡◌, ◌<◌, ◌≤◌, ℕ, Bool, true, false, cond, List, [], ◌∷◌, ◌++◌}
-use Rattle.std.proofs.Common.{length, length-append, Option, Some, None, refl, sym, ap, ap₂, ne_eqb}
-use Rattle.std.proofs.Common.{subst, ◌∙◌, inl, inr, arith}
+use Rattle.std.proofs.Common.{length, length-append, Option, Some, None, refl, sym, ap, ap₂, ne_eqb, subst, ◌∙◌, inl, inr, arith}
 use Rattle.std.specs.Prelude.{IsTrue, is_some, nat_lt, not, option_map, unwrap_or, ◌==◌}
 use Rattle.std.proofs.lemmas.Bool.Decides.{nat_tests}
 use Rattle.sp_base.specs.Cursor.{or_else}
@@ -12,8 +11,11 @@ use Rattle.sp_msg.specs.declared.refused.SendRefused.{SendRefused}
 use Rattle.sp_rules.specs.Arts.{Arts}
 use Rattle.sp_rules.specs.Node.{NodeState}
 use Rattle.sp_rules.specs.Parts.{Fixed, is_signed}
+use Rattle.sp_msg.specs.declared.mask.Mask.{Mask as MaskOf}
+use Rattle.sp_rules.specs.Kflow.{waiting_mask}
+use Rattle.sp_rules.specs.KflowSends.{KSend, krel_body, krel_number, krel_refusal, mask_for, no_mask}
 use Rattle.sp_rules.specs.Masks.{Choice, Mask, OnlyPaths}
-use Rattle.sp_rules.specs.Sends.{PrioSend, no_paths, prio_refusal, prio_sent}
+use Rattle.sp_rules.specs.Sends.{PrioSend, no_paths, prio_refusal, prio_sent, signed_effect}
 use Rattle.sp_rules.specs.Steps as steps
 use Rattle.sp_rules.specs.Steps.{Input, NodeStep, Output, accepted, refused_send}
 use Rattle.laws_node.specs.Inputs.{ArtsFit, InputFits, ReadsBack}
@@ -51,6 +53,10 @@ use Rattle.laws_runs.proofs.Tables.{same_node}
 abbrev by : NodeState → Arts → PrioSend → Choice → Option SendRefused → Output
 by n arts m c r = refused_send (or_else r (no_paths c)) (accepted n.parts.prio.next (prio_sent arts n m c))
 
+abbrev over : Arts → NodeState → KSend → Choice → Option MaskOf → Option SendRefused → Output
+over arts n m c waiting r =
+    refused_send (or_else r (no_mask waiting c)) (accepted (krel_number n m.dst) (signed_effect arts (krel_body n m (mask_for waiting c)) ∷ []))
+
 module _ (x : Setting) (number : ℕ) (j : Entry) where
   same_word : (a b : steps.Reply) → reply_word x number a ≡ Some j.reply → reply_word x number b ≡ Some j.reply → reply_word x number a ≡ reply_word x number b
   same_word a b p q = p ∙ sym q
@@ -71,6 +77,25 @@ module _ (x : Setting) (number : ℕ) (j : Entry) where
   by_refusal arts n m (Some f) c d p q = refl
   by_refusal arts n m None c d p q = by_choice arts n m c d p q
 
+  -- a message on paths: the mask that stays, or one that was chosen
+  over_choice : (arts : Arts) (n : NodeState) (m : KSend) (waiting : Option MaskOf) (c d : Choice) → Says x number (over arts n m c waiting None) j
+      → Says x number (over arts n m d waiting None) j → over arts n m c waiting None ≡ over arts n m d waiting None
+  over_choice arts n m (Some mask) c d p q = refl
+  over_choice arts n m None (Mask k) (Mask l) p q =
+      ap (λ (es : List Effect). accepted (krel_number n m.dst) es) (sym p.effects ∙ q.effects)
+  over_choice arts n m None (OnlyPaths f) (OnlyPaths g) p q =
+      let words = p.reply ∙ sym q.reply in
+      let same : f ≡ g = cc in
+      ap (λ (k : ℕ). over arts n m (OnlyPaths k) None None) same
+  over_choice arts n m None (Mask k) (OnlyPaths g) p q = absurd (let words = p.reply ∙ sym q.reply in cc)
+  over_choice arts n m None (OnlyPaths f) (Mask l) p q = absurd (let words = p.reply ∙ sym q.reply in cc)
+
+  over_refusal : (arts : Arts) (n : NodeState) (m : KSend) (r : Option SendRefused) (c d : Choice)
+      → Says x number (over arts n m c (waiting_mask n.parts.kflow m.dst) r) j → Says x number (over arts n m d (waiting_mask n.parts.kflow m.dst) r) j
+      → over arts n m c (waiting_mask n.parts.kflow m.dst) r ≡ over arts n m d (waiting_mask n.parts.kflow m.dst) r
+  over_refusal arts n m (Some f) c d p q = refl
+  over_refusal arts n m None c d p q = over_choice arts n m (waiting_mask n.parts.kflow m.dst) c d p q
+
   one_output : (arts : Arts) (n : NodeState) (input : Input) (o p : Output) (a b : NodeState) → NodeStep arts n input o a → NodeStep arts n input p b
       → Says x number o j → Says x number p j → o ≡ p
   one_output arts n (steps.Poll v) o p a b s t one two = s.0 ∙ sym t.0
@@ -84,6 +109,12 @@ module _ (x : Setting) (number : ℕ) (j : Entry) where
       ∙ sym t.output_is
   one_output arts n (steps.SetWeight v weight) o p a b s t one two = s.0 ∙ sym t.0
   one_output arts n (steps.TakeRel src) o p a b s t one two = s.0 ∙ sym t.0
+  one_output arts n (steps.TakeKrel src) o p a b s t one two = s.0 ∙ sym t.0
+  one_output arts n (steps.SendKrel m) o p a b s t one two =
+      s.output_is
+      ∙ over_refusal arts n m (krel_refusal n m) s.choice t.choice (subst (λ (y : Output). Says x number y j) s.output_is one)
+      (subst (λ (y : Output). Says x number y j) t.output_is two)
+      ∙ sym t.output_is
   one_output arts n steps.TakePrio o p a b s t one two = s.0 ∙ sym t.0
   one_output arts n (steps.Publish document) o p a b s t one two = s.0 ∙ sym t.0
 
@@ -155,8 +186,10 @@ not_both arts x old w (events.CraftDocument c u k version weights) j key m is sp
     go false few e = cc
 not_both arts x old w (events.Publish u weights) j key m is spent = is
 not_both arts x old w (events.Rel a b p) j key m is spent = is
+not_both arts x old w (events.Krel a b count p) j key m is spent = is
 not_both arts x old w (events.Prio a b c d f p) j key m is spent = is
 not_both arts x old w (events.Take a b) j key m is spent = is
+not_both arts x old w (events.KTake a b) j key m is spent = is
 not_both arts x old w (events.TakePrio a) j key m is spent = is
 not_both arts x old w (events.Tick a b) j key m is spent = is
 not_both arts x old w (events.Weight a b c) j key m is spent = is
@@ -184,8 +217,10 @@ none_missing arts x w n (events.Pass u v number) i e = there_is (steps.Datagram 
 none_missing arts x w n (events.Flip u v number back bit) i e =
     there_is (λ (bytes : List ℕ). steps.Datagram u (flipped back bit bytes)) (frame_in w.directions u v number) i e
 none_missing arts x w n (events.Rel a b p) i e = refl
+none_missing arts x w n (events.Krel a b count p) i e = refl
 none_missing arts x w n (events.Prio a b c d f p) i e = refl
 none_missing arts x w n (events.Take a b) i e = refl
+none_missing arts x w n (events.KTake a b) i e = refl
 none_missing arts x w n (events.TakePrio a) i e = refl
 none_missing arts x w n (events.Tick a b) i e = refl
 none_missing arts x w n (events.Weight a b c) i e = refl
@@ -217,8 +252,10 @@ met_by_move arts x old w e j m = record {
     missing ds fs same (events.Pass u v number) = ap (λ (gs : List Direction). not (is_some (frame_in gs u v number))) same
     missing ds fs same (events.Flip u v number back bit) = ap (λ (gs : List Direction). not (is_some (frame_in gs u v number))) same
     missing ds fs same (events.Rel a b p) = refl
+    missing ds fs same (events.Krel a b count p) = refl
     missing ds fs same (events.Prio a b c d f p) = refl
     missing ds fs same (events.Take a b) = refl
+    missing ds fs same (events.KTake a b) = refl
     missing ds fs same (events.TakePrio a) = refl
     missing ds fs same (events.Tick a b) = refl
     missing ds fs same (events.Weight a b c) = refl
@@ -252,8 +289,10 @@ one_life arts x old w v (events.Start u) j (inl one) (inr two) = absurd (let lef
 one_life arts x old w v (events.Start u) j (inr one) (inl two) = absurd (let left = two.left in let none = one.none_left in omega (arith, left, none))
 one_life arts x old w v (events.Stop u) j one two = one.world ∙ sym two.world
 one_life arts x old w v (events.Rel a b p) j one two = one.world ∙ sym two.world
+one_life arts x old w v (events.Krel a b count p) j one two = one.world ∙ sym two.world
 one_life arts x old w v (events.Prio a b c d f p) j one two = one.world ∙ sym two.world
 one_life arts x old w v (events.Take a b) j one two = one.world ∙ sym two.world
+one_life arts x old w v (events.KTake a b) j one two = one.world ∙ sym two.world
 one_life arts x old w v (events.TakePrio a) j one two = one.world ∙ sym two.world
 one_life arts x old w v (events.Tick a b) j one two = one.world ∙ sym two.world
 one_life arts x old w v (events.Weight a b c) j one two = one.world ∙ sym two.world

@@ -11,7 +11,9 @@ use Rattle.sp_msg.specs.declared.kept.Kept.{Kept}
 use Rattle.sp_rules.specs.Flow.{FlowState, ends, is_flow, no_flow}
 use Rattle.sp_rules.specs.Handle.{met}
 use Rattle.sp_rules.specs.Lives.{boot_said, held_boot, judge_epoch, origin_said}
-use Rattle.sp_rules.specs.Parts.{Parts}
+use Rattle.sp_rules.specs.Parts.{Parts, flows_of}
+use Rattle.sp_rules.specs.declared.kflow.FlowKind.{FlowKind}
+use Rattle.sp_rules.specs.declared.kflow.FlowKind.TheVariants.{Plain, Paths}
 use Rattle.sp_rules.specs.Rel.{RelState, flow_in, flow_less, is_end, restarted, is_over}
 use Rattle.sp_rules.specs.declared.lives.EpochJudged.TheVariants as judged
 use Rattle.sp_rules.specs.declared.lives.Life.{Life}
@@ -65,7 +67,12 @@ pub data EndsUp (C : Type 0) (s d : NodeId) (bs bd : ℕ) (S D : List Message) (
   New_end : (y : ℕ) → bd < y → held_boot lives s ≡ bs → held_boot lives d ≡ y → RelIs C s d (SF bs y) (DF bs y) (cF bs y) u r
       → EndsUp C s d bs bd S D c SF DF cF u lives r
 
-module _ (C : Type 0) (s d : NodeId) (bs bd : ℕ) (S D : List Message) (c : ℕ) (SF DF : ℕ → ℕ → List Message) (cF : ℕ → ℕ → ℕ) (u : NodeId)
+-- where another life of a node begins, its flows of each kind begin anew
+met_flows : (kind : FlowKind) (p : Parts) (o : Kept) → flows_of kind (met p o) ≡ restarted (flows_of kind p) (origin_said o.body)
+met_flows Plain p o = refl
+met_flows Paths p o = refl
+
+module _ (kind : FlowKind) (C : Type 0) (s d : NodeId) (bs bd : ℕ) (S D : List Message) (c : ℕ) (SF DF : ℕ → ℕ → List Message) (cF : ℕ → ℕ → ℕ) (u : NodeId)
     (different : s ≡ d → ⊥) (fresh_source : C → u ≡ s → (y : ℕ) → bd < y → SF bs y ≡ [])
     (fresh_end : u ≡ d → (x : ℕ) → bs < x → (DF x bd ≡ []) × (cF x bd ≡ 0)) where
   -- the flow as before its first message, for boots under which nothing was sent here or delivered here
@@ -86,16 +93,18 @@ module _ (C : Type 0) (s d : NodeId) (bs bd : ℕ) (S D : List Message) (c : ℕ
       over : Bool
       over = is_over r.removed (flow_of s d)
 
-  pub renewed_is : (p : Parts) (o : Kept) → Holding s d bs bd p.lives → (origin_said o.body ≡ u → ⊥)
+  -- the flows of this kind begin anew
+  renewed : (p : Parts) (o : Kept) → Holding s d bs bd p.lives → (origin_said o.body ≡ u → ⊥)
       → Follows (origin_said o.body) (boot_said o.body) p (met p o)
-      → RelIs C s d S D c u p.rel → EndsUp C s d bs bd S D c SF DF cF u (met p o).lives (met p o).rel
-  renewed_is p o holding other done h =
+      → RelIs C s d S D c u (flows_of kind p) → EndsUp C s d bs bd S D c SF DF cF u (met p o).lives (restarted (flows_of kind p) (origin_said o.body))
+  renewed p o holding other done h =
+      let r = flows_of kind p in
       let v = origin_said o.body in
       let x = boot_said o.body in
       let not_v : (w : NodeId) → (w ≡ v → ⊥) → w.0 ≡ v.0 → ⊥ = λ w never same. never (same_node w v same) in
-      let flow = done.flows (flow_of s d) in
-      let gone : (v ≡ s) ⊎ (v ≡ d) → flow_in (restarted p.rel v).flows (flow_of s d) ≡ no_flow (flow_of s d) =
-      λ end. flow ∙ ap (λ (t : Bool). cond t (no_flow (flow_of s d)) (flow_in p.rel.flows (flow_of s d))) (end_at v s d end) in
+      let flow = ap (λ (x : RelState). flow_in x.flows (flow_of s d)) (sym (met_flows kind p o)) ∙ done.flows kind (flow_of s d) in
+      let gone : (v ≡ s) ⊎ (v ≡ d) → flow_in (restarted r v).flows (flow_of s d) ≡ no_flow (flow_of s d) =
+      λ end. flow ∙ ap (λ (t : Bool). cond t (no_flow (flow_of s d)) (flow_in r.flows (flow_of s d))) (end_at v s d end) in
       elim (cases_eq v.0 s.0) [
         | inl is ↦
             let vs : v ≡ s = same_node v s is in
@@ -103,7 +112,7 @@ module _ (C : Type 0) (s d : NodeId) (bs bd : ℕ) (S D : List Message) (c : ℕ
             let rises : bs < x = let k = holding.src in omega (arith, up, k) in
             New_source x rises (subst (λ (w : NodeId). held_boot (met p o).lives w ≡ x) vs done.held)
             (done.others d (not_v d (λ z. different (sym vs ∙ sym z))) ∙ holding.dst)
-            (reset_is p.rel v (SF x bd) (DF x bd) (cF x bd) (gone (inl vs)) h (λ k z. absurd (other (vs ∙ sym z))) (λ z. fresh_end z x rises))
+            (reset_is r v (SF x bd) (DF x bd) (cF x bd) (gone (inl vs)) h (λ k z. absurd (other (vs ∙ sym z))) (λ z. fresh_end z x rises))
         | inr not_s ↦
             let stays = done.others s (λ same. not_s (sym same)) ∙ holding.src in
             elim (cases_eq v.0 d.0) [
@@ -112,16 +121,22 @@ module _ (C : Type 0) (s d : NodeId) (bs bd : ℕ) (S D : List Message) (c : ℕ
                   let up : held_boot p.lives d < x = subst (λ (w : NodeId). held_boot p.lives w < x) vd done.above in
                   let rises : bd < x = let k = holding.dst in omega (arith, up, k) in
                   New_end x rises stays (subst (λ (w : NodeId). held_boot (met p o).lives w ≡ x) vd done.held)
-                  (reset_is p.rel v (SF bs x) (DF bs x) (cF bs x) (gone (inr vd)) h (λ k z. fresh_source k z x rises) (λ z. absurd (other (vd ∙ sym z))))
+                  (reset_is r v (SF bs x) (DF bs x) (cF bs x) (gone (inr vd)) h (λ k z. fresh_source k z x rises) (λ z. absurd (other (vd ∙ sym z))))
               | inr not_d ↦
-                  let there = flow ∙ ap (λ (t : Bool). cond t (no_flow (flow_of s d)) (flow_in p.rel.flows (flow_of s d)))
+                  let there = flow ∙ ap (λ (t : Bool). cond t (no_flow (flow_of s d)) (flow_in r.flows (flow_of s d)))
                   (no_end_at v s d (λ z. not_s (ap (λ (w : NodeId). w.0) z)) (λ z. not_d (ap (λ (w : NodeId). w.0) z))) in
                   Same stays (done.others d (λ same. not_d (sym same)) ∙ holding.dst)
                   (record {
                     me = h.me;
-                    row = any_less v (flow_of s d) p.rel.flows ∙ h.row;
+                    row = any_less v (flow_of s d) r.flows ∙ h.row;
                     flow =
-                        subst (FlowAt C s d S D c (seat_in s d u p.rel)) (sym there) h.flow;
+                        subst (FlowAt C s d S D c (seat_in s d u r)) (sym there) h.flow;
                   })
             ]
       ]
+
+  pub renewed_is : (p : Parts) (o : Kept) → Holding s d bs bd p.lives → (origin_said o.body ≡ u → ⊥)
+      → Follows (origin_said o.body) (boot_said o.body) p (met p o)
+      → RelIs C s d S D c u (flows_of kind p) → EndsUp C s d bs bd S D c SF DF cF u (met p o).lives (flows_of kind (met p o))
+  renewed_is p o holding other done h =
+      subst (EndsUp C s d bs bd S D c SF DF cF u (met p o).lives) (sym (met_flows kind p o)) (renewed p o holding other done h)

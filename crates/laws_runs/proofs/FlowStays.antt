@@ -7,14 +7,16 @@ use Rattle.sp_base.specs.Lists.{IsPrefix}
 use Rattle.sp_base.specs.Position.{Position}
 use Rattle.sp_base.specs.declared.id.NodeId.{NodeId}
 use Rattle.sp_epoch.specs.Numbers.{numbers_at}
-use Rattle.sp_msg.specs.declared.body.Body.TheVariants as bodies
-use Rattle.sp_msg.specs.declared.body.Rel.{Rel}
+use Rattle.sp_msg.specs.Bodies.{payload_of}
+use Rattle.sp_msg.specs.declared.body.Body.{Body}
 use Rattle.sp_msg.specs.declared.kept.Kept.{Kept}
 use Rattle.sp_rules.specs.Arts.{Arts}
-use Rattle.sp_rules.specs.Flow.{is_flow, no_flow}
+use Rattle.sp_rules.specs.Flow.{boots_said, is_flow, no_flow, number_said}
 use Rattle.sp_rules.specs.Lives.{held_boot}
 use Rattle.sp_rules.specs.Node.{NodeState}
-use Rattle.sp_rules.specs.Parts.{Parts}
+use Rattle.sp_rules.specs.Parts.{Parts, flows_of}
+use Rattle.sp_rules.specs.declared.kflow.FlowKind.{FlowKind}
+use Rattle.laws_node.specs.Flows.{IsRelOf}
 use Rattle.sp_rules.specs.Rel.{RelState, flow_in, pairs_of, is_over}
 use Rattle.sp_rules.specs.Window.{greatest}
 use Rattle.sp_runs.specs.Forgery.{is_among}
@@ -38,22 +40,23 @@ use Rattle.laws_runs.proofs.Ready.{ready_boots, readied_parts, was_there}
 
 -- ---- a node that says and keeps the same
 
-pub same_parts : (arts : Arts) (C : Type 0) (s d : NodeId) (es : List Event) (js : List Entry) (past : List Happened) (u : NodeId) (n m : NodeState)
+pub same_parts : (kind : FlowKind) (arts : Arts) (C : Type 0) (s d : NodeId) (es : List Event) (js : List Entry) (past : List Happened) (u : NodeId)
+    (n m : NodeState)
     → m.parts ≡ n.parts
-    → NodeAt arts C s d es js past u n → NodeAt arts C s d es js past u m
-same_parts arts C s d es js past u n m same at = subst (λ (p : Parts). NodeAt arts C s d es js past u (record m { parts = p })) (sym same) (record {
+    → NodeAt kind arts C s d es js past u n → NodeAt kind arts C s d es js past u m
+same_parts kind arts C s d es js past u n m same at = subst (λ (p : Parts). NodeAt kind arts C s d es js past u (record m { parts = p })) (sym same) (record {
   rel = at.rel;
   fresh_source = at.fresh_source;
   fresh_end = at.fresh_end;
 })
 
 -- the world in which a node acts
-pub readied_on : (arts : Arts) (x : Setting) (s d : NodeId) (es : List Event) (js : List Entry) (past : List Happened) (w : World) (e : Event)
-    → FlowsHold arts x s d es js past w → FlowsHold arts x s d es js past (ready x w e)
-readied_on arts x s d es js past w e h = record {
+pub readied_on : (kind : FlowKind) (arts : Arts) (x : Setting) (s d : NodeId) (es : List Event) (js : List Entry) (past : List Happened) (w : World) (e : Event)
+    → FlowsHold kind arts x s d es js past w → FlowsHold kind arts x s d es js past (ready x w e)
+readied_on kind arts x s d es js past w e h = record {
   nodes = λ u n at.
       let was = was_there x w e u n at in
-      same_parts arts (IsTrue (is_correct x s)) s d es js past u was.before n (readied_parts x w was.before n was.readied).0
+      same_parts kind arts (IsTrue (is_correct x s)) s d es js past u was.before n (readied_parts x w was.before n was.readied).0
       (h.nodes u was.before was.is_there);
   prefix = h.prefix;
   low = h.low;
@@ -65,10 +68,11 @@ readied_on arts x s d es js past w e h = record {
 
 -- ---- an event of which nothing is told but what it signed, and that is neither an acknowledgement of d nor a message of s
 
-module _ (arts : Arts) (x : Setting) (s d : NodeId) (es : List Event) (js : List Entry) (past : List Happened) (w new : World) (e : Event) (j : Entry)
-    (even : length es ≡ length js) (h : FlowsHold arts x s d es js past w)
-    (no_acks : (p q : ℕ) → greatest (acks_under arts s p d q (told_at d signed_by (e, j))) ≡ 0)
-    (no_message : (m : Rel) → IsTrue (arts.is_good (bodies.Rel m)) → is_among (arts.spell (bodies.Rel m)) (told_at s signed_by (e, j)) ≡ true → ⊥)
+module _ (kind : FlowKind) (arts : Arts) (x : Setting) (s d : NodeId) (es : List Event) (js : List Entry) (past : List Happened) (w new : World) (e : Event)
+    (j : Entry)
+    (even : length es ≡ length js) (h : FlowsHold kind arts x s d es js past w)
+    (no_acks : (p q : ℕ) → greatest (acks_under kind arts s p d q (told_at d signed_by (e, j))) ≡ 0)
+    (no_message : (m : Body) → IsRelOf kind m → IsTrue (arts.is_good m) → is_among (arts.spell m) (told_at s signed_by (e, j)) ≡ true → ⊥)
     (rise : (v : NodeId) → (numbers_at w.keys v).boot ≤ (numbers_at new.keys v).boot) where
   abbrev C : Type 0
   C = IsTrue (is_correct x s)
@@ -82,54 +86,56 @@ module _ (arts : Arts) (x : Setting) (s d : NodeId) (es : List Event) (js : List
   abbrev past2 : List Happened
   past2 = past ++ record { event = e; entry = j; mover = None } ∷ []
 
-  sent_same : (p q : ℕ) → sent_under past2 s p d q ≡ sent_under past s p d q
-  sent_same p q = past_more (λ y. told_under s p d q (accepted_in s d y.event y.entry.reply) y.mover) past (record { event = e; entry = j; mover = None })
-      ∙ append-nil (sent_under past s p d q)
+  sent_same : (p q : ℕ) → sent_under kind past2 s p d q ≡ sent_under kind past s p d q
+  sent_same p q = past_more (λ y. told_under s p d q (accepted_in kind s d y.event y.entry.reply) y.mover) past (record { event = e; entry = j; mover = None })
+      ∙ append-nil (sent_under kind past s p d q)
 
-  del_same : (p q : ℕ) → delivered_under past2 s p d q ≡ delivered_under past s p d q
-  del_same p q = past_more (λ y. told_under s p d q (told_at d (delivered_by s) (y.event, y.entry)) y.mover) past
+  del_same : (p q : ℕ) → delivered_under kind past2 s p d q ≡ delivered_under kind past s p d q
+  del_same p q = past_more (λ y. told_under s p d q (told_at d (delivered_by kind s) (y.event, y.entry)) y.mover) past
       (record { event = e; entry = j; mover = None })
-      ∙ append-nil (delivered_under past s p d q)
+      ∙ append-nil (delivered_under kind past s p d q)
 
-  ack_same : (p q : ℕ) → acknowledged_under arts es2 js2 s p d q ≡ acknowledged_under arts es js s p d q
+  ack_same : (p q : ℕ) → acknowledged_under kind arts es2 js2 s p d q ≡ acknowledged_under kind arts es js s p d q
   ack_same p q =
-      let all = ap (λ xs. greatest (acks_under arts s p d q xs)) (told_more (told_at d signed_by) es js e j even)
-      ∙ under_both arts s p d q (signed es js d) (told_at d signed_by (e, j)) in
+      let all = ap (λ xs. greatest (acks_under kind arts s p d q xs)) (told_more (told_at d signed_by) es js e j even)
+      ∙ under_both kind arts s p d q (signed es js d) (told_at d signed_by (e, j)) in
       let zero = no_acks p q in
       omega (arith, all, zero)
 
   rel_same : (p q : ℕ) (v : NodeId) (r : RelState)
-      → RelIs C s d (sent_under past s p d q) (delivered_under past s p d q) (acknowledged_under arts es js s p d q) v r
-      → RelIs C s d (sent_under past2 s p d q) (delivered_under past2 s p d q) (acknowledged_under arts es2 js2 s p d q) v r
+      → RelIs C s d (sent_under kind past s p d q) (delivered_under kind past s p d q) (acknowledged_under kind arts es js s p d q) v r
+      → RelIs C s d (sent_under kind past2 s p d q) (delivered_under kind past2 s p d q) (acknowledged_under kind arts es2 js2 s p d q) v r
   rel_same p q v r h =
-      subst (λ X. RelIs C s d X (delivered_under past2 s p d q) (acknowledged_under arts es2 js2 s p d q) v r) (sym (sent_same p q))
-      (subst (λ Y. RelIs C s d (sent_under past s p d q) Y (acknowledged_under arts es2 js2 s p d q) v r) (sym (del_same p q))
-      (subst (λ c. RelIs C s d (sent_under past s p d q) (delivered_under past s p d q) c v r) (sym (ack_same p q)) h))
+      subst (λ X. RelIs C s d X (delivered_under kind past2 s p d q) (acknowledged_under kind arts es2 js2 s p d q) v r) (sym (sent_same p q))
+      (subst (λ Y. RelIs C s d (sent_under kind past s p d q) Y (acknowledged_under kind arts es2 js2 s p d q) v r) (sym (del_same p q))
+      (subst (λ c. RelIs C s d (sent_under kind past s p d q) (delivered_under kind past s p d q) c v r) (sym (ack_same p q)) h))
 
-  pub node_same : (v : NodeId) (n : NodeState) → NodeAt arts C s d es js past v n → NodeAt arts C s d es2 js2 past2 v n
+  pub node_same : (v : NodeId) (n : NodeState) → NodeAt kind arts C s d es js past v n → NodeAt kind arts C s d es2 js2 past2 v n
   node_same v n old = record {
-    rel = rel_same (held_boot n.parts.lives s) (held_boot n.parts.lives d) v n.parts.rel old.rel;
+    rel = rel_same (held_boot n.parts.lives s) (held_boot n.parts.lives d) v (flows_of kind n.parts) old.rel;
     fresh_source = λ z y lt. sent_same (held_boot n.parts.lives s) y ∙ old.fresh_source z y lt;
     fresh_end = λ z y lt.
         let was = old.fresh_end z y lt in (del_same y (held_boot n.parts.lives d) ∙ was.0, ack_same y (held_boot n.parts.lives d) ∙ was.1);
   }
 
-  pub all_same : ((v : NodeId) (n : NodeState) → node_in new.nodes v ≡ Some n → NodeAt arts C s d es js past v n) → FlowsHold arts x s d es2 js2 past2 new
+  pub all_same : ((v : NodeId) (n : NodeState) → node_in new.nodes v ≡ Some n → NodeAt kind arts C s d es js past v n)
+      → FlowsHold kind arts x s d es2 js2 past2 new
   all_same each = record {
     nodes = λ v n at. node_same v n (each v n at);
-    prefix = λ k p q. subst (λ X. IsPrefix X (sent_under past2 s p d q)) (sym (del_same p q))
-        (subst (λ Y. IsPrefix (delivered_under past s p d q) Y) (sym (sent_same p q)) (h.prefix k p q));
+    prefix = λ k p q. subst (λ X. IsPrefix X (sent_under kind past2 s p d q)) (sym (del_same p q))
+        (subst (λ Y. IsPrefix (delivered_under kind past s p d q) Y) (sym (sent_same p q)) (h.prefix k p q));
     low = λ p q.
         let was = h.low p q in
         let same = ack_same p q in
-        let far : length (delivered_under past2 s p d q) ≡ length (delivered_under past s p d q) = ap length (del_same p q) in
+        let far : length (delivered_under kind past2 s p d q) ≡ length (delivered_under kind past s p d q) = ap length (del_same p q) in
         omega (arith, was, same, far);
     numbers = λ k p q. subst (AreNumbered 0) (sym (sent_same p q)) (h.numbers k p q);
-    messages = λ k m good src dst among.
-        elim (among_or (arts.spell (bodies.Rel m)) (signed es js s) (told_at s signed_by (e, j))
-        (subst (λ xs. is_among (arts.spell (bodies.Rel m)) xs ≡ true) (told_more (told_at s signed_by) es js e j even) among)) [
-          | inl old ↦ subst (λ X. IsIn X m.seq m.payload) (sym (sent_same m.sboot m.dboot)) (h.messages k m good src dst old)
-          | inr now ↦ absurd (no_message m good now)
+    messages = λ k m is good said among.
+        elim (among_or (arts.spell m) (signed es js s) (told_at s signed_by (e, j))
+        (subst (λ xs. is_among (arts.spell m) xs ≡ true) (told_more (told_at s signed_by) es js e j even) among)) [
+          | inl old ↦
+              subst (λ X. IsIn X (number_said m) (payload_of m)) (sym (sent_same (boots_said m).0 (boots_said m).1)) (h.messages k m is good said old)
+          | inr now ↦ absurd (no_message m is good now)
         ];
     unborn_source = λ p q lt. let up = rise s in sent_same p q ∙ h.unborn_source p q (omega (arith, up, lt));
     unborn_end = λ p q lt. let up = rise d in let was = h.unborn_end p q (omega (arith, up, lt)) in (del_same p q ∙ was.0, ack_same p q ∙ was.1);
@@ -139,31 +145,33 @@ module _ (arts : Arts) (x : Setting) (s d : NodeId) (es : List Event) (js : List
 none_told : (v : NodeId) (e : Event) (j : Entry) → j.effects ≡ [] → told_at v signed_by (e, j) ≡ []
 none_told v e j none = here_is v signed_by e j [] none ∙ none_either ((acting e).0 == v.0)
 
-pub stays_on : (arts : Arts) (x : Setting) (s d : NodeId) (es : List Event) (js : List Entry) (past : List Happened) (w new : World) (e : Event) (j : Entry)
-    → length es ≡ length js → FlowsHold arts x s d es js past w → j.effects ≡ []
+pub stays_on : (kind : FlowKind) (arts : Arts) (x : Setting) (s d : NodeId) (es : List Event) (js : List Entry) (past : List Happened) (w new : World)
+    (e : Event) (j : Entry)
+    → length es ≡ length js → FlowsHold kind arts x s d es js past w → j.effects ≡ []
     → ((v : NodeId) → (numbers_at w.keys v).boot ≤ (numbers_at new.keys v).boot)
     → ((v : NodeId) (n : NodeState) → node_in new.nodes v ≡ Some n → node_in w.nodes v ≡ Some n)
-    → FlowsHold arts x s d (es ++ e ∷ []) (js ++ j ∷ []) (past ++ record { event = e; entry = j; mover = None } ∷ []) new
-stays_on arts x s d es js past w new e j even h none rise nodes =
-    all_same arts x s d es js past w new e j even h
-    (λ p q. ap (λ xs. greatest (acks_under arts s p d q xs)) (none_told d e j none))
-    (λ m good among. let f : false ≡ true = subst (λ xs. is_among (arts.spell (bodies.Rel m)) xs ≡ true) (none_told s e j none) among in cc)
+    → FlowsHold kind arts x s d (es ++ e ∷ []) (js ++ j ∷ []) (past ++ record { event = e; entry = j; mover = None } ∷ []) new
+stays_on kind arts x s d es js past w new e j even h none rise nodes =
+    all_same kind arts x s d es js past w new e j even h
+    (λ p q. ap (λ xs. greatest (acks_under kind arts s p d q xs)) (none_told d e j none))
+    (λ m is good among. let f : false ≡ true = subst (λ xs. is_among (arts.spell m) xs ≡ true) (none_told s e j none) among in cc)
     rise (λ v n at. h.nodes v n (nodes v n at))
 
 -- ---- a node of which nothing came yet
 
 -- under boots under which nothing was sent or delivered here
-pub first_at : (arts : Arts) (C : Type 0) (s d : NodeId) (es : List Event) (js : List Entry) (past : List Happened) (u : NodeId)
-    → (n : NodeState) (nodes : List NodeId) → n.parts.rel.me ≡ u → n.parts.rel.flows ≡ map no_flow (pairs_of nodes)
+pub first_at : (kind : FlowKind) (arts : Arts) (C : Type 0) (s d : NodeId) (es : List Event) (js : List Entry) (past : List Happened) (u : NodeId)
+    → (n : NodeState) (nodes : List NodeId) → (flows_of kind n.parts).me ≡ u → (flows_of kind n.parts).flows ≡ map no_flow (pairs_of nodes)
     → list_any (is_flow (flow_of s d)) (map no_flow (pairs_of nodes)) ≡ true
-    → (u ≡ s → (q : ℕ) → sent_under past s (held_boot n.parts.lives s) d q ≡ [])
-    → (u ≡ d → (p : ℕ) → (delivered_under past s p d (held_boot n.parts.lives d) ≡ []) × (acknowledged_under arts es js s p d (held_boot n.parts.lives d) ≡ 0))
-    → NodeAt arts C s d es js past u n
-first_at arts C s d es js past u n nodes me flows row no_s no_d =
+    → (u ≡ s → (q : ℕ) → sent_under kind past s (held_boot n.parts.lives s) d q ≡ [])
+    → (u ≡ d → (p : ℕ)
+    → (delivered_under kind past s p d (held_boot n.parts.lives d) ≡ []) × (acknowledged_under kind arts es js s p d (held_boot n.parts.lives d) ≡ 0))
+    → NodeAt kind arts C s d es js past u n
+first_at kind arts C s d es js past u n nodes me flows row no_s no_d =
     let zero = ap (λ fs. (flow_in fs (flow_of s d)).at) flows ∙ at_boot (pairs_of nodes) (flow_of s d) in
     let base = ap (λ (y : Position Kept). y.base) zero in
     let have = ap (λ (y : Position Kept). y.have) zero in
-    let over = is_over n.parts.rel.removed (flow_of s d) in
+    let over = is_over (flows_of kind n.parts).removed (flow_of s d) in
     record {
       rel = record {
         me = me;

@@ -27,7 +27,8 @@ use Rattle.laws_runs.proofs.Kept.{read_off}
 use Rattle.laws_runs.proofs.LifeCases.{Exhausts, LifeCase, Nobody, Starts_now, Stops, life_case}
 use Rattle.laws_runs.proofs.Neighbours.{neighbour_there}
 use Rattle.laws_runs.proofs.Ready.{ready_frames}
-use Rattle.laws_runs.proofs.Signed.{EachFrame, frames_after, frames_missed, polled, signs_there}
+use Rattle.laws_runs.proofs.Signed.{signs_there}
+use Rattle.laws_runs.proofs.SignedEvents.{EachFrame, frames_after, frames_missed, polled}
 
 -- each message that the node keeps bears its signer's valid signature
 is_kept : (arts : Arts) (x : Setting) (es : List Event) (js : List Entry) (u : NodeId) (n : NodeState) → NodeIs x (Good arts x es js) u n → IsKept arts n

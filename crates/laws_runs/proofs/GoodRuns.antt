@@ -9,6 +9,7 @@ use Rattle.sp_base.specs.Lists.{IsPrefix}
 use Rattle.sp_base.specs.declared.id.NodeId.{NodeId}
 use Rattle.sp_msg.specs.declared.effect.Effect.{Effect}
 use Rattle.sp_rules.specs.Arts.{Arts}
+use Rattle.sp_rules.specs.declared.kflow.FlowKind.{FlowKind}
 use Rattle.sp_rules.specs.PrioPeer.{PrioPeer}
 use Rattle.sp_rules.specs.Prio.{PrioState}
 use Rattle.sp_runs.specs.Held.{Held, held, held_in}
@@ -38,15 +39,16 @@ use Rattle.laws_runs.proofs.There.{correct_nodes_are_there}
 
 -- ---- what was delivered
 
-in_order : (arts : Arts) (x : Setting) (es : List Event) (js : List Entry) (w : World) → StaysUp arts x → Carries x.topology.format arts
+in_order : (kind : FlowKind) (arts : Arts) (x : Setting) (es : List Event) (js : List Entry) (w : World) → StaysUp arts x → Carries x.topology.format arts
     → Clean arts x es js w
-    → (s d : NodeId) → IsTrue (is_correct x s) → IsTrue (is_correct x d) → IsPrefix (delivered es js s d) (sent es js s d)
-in_order arts x es js w fits reads run s d from to = elim (cases_eq s.0 d.0) [
+    → (s d : NodeId) → IsTrue (is_correct x s) → IsTrue (is_correct x d) → IsPrefix (delivered kind es js s d) (sent kind es js s d)
+in_order kind arts x es js w fits reads run s d from to = elim (cases_eq s.0 d.0) [
   | inl same ↦
       let is : s ≡ d = same_node s d same in
-      subst (λ (v : NodeId). IsPrefix (delivered es js s v) (sent es js s v)) is
-      (subst (λ (ms : List Message). IsPrefix ms (sent es js s s)) (sym (none_of_its_own arts x es js w fits reads run s)) (sent es js s s, refl))
-  | inr other ↦ (flows_are_kept arts x es js w fits reads run s d (both _ _ from).0 to (λ same. other (ap (λ (v : NodeId). v.0) same))).prefix from
+      subst (λ (v : NodeId). IsPrefix (delivered kind es js s v) (sent kind es js s v)) is
+      (subst (λ (ms : List Message). IsPrefix ms (sent kind es js s s)) (sym (none_of_its_own kind arts x es js w fits reads run s))
+      (sent kind es js s s, refl))
+  | inr other ↦ (flows_are_kept kind arts x es js w fits reads run s d (both _ _ from).0 to (λ same. other (ap (λ (v : NodeId). v.0) same))).prefix from
 ]
 
 -- ---- what a place holds
@@ -109,7 +111,7 @@ in_bounds arts x es js w fits reads run u place = elim (cases_Bool (is_correct x
 pub is_good : (arts : Arts) (x : Setting) (es : List Event) (js : List Entry) (w : World) → StaysUp arts x → Carries x.topology.format arts
     → Clean arts x es js w → IsGood x es js
 is_good arts x es js w fits reads run = record {
-  prefix = λ s d from to. in_order arts x es js w fits reads run s d from to;
+  prefix = λ kind s d from to. in_order kind arts x es js w fits reads run s d from to;
   once = λ s d to. (priority_is_kept arts x es js w fits reads run s d to).once;
   bounded = λ u place. in_bounds arts x es js w fits reads run u place;
   shares = λ u place. evictions_leave_shares arts x es js w fits reads run u place;

@@ -42,9 +42,8 @@ use Rattle.sp_schedule_events.specs.declared.event.Event.{Event}
 use Rattle.sp_runs.specs.declared.what.What.TheVariants as whats
 use Rattle.laws_runs.specs.Signs.{Good, Known, NodeIs}
 use Rattle.laws_runs.specs.Premises.{IsOfBytes}
-use Rattle.sp_rules.specs.Rel.{pairs_of}
-use Rattle.laws_runs.proofs.Acks.{all_none, none_closed}
-use Rattle.laws_runs.proofs.Dated.{closed_dated, no_flows_dated}
+use Rattle.laws_runs.proofs.Acks.{bare_acks}
+use Rattle.laws_runs.proofs.Dated.{closed_dated, bare_dated}
 use Rattle.laws_runs.proofs.Unborn.{none_at_start, unborn_of}
 use Rattle.laws_runs.proofs.Lists.{among_left, among_right, both, first_among, told_more}
 use Rattle.laws_runs.proofs.Tables.{same_node}
@@ -60,9 +59,9 @@ all_of P (piece ∷ pieces) h = All-append P (objects_of piece) (objects_in piec
     one (WeightPiece o) h = All-cons P o [] h (All-nil P)
     one (PrioAckPiece number) h = All-nil P
     one (PrioPiece number o) h = All-cons P o [] h (All-nil P)
-    one (ReportPiece flow sboot dboot base have) h = All-nil P
-    one (AckPiece flow o) h = All-cons P o [] h (All-nil P)
-    one (RelPiece flow o) h = All-cons P o [] h (All-nil P)
+    one (ReportPiece kind flow sboot dboot base have) h = All-nil P
+    one (AckPiece kind flow o) h = All-cons P o [] h (All-nil P)
+    one (RelPiece kind flow o) h = All-cons P o [] h (All-nil P)
     one (EpochPiece o) h = All-cons P o [] h (All-nil P)
 
 -- what holds of all objects among pieces all of these keep
@@ -71,9 +70,9 @@ of_all P [] h = tt
 of_all P (WeightPiece o ∷ pieces) h = (All-head P o (objects_in pieces) h, of_all P pieces (All-tail P o (objects_in pieces) h))
 of_all P (PrioAckPiece number ∷ pieces) h = (tt, of_all P pieces h)
 of_all P (PrioPiece number o ∷ pieces) h = (All-head P o (objects_in pieces) h, of_all P pieces (All-tail P o (objects_in pieces) h))
-of_all P (ReportPiece flow sboot dboot base have ∷ pieces) h = (tt, of_all P pieces h)
-of_all P (AckPiece flow o ∷ pieces) h = (All-head P o (objects_in pieces) h, of_all P pieces (All-tail P o (objects_in pieces) h))
-of_all P (RelPiece flow o ∷ pieces) h = (All-head P o (objects_in pieces) h, of_all P pieces (All-tail P o (objects_in pieces) h))
+of_all P (ReportPiece kind flow sboot dboot base have ∷ pieces) h = (tt, of_all P pieces h)
+of_all P (AckPiece kind flow o ∷ pieces) h = (All-head P o (objects_in pieces) h, of_all P pieces (All-tail P o (objects_in pieces) h))
+of_all P (RelPiece kind flow o ∷ pieces) h = (All-head P o (objects_in pieces) h, of_all P pieces (All-tail P o (objects_in pieces) h))
 of_all P (EpochPiece o ∷ pieces) h = (All-head P o (objects_in pieces) h, of_all P pieces (All-tail P o (objects_in pieces) h))
 
 pub where_keep : (P : Kept → Type 0) (reply : LinkReply) (pieces : List Piece) → AllKeep P pieces → AllKeep P (pieces_where reply pieces)
@@ -153,9 +152,9 @@ signs_it effects before after bytes e =
     (among_right bytes (flat_map signed_by before) (bytes ∷ flat_map signed_by after) (first_among bytes (flat_map signed_by after)))
 
 pub own_known : (arts : Arts) (x : Setting) (es : List Event) (js : List Entry) (w new : World) (e : Event) (j : Entry) (m : Move arts x w e j new)
-    → length es ≡ length js → m.node.fixed.me ≡ acting e → (body : Body) → IsOwn arts m.node m.input m.output.effects body
+    → length es ≡ length js → m.node.fixed.me ≡ acting e → (index : ℕ) (body : Body) → IsOwn arts m.node m.input m.output.effects index body
     → is_among (arts.spell body) (signed (es ++ e ∷ []) (js ++ j ∷ []) (signer_of body)) ≡ true
-own_known arts x es js w new e j m even me body own =
+own_known arts x es js w new e j m even me index body own =
     let who : signer_of body ≡ acting e = own.mine ∙ me in
     let here : eqb (acting e).0 (signer_of body).0 ≡ true = eq-eqb _ _ (ap (λ (u : NodeId). u.0) (sym who)) in
     let all : is_among (arts.spell body) (flat_map signed_by j.effects) ≡ true =
@@ -225,7 +224,7 @@ starts arts x P fits u n e =
     let among = (both _ _ is.1).0 in
     let dated_parts =
     closed_dated (bare_parts (fixed_of x u) x.buffer x.store) (weights_in x.topology.edges) (removed_of (nodes_of x.topology) x.topology.edges)
-    (no_flows_dated (start (nodes_of x.topology)) (pairs_of (nodes_of x.topology))) in
+    (bare_dated (fixed_of x u) x.buffer x.store (start (nodes_of x.topology))) in
     subst (NodeIs x P u) (sym is.0) (record {
       correct = is.1;
       fixed = refl;
@@ -241,8 +240,7 @@ starts arts x P fits u n e =
         document = fits.room x.topology.version (weights_in x.topology.edges);
         signer = record { index = omega arith; bound = omega arith; total = fits.total };
       });
-      acks = none_closed (bare_parts (fixed_of x u) x.buffer x.store).rel (removed_of (nodes_of x.topology) x.topology.edges) refl
-          (all_none (pairs_of (nodes_of x.topology)));
+      acks = bare_acks (fixed_of x u) x.buffer x.store;
       obeys = booted_obeys (fixed_of x u) (first_signer x u) (link_keys x u) x.buffer x.store;
       dated = dated_parts;
       plain = λ off. record {

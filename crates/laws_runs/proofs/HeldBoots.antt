@@ -50,9 +50,10 @@ use Rattle.laws_runs.proofs.Lives.{step_stays}
 use Rattle.laws_runs.proofs.Reaches.{input_fits}
 use Rattle.laws_runs.proofs.Ready.{ready_boots, readied_parts, was_there}
 use Rattle.laws_runs.proofs.Running.{more_found, without_left}
-use Rattle.laws_runs.proofs.Signed.{new_have, signs, signs_begin, signs_ready, turns_keep_signs}
+use Rattle.laws_runs.proofs.Signed.{signs, signs_begin, signs_ready, turns_keep_signs}
+use Rattle.laws_runs.proofs.SignedEvents.{new_have}
 use Rattle.laws_runs.proofs.StartPieces.{SaysMost, step_below}
-use Rattle.laws_runs.proofs.StepSigns.{Signs_none, Signs_one, StepSigns, no_start_asked, step_signs}
+use Rattle.laws_runs.proofs.StepSigns.{StepSigns, no_start_asked, step_signs, which_signed}
 use Rattle.laws_runs.proofs.Tables.{node_is, node_put, same_node}
 use Rattle.laws_runs.proofs.Unborn.{none_at_start}
 
@@ -231,13 +232,9 @@ module _ (arts : Arts) (x : Setting) (es : List Event) (js : List Entry) (even :
       none_signed : (o : Epoch) → IsTrue (arts.is_good (bodies.Epoch o)) → StepSigns arts m.input m.output.effects → j.effects ≡ m.output.effects
           → (t : Bool) → is_among (arts.spell (bodies.Epoch o)) (cond t (flat_map signed_by j.effects) []) ≡ true → ⊥
       none_signed o good s told false among = let f : false ≡ true = among in cc
-      none_signed o good (Signs_none none) told true among = let f : false ≡ true = rw (told, none) at among in cc
-      none_signed o good (Signs_one body kind right one) told true among =
-          let here : is_among (arts.spell (bodies.Epoch o)) (arts.spell body ∷ []) ≡ true = rw (told, one) at among in
-          elim (among_cons (arts.spell (bodies.Epoch o)) (arts.spell body) [] here) [
-            | inl same ↦ no_start_asked m.input body o kind (no_other_is_spelled_so arts reads.bodies body (bodies.Epoch o) right good same)
-            | inr g ↦ (let f : false ≡ true = g in cc)
-          ]
+      none_signed o good s told true among =
+          let it = which_signed arts m.input m.output.effects (arts.spell (bodies.Epoch o)) s (rw told at among) in
+          no_start_asked m.input it.body o it.said.asked (no_other_is_spelled_so arts reads.bodies it.body (bodies.Epoch o) it.said.good good it.is)
 
 -- a node starts
 module _ (arts : Arts) (x : Setting) (es : List Event) (js : List Entry) (old new : World) (u : NodeId) (j : Entry) (fits : SettingFits arts x)

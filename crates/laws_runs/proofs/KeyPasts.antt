@@ -1,7 +1,7 @@
 -- What is kept of the one-time indexes and the boots of a node over a run: what it signed so far was signed below its next index where it runs, and below the
 -- bound of its key file; and it took no boot above the one in that file. An event in which nothing is signed and no node starts keeps it.
 use Rattle.std.proofs.Common.{◌≡◌, ◌<◌, ◌≤◌, ℕ, zero, suc, ◌+◌, ◌-◌, ◌==◌, Bool, true, false, cond, List, [], ◌∷◌, ◌++◌, slice_set, Option, Some, None, refl}
-use Rattle.std.proofs.Common.{sym, ap, subst, ◌∙◌, arith}
+use Rattle.std.proofs.Common.{sym, ap, subst, ◌∙◌, arith, length, append_assoc}
 use Rattle.std.specs.Prelude.{slice_index_or}
 use Rattle.std.specs.List.{All, AllPairs, flat_map}
 use Rattle.std.proofs.lemmas.List.{append-nil}
@@ -71,8 +71,10 @@ told_none u e j none = go ((acting e).0 == u.0)
 
 pub no_boot : (u : NodeId) (e : Event) (r : Reply) → IsOther e → boot_in u e r ≡ []
 no_boot u (events.Rel s d p) r other = refl
+no_boot u (events.Krel s d count p) r other = refl
 no_boot u (events.Prio s d prio expiry paths p) r other = refl
 no_boot u (events.Take d s) r other = refl
+no_boot u (events.KTake d s) r other = refl
 no_boot u (events.TakePrio d) r other = refl
 no_boot u (events.Tick v now) r other = refl
 no_boot u (events.Weight a b k) r other = refl
@@ -135,6 +137,23 @@ sign_one index message ss rise below = (
   all_pairs_push (λ (one two : ℕ × List ℕ). one.0 < two.0) ss (index, message) rise below,
   All-push (λ (s : ℕ × List ℕ). s.0 < index + 1) ss (index, message) (below_more index (index + 1) ss (omega arith) below) (omega arith),
 )
+
+-- so are as many as there are messages
+pub sign_all : (index : ℕ) (messages : List (List ℕ)) (ss : List (ℕ × List ℕ)) → AllPairs (λ one two. one.0 < two.0) ss → SignedBelow index ss
+    → AllPairs (λ one two. one.0 < two.0) (ss ++ indexed index messages) × SignedBelow (index + length messages) (ss ++ indexed index messages)
+sign_all index [] ss rise below =
+    subst (λ (all : List (ℕ × List ℕ)). AllPairs (λ one two. one.0 < two.0) all × SignedBelow (index + 0) all) (sym (append-nil ss))
+    (rise, below_more index (index + 0) ss (omega arith) below)
+sign_all index (message ∷ messages) ss rise below =
+    let one = sign_one index message ss rise below in
+    let all = sign_all (index + 1) messages (ss ++ (index, message) ∷ []) one.0 one.1 in
+    let long = ss ++ indexed index (message ∷ messages) in
+    let same : (ss ++ (index, message) ∷ []) ++ indexed (index + 1) messages ≡ long =
+    append_assoc ss ((index, message) ∷ []) (indexed (index + 1) messages) in (
+      subst (λ (these : List (ℕ × List ℕ)). AllPairs (λ one two. one.0 < two.0) these) same all.0,
+      subst (λ (these : List (ℕ × List ℕ)). SignedBelow (index + length (message ∷ messages)) these) same
+          (below_more ((index + 1) + length messages) (index + length (message ∷ messages)) _ (omega arith) all.1),
+    )
 
 -- one more boot is taken
 pub boot_one : (boot : ℕ) (bs : List ℕ) → AllPairs (λ one two. one < two) bs → UpTo boot bs

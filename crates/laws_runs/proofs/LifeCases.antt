@@ -22,8 +22,10 @@ life_case arts x old (events.Start u) j new (inl start) = Starts_now u refl star
 life_case arts x old (events.Start u) j new (inr none) = Exhausts u refl none
 life_case arts x old (events.Stop u) j new stop = Stops u refl stop
 life_case arts x old (events.Rel s d p) j new down = Nobody tt down
+life_case arts x old (events.Krel s d paths p) j new down = Nobody tt down
 life_case arts x old (events.Prio s d prio expiry paths p) j new down = Nobody tt down
 life_case arts x old (events.Take d s) j new down = Nobody tt down
+life_case arts x old (events.KTake d s) j new down = Nobody tt down
 life_case arts x old (events.TakePrio d) j new down = Nobody tt down
 life_case arts x old (events.Tick v now) j new down = Nobody tt down
 life_case arts x old (events.Weight a b k) j new down = Nobody tt down
@@ -45,8 +47,10 @@ life_of arts x old e j new (Nobody other down) = nobody e other down
   where
     nobody : (f : Event) → IsOther f → IsDown old f j new → Life arts x old f j new
     nobody (events.Rel s d p) other down = down
+    nobody (events.Krel s d paths p) other down = down
     nobody (events.Prio s d prio expiry paths p) other down = down
     nobody (events.Take d s) other down = down
+    nobody (events.KTake d s) other down = down
     nobody (events.TakePrio d) other down = down
     nobody (events.Tick v now) other down = down
     nobody (events.Weight a b k) other down = down
@@ -69,8 +73,10 @@ pub data Kind (e : Event) : Type 0 where
 
 pub kind_of : (e : Event) → Kind e
 kind_of (events.Rel s d p) = Other tt
+kind_of (events.Krel s d paths p) = Other tt
 kind_of (events.Prio s d prio expiry paths p) = Other tt
 kind_of (events.Take d s) = Other tt
+kind_of (events.KTake d s) = Other tt
 kind_of (events.TakePrio d) = Other tt
 kind_of (events.Tick v now) = Other tt
 kind_of (events.Weight a b k) = Other tt

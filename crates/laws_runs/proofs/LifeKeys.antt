@@ -1,7 +1,7 @@
 -- Over each run, with or without epochs, the one-time indexes of a node rise over all its lives, and so do its boots. A step signs with the next index, and a
 -- start takes the indexes from the bound of the key file on.
 use Rattle.std.proofs.Common.{◌≡◌, ◌<◌, ◌≤◌, ℕ, ◌+◌, ◌-◌, ◌==◌, Bool, true, false, cond, List, [], ◌∷◌, ◌++◌, Some, None, refl, sym, ap, subst, ◌∙◌, inl, inr}
-use Rattle.std.proofs.Common.{arith}
+use Rattle.std.proofs.Common.{arith, length}
 use Rattle.std.specs.Prelude.{◌⊎◌}
 use Rattle.std.specs.List.{AllPairs, flat_map, list_any}
 use Rattle.std.proofs.lemmas.Bool.{eq-eqb, eqb-true}
@@ -37,10 +37,10 @@ use Rattle.laws_runs.proofs.LifeCases.{Exhausts, LifeCase, Nobody, Starts_now, S
 use Rattle.laws_runs.proofs.Running.{found_there, more_found, there_found, with_any, without_left}
 use Rattle.laws_runs.proofs.Signed.{signs}
 use Rattle.laws_runs.proofs.Started.{craft_other, moves_other}
-use Rattle.laws_runs.proofs.StepIndexes.{Uses, Uses_none, Uses_one, step_uses}
+use Rattle.laws_runs.proofs.StepIndexes.{Uses, step_uses}
 use Rattle.laws_runs.proofs.Tables.{node_is, node_put, same_node}
 use Rattle.laws_runs.proofs.KeyPasts.{PastHolds, UpTo, as_before, below_more, boot_one, in_turn, keys_go_on, more_bound, no_boot, past_goes_on, past_holds}
-use Rattle.laws_runs.proofs.KeyPasts.{ready_goes_on, sign_one, told_none, up_to_more}
+use Rattle.laws_runs.proofs.KeyPasts.{ready_goes_on, sign_all, sign_one, told_none, up_to_more}
 
 -- ---- a node moves
 
@@ -77,36 +77,27 @@ keys_moved arts x v new e j m u before low h = go ((acting e).0 == u.0) refl
     -- at u itself
     mine : acting e ≡ u → (told : List (List ℕ)) → told_at u signed_by (e, j) ≡ told → told ≡ flat_map signed_by m.output.effects
         → Uses m.node m.output.effects m.after → PastHolds x u (before ++ record { event = e; entry = j; mover = Some m.node } ∷ []) new
-    mine is told tells signed (Uses_none none same) =
-        past_goes_on x u before e j (Some m.node) v new (tells ∙ signed ∙ none) starts
-        (record {
-          node = λ n at. elim (found n at) [
-            | inl it ↦
-                let index = ap (λ (k : NodeState). k.signer.index) it.1 in
-                (m.node, ap (node_in v.nodes) (sym is) ∙ m.is_there, omega (arith, index, same))
-            | inr other ↦ absurd (other.0 (sym is))
-          ];
-          bound = let k = ap (λ (k : List Numbers). (numbers_at k u).bound) keys in omega (arith, k);
-          boot = let k = ap (λ (k : List Numbers). (numbers_at k u).boot) keys in omega (arith, k);
-        }) h
-    mine is told tells signed (Uses_one message one next) =
+    mine is told tells signed uses =
+        let messages = flat_map signed_by m.output.effects in
+        let next = uses.index in
         let there : node_in v.nodes u ≡ Some m.node = ap (node_in v.nodes) (sym is) ∙ m.is_there in
-        let more = sign_one m.node.signer.index message (signatures before u) h.rise (h.index m.node there) in
-        let ss = signatures before u ++ (m.node.signer.index, message) ∷ [] in
+        let more = sign_all m.node.signer.index messages (signatures before u) h.rise (h.index m.node there) in
+        let ss = signatures before u ++ indexed m.node.signer.index messages in
+        let upto = m.node.signer.index + length messages in
         let after : node_in new.nodes u ≡ Some m.after = ap (node_in new.nodes) (sym is) ∙ acted_there arts x v new e j m me in
-        past_holds x u before (record { event = e; entry = j; mover = Some m.node }) new ((m.node.signer.index, message) ∷ []) []
-        (ap (indexed m.node.signer.index) (tells ∙ signed ∙ one)) starts
+        past_holds x u before (record { event = e; entry = j; mover = Some m.node }) new (indexed m.node.signer.index messages) []
+        (ap (indexed m.node.signer.index) (tells ∙ signed)) starts
         (record {
           rise = more.0;
           index = λ n at. elim (found n at) [
             | inl it ↦
                 let index = ap (λ (k : NodeState). k.signer.index) it.1 in
-                below_more (m.node.signer.index + 1) n.signer.index ss (omega (arith, index, next)) more.1
+                below_more upto n.signer.index ss (omega (arith, index, next)) more.1
             | inr other ↦ absurd (other.0 (sym is))
           ];
           bound = λ on.
               let most = low on m.after after in
-              below_more (m.node.signer.index + 1) (numbers_at new.keys u).bound ss (omega (arith, most, next)) more.1;
+              below_more upto (numbers_at new.keys u).bound ss (omega (arith, most, next)) more.1;
           boots = subst (λ (t : List ℕ). AllPairs (λ one two. one < two) t) (sym (append-nil (boots before u))) h.boots;
           boot = subst (λ (t : List ℕ). UpTo (numbers_at new.keys u).boot t) (sym (append-nil (boots before u)))
               (up_to_more (numbers_at v.keys u).boot (numbers_at new.keys u).boot (boots before u)

@@ -12,6 +12,8 @@ use Rattle.sp_rules.specs.Node.{NodeState, link_in}
 use Rattle.sp_rules.specs.Parts.{Fixed, Parts}
 use Rattle.sp_rules.specs.Pieces.{Piece, WeightPiece, PrioAckPiece, AckPiece, RelPiece, EpochPiece, pieces_of, prio_piece, slot_pieces}
 use Rattle.sp_rules.specs.Sends.{is_unmet}
+use Rattle.sp_rules.specs.declared.kflow.FlowKind.{FlowKind}
+use Rattle.sp_rules.specs.declared.kflow.FlowKind.TheVariants.{Plain, Paths}
 use Rattle.sp_rules.specs.declared.node.LinkReply.{LinkReply}
 use Rattle.sp_rules.specs.declared.node.LinkReply.TheVariants as links
 use Rattle.laws_node.proofs.Carried.{AllKeep}
@@ -41,30 +43,39 @@ none_both : (xs ys : List Piece) → NoStarts xs → NoStarts ys → NoStarts (x
 none_both [] ys one two = two
 none_both (x ∷ xs) ys one two = (one.0, none_both xs ys one.1 two)
 
-none_slot : (slot : Option Report) → NoStarts (slot_pieces slot)
-none_slot None = tt
-none_slot (Some r) = (
+none_slot : (kind : FlowKind) (slot : Option Report) → NoStarts (slot_pieces kind slot)
+none_slot kind None = tt
+none_slot kind (Some r) = (
   tt,
-  none_both (map (AckPiece r.flow) (as_list r.ack)) (map (RelPiece r.flow) r.rels)
-      (none_map (AckPiece r.flow) (λ o. tt) (as_list r.ack)) (none_map (RelPiece r.flow) (λ o. tt) r.rels),
+  none_both (map (AckPiece kind r.flow) (as_list r.ack)) (map (RelPiece kind r.flow) r.rels)
+      (none_map (AckPiece kind r.flow) (λ o. tt) (as_list r.ack)) (none_map (RelPiece kind r.flow) (λ o. tt) r.rels),
 )
 
 -- those of contents without an Epoch object
 pub no_starts_of : (s : Contents) → s.epoch ≡ None → NoStarts (pieces_of s)
 no_starts_of s none =
-    none_both (map WeightPiece s.weights) (PrioAckPiece s.prio_ack ∷ (map prio_piece s.prios ++ (slot_pieces s.slot ++ map EpochPiece (as_list s.epoch))))
-    (none_map WeightPiece (λ o. tt) s.weights) (
+    let last = map EpochPiece (as_list s.epoch) in
+    let paths = slot_pieces Paths s.paths ++ last in
+    let slots = slot_pieces Plain s.slot ++ paths in
+    none_both (map WeightPiece s.weights) (PrioAckPiece s.prio_ack ∷ (map prio_piece s.prios ++ slots)) (none_map WeightPiece (λ o. tt) s.weights) (
       tt,
-      none_both (map prio_piece s.prios) (slot_pieces s.slot ++ map EpochPiece (as_list s.epoch)) (none_map prio_piece (λ m. tt) s.prios)
-          (none_both (slot_pieces s.slot) (map EpochPiece (as_list s.epoch)) (none_slot s.slot)
-          (subst (λ (o : Option Kept). NoStarts (map EpochPiece (as_list o))) (sym none) tt)),
+      none_both (map prio_piece s.prios) slots (none_map prio_piece (λ m. tt) s.prios)
+          (none_both (slot_pieces Plain s.slot) paths (none_slot Plain s.slot) (none_both (slot_pieces Paths s.paths) last (none_slot Paths s.paths)
+          (subst (λ (o : Option Kept). NoStarts (map EpochPiece (as_list o))) (sym none) tt))),
     )
 
--- what is heeded of contents has the slot, and no Epoch object
+-- what is heeded of contents has the slots, and no Epoch object
 pub heeded_slot : (f : Fixed) (s : Contents) → (heeded f s).slot ≡ s.slot
 heeded_slot f s = go f.epochs
   where
     go : (epochs : Bool) → (cond epochs s (record s { epoch = None })).slot ≡ s.slot
+    go true = refl
+    go false = refl
+
+pub heeded_paths : (f : Fixed) (s : Contents) → (heeded f s).paths ≡ s.paths
+heeded_paths f s = go f.epochs
+  where
+    go : (epochs : Bool) → (cond epochs s (record s { epoch = None })).paths ≡ s.paths
     go true = refl
     go false = refl
 
@@ -115,13 +126,15 @@ less_at_end P (x ∷ xs) ys zs less h = (h.0, less_at_end P xs ys zs less h.1)
 heeded_keep : (P : Kept → Type 0) (epochs : Bool) (s : Contents) → AllKeep P (pieces_of s) → AllKeep P (pieces_of (cond epochs s (record s { epoch = None })))
 heeded_keep P true s h = h
 heeded_keep P false s h =
+    let plain = slot_pieces Plain s.slot in
+    let paths = slot_pieces Paths s.paths in
     let old = map EpochPiece (as_list s.epoch) in
-    less_at_end P (map WeightPiece s.weights) (PrioAckPiece s.prio_ack ∷ (map prio_piece s.prios ++ (slot_pieces s.slot ++ old)))
-    (PrioAckPiece s.prio_ack ∷ (map prio_piece s.prios ++ (slot_pieces s.slot ++ [])))
+    less_at_end P (map WeightPiece s.weights) (PrioAckPiece s.prio_ack ∷ (map prio_piece s.prios ++ (plain ++ (paths ++ old))))
+    (PrioAckPiece s.prio_ack ∷ (map prio_piece s.prios ++ (plain ++ (paths ++ []))))
     (λ k. (
       k.0,
-      less_at_end P (map prio_piece s.prios) (slot_pieces s.slot ++ old) (slot_pieces s.slot ++ [])
-          (less_at_end P (slot_pieces s.slot) old [] (λ e. tt)) k.1,
+      less_at_end P (map prio_piece s.prios) (plain ++ (paths ++ old)) (plain ++ (paths ++ []))
+          (less_at_end P plain (paths ++ old) (paths ++ []) (less_at_end P paths old [] (λ e. tt))) k.1,
     )) h
 
 pub in_keep : (P : Kept → Type 0) (f : Fixed) (s : Contents) → AllKeep P (pieces_of s) → AllKeep P (pieces_in f (Ok s))

@@ -11,10 +11,11 @@ use Rattle.sp_msg.specs.declared.refused.SendRefused.{SendRefused}
 use Rattle.sp_rules.specs.Arrivals.{arrival_at, parts_met, pieces_in, reply_at, sections_in, before_document, document_at, document_in}
 use Rattle.sp_rules.specs.Arts.{Arts}
 use Rattle.sp_rules.specs.Node.{NodeState, call_refusal}
+use Rattle.sp_rules.specs.KflowSends.{send_krel_refusal}
 use Rattle.sp_rules.specs.Parts.{Fixed}
 use Rattle.sp_rules.specs.Sends.{rel_refusal, send_prio_refusal, weight_refusal}
 use Rattle.sp_rules.specs.Steps as steps
-use Rattle.sp_rules.specs.Steps.{Input, NodeStep, Output, arrived, datagram_output, refused_call, refused_send, document_adopted}
+use Rattle.sp_rules.specs.Steps.{Input, NodeStep, Output, arrived, refused_call, refused_send, document_adopted}
 use Rattle.sp_rules.specs.declared.answers.Item.{Item}
 use Rattle.sp_rules.specs.declared.node.NodeRefused.{NodeRefused}
 use Rattle.laws_node.specs.Asked.{NewKeep}
@@ -152,6 +153,12 @@ quiet arts x es js w n (steps.SendPrio m) output after s other =
 quiet arts x es js w n (steps.SetWeight v weight) output after s other =
     neither_both false _ _ refl (none_answered arts x es js _ (ap (λ (o : Output). o.answered) s.0 ∙ no_send (weight_refusal n v weight) _ refl))
     (ap (λ (o : Output). forged_document arts es o.adopted) s.0 ∙ send_forges arts es (weight_refusal n v weight) _ refl)
+quiet arts x es js w n (steps.SendKrel m) output after s other =
+    neither_both false _ _ refl (none_answered arts x es js _ (ap (λ (o : Output). o.answered) s.output_is ∙ no_send (send_krel_refusal n m s.choice) _ refl))
+    (ap (λ (o : Output). forged_document arts es o.adopted) s.output_is ∙ send_forges arts es (send_krel_refusal n m s.choice) _ refl)
+quiet arts x es js w n (steps.TakeKrel src) output after s other =
+    neither_both false _ _ refl (none_answered arts x es js _ (ap (λ (o : Output). o.answered) s.0))
+    (ap (λ (o : Output). forged_document arts es o.adopted) s.0)
 quiet arts x es js w n (steps.TakeRel src) output after s other =
     neither_both false _ _ refl (none_answered arts x es js _ (ap (λ (o : Output). o.answered) s.0))
     (ap (λ (o : Output). forged_document arts es o.adopted) s.0)
@@ -180,8 +187,10 @@ by_move : (arts : Arts) (x : Setting) (es : List Event) (js : List Entry) (w new
 by_move arts x es js w new (events.Pass u v number) j fits reads run m what is =
     never _ what (pass_unforged arts x es js w new u v number j fits reads run m) is
 by_move arts x es js w new (events.Rel s d p) j fits reads run m what is = calm arts x es js w new _ j m what _ refl (λ u b f. cc) is
+by_move arts x es js w new (events.Krel s d count p) j fits reads run m what is = calm arts x es js w new _ j m what _ refl (λ u b f. cc) is
 by_move arts x es js w new (events.Prio s d a b c p) j fits reads run m what is = calm arts x es js w new _ j m what _ refl (λ u b f. cc) is
 by_move arts x es js w new (events.Take d s) j fits reads run m what is = calm arts x es js w new _ j m what _ refl (λ u b f. cc) is
+by_move arts x es js w new (events.KTake d s) j fits reads run m what is = calm arts x es js w new _ j m what _ refl (λ u b f. cc) is
 by_move arts x es js w new (events.TakePrio d) j fits reads run m what is = calm arts x es js w new _ j m what _ refl (λ u b f. cc) is
 by_move arts x es js w new (events.Tick u now) j fits reads run m what is = calm arts x es js w new _ j m what _ refl (λ u b f. cc) is
 by_move arts x es js w new (events.Weight u v weight) j fits reads run m what is = calm arts x es js w new _ j m what _ refl (λ u b f. cc) is

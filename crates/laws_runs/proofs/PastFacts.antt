@@ -22,7 +22,7 @@ use Rattle.laws_runs.specs.Premises.{Carries}
 use Rattle.laws_runs.proofs.HeldBoots.{held_boots_are_born}
 use Rattle.laws_runs.proofs.Lists.{told_more}
 use Rattle.laws_runs.proofs.Ready.{readied_parts, was_there}
-use Rattle.laws_runs.proofs.Signed.{even}
+use Rattle.laws_runs.proofs.SignedEvents.{even}
 
 -- ---- one event more
 

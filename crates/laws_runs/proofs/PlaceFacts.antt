@@ -17,7 +17,9 @@ use Rattle.sp_rules.specs.PrioPeer.{PrioPeer}
 use Rattle.sp_rules.specs.Store.{Store, put, said}
 use Rattle.sp_rules.specs.declared.store.TheConstants.{IDS}
 use Rattle.laws_node.specs.Stores.{IsPrio}
-use Rattle.laws_runs.proofs.StoreFacts.{AreAway, Leads, Tells_prio, away_both, leads_away, leads_nowhere, leads_on, put_away, put_here}
+use Rattle.laws_runs.proofs.StoreFacts.{put_away, put_here}
+use Rattle.laws_runs.proofs.StoreEffects.{Tells_prio}
+use Rattle.laws_runs.proofs.StoreEffects.{AreAway, Leads, away_both, leads_away, leads_nowhere, leads_on}
 
 -- ---- places
 

@@ -42,14 +42,17 @@ use Rattle.laws_runs.proofs.LifeCases.{life_case}
 use Rattle.laws_runs.proofs.Lists.{as_they_are}
 use Rattle.laws_runs.proofs.Lives.{step_stays}
 use Rattle.laws_runs.proofs.PlaceFacts.{AllAway, Turns, row_here, row_there}
-use Rattle.laws_runs.proofs.PlaceSteps.{either_away, none_away, turned, closed_turns}
+use Rattle.laws_runs.proofs.PlaceSteps.{turned}
+use Rattle.laws_runs.proofs.PlaceTurns.{either_away, none_away, closed_turns}
 use Rattle.laws_runs.proofs.Played.{shares_from_start}
 use Rattle.laws_runs.proofs.Reaches.{input_fits}
 use Rattle.laws_runs.proofs.Ready.{readied_parts, was_there}
 use Rattle.laws_runs.proofs.Rests.{Begun, Lived, Ran, Rest, life_rest, spends_rest}
 use Rattle.laws_runs.proofs.Signed.{signs, signs_ready}
 use Rattle.laws_runs.proofs.SinceFacts.{moved_since, since_is_all, since_more, since_start}
-use Rattle.laws_runs.proofs.StoreFacts.{Signs_it, held_both, leads_away, shares_both, store_empty}
+use Rattle.laws_runs.proofs.StoreFacts.{store_empty}
+use Rattle.laws_runs.proofs.StoreEffects.{Signs_it}
+use Rattle.laws_runs.proofs.StoreEffects.{held_both, leads_away, shares_both}
 use Rattle.laws_runs.proofs.Tables.{node_is, node_put, same_node}
 
 -- ---- the places of a node as it boots

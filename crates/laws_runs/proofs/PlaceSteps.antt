@@ -1,316 +1,55 @@
 -- What each step tells of each place of the node.
-use Rattle.sp_base.proofs.FormatLemmas.{few_nodes}
-use Rattle.sp_msg.proofs.GoodFields.{good_prio}
-use Rattle.laws_runs.specs.Places.{PlacesAre, StoreIs, shelf}
-use Rattle.std.proofs.Common.{◌≡◌, ◌<◌, ◌&&◌, ℕ, zero, suc, ◌-◌, Bool, true, false, cond, List, [], ◌∷◌, ◌++◌, length, Option, Some, None, refl, sym, ap, subst}
-use Rattle.std.proofs.Common.{◌∙◌, inl, inr, arith, filter}
-use Rattle.std.specs.List.{flat_map}
-use Rattle.std.proofs.lemmas.Bool.{cases_Bool}
-use Rattle.std.proofs.lemmas.List.{append-nil}
+use Rattle.laws_runs.specs.Places.{PlacesAre}
+use Rattle.std.proofs.Common.{◌≡◌, ◌&&◌, List, [], ◌++◌, Option, Some, None, refl, sym, ap, subst, ◌∙◌}
 use Rattle.sp_base.specs.declared.id.NodeId.{NodeId}
-use Rattle.sp_base.specs.declared.limits.TheConstants.{MAX_MESSAGES}
 use Rattle.sp_msg.specs.Bodies.{HasGoodFieldsIn}
 use Rattle.sp_msg.specs.declared.body.Ack.{Ack}
-use Rattle.sp_msg.specs.declared.body.Body.{Body}
-use Rattle.sp_msg.specs.declared.body.Body.TheVariants as bodies
 use Rattle.sp_msg.specs.declared.effect.Effect.{Effect}
 use Rattle.sp_msg.specs.declared.effect.Effect.TheVariants as effects
 use Rattle.sp_msg.specs.declared.effect.Why.TheVariants as whys
 use Rattle.sp_msg.specs.declared.kept.Kept.{Kept}
 use Rattle.sp_msg.specs.declared.refused.SendRefused.{SendRefused}
-use Rattle.sp_rules.specs.Answers.{ack_answer, epoch_answer, is_new, prio_answer, rel_answer, weight_answer}
 use Rattle.sp_rules.specs.Arrivals.{arrival_at, handled, has_risen, link_after, parts_met, before_document, document_at, read_by}
 use Rattle.sp_rules.specs.Arts.{Arts}
-use Rattle.sp_rules.specs.Documents.{after_publish, publish_effects, under_topology, version_effects}
-use Rattle.sp_rules.specs.Flow.{FlowState, ends, flow_said}
-use Rattle.sp_rules.specs.Topologies.{is_shut, removed_of, weights_in}
-use Rattle.sp_topology.specs.declared.topology.Topology.{Topology}
-use Rattle.sp_rules.specs.Handle.{Arrival, handle, handle_all, heard_where, met, offer_to, weight_effects}
+use Rattle.sp_rules.specs.Documents.{after_publish, publish_effects}
+use Rattle.sp_rules.specs.Handle.{weight_effects}
+use Rattle.sp_rules.specs.Kflow.{pushed}
+use Rattle.sp_rules.specs.KflowSends.{after_take_krel, krel_number, krel_sends, krel_sent, send_krel_refusal}
 use Rattle.sp_rules.specs.Link.{advanced}
-use Rattle.sp_rules.specs.Lives.{are_held, is_dated, judge_epoch, origin_said}
 use Rattle.sp_rules.specs.Node.{NodeState, call_refusal, called, kept_or, link_in, signed_now, signed_once, with_link}
-use Rattle.sp_rules.specs.Parts.{Parts, is_signed, nodes_of}
-use Rattle.sp_rules.specs.Pieces.{Piece, WeightPiece, PrioAckPiece, PrioPiece, ReportPiece, AckPiece, RelPiece, EpochPiece}
+use Rattle.sp_rules.specs.Parts.{Parts}
 use Rattle.sp_rules.specs.Polls.{frame_to, polled, is_served, parts_after}
 use Rattle.sp_rules.specs.Prio as prio
-use Rattle.sp_rules.specs.Prio.{PrioState, admit_prio, judge_prio, no_peer, peer_in, prio_effects}
+use Rattle.sp_rules.specs.Prio.{PrioState, admit_prio, prio_effects}
 use Rattle.sp_rules.specs.PrioPeer as rows
-use Rattle.sp_rules.specs.PrioPeer.{PrioPeer, filled, landed, launch, launched, settled}
 use Rattle.sp_rules.specs.Rel as rel
-use Rattle.sp_rules.specs.Rel.{RelState, admit_ack, admit_rel, delivery, ended_by, is_end, is_to, judge_ack_of, judge_rel_of, pushed_in, rel_effects, reported}
-use Rattle.sp_rules.specs.Rel.{restart_effects}
+use Rattle.sp_rules.specs.Rel.{pushed_in}
+use Rattle.sp_rules.specs.declared.kflow.FlowKind.{FlowKind}
+use Rattle.sp_rules.specs.declared.kflow.FlowKind.TheVariants.{Plain, Paths}
 use Rattle.sp_rules.specs.Sends.{after_take_prio, after_take_rel, mask_in, no_paths, own_prio, prio_body, prio_refusal, prio_sent, rel_body, rel_number}
 use Rattle.sp_rules.specs.Sends.{rel_refusal, rel_sent, send_prio_refusal, signer_refusal, weight_body, weight_number, weight_refusal, weight_sent}
 use Rattle.sp_rules.specs.Steps as steps
 use Rattle.sp_rules.specs.Steps.{Input, NodeStep, Output, accepted, arrived, refused_call, refused_send, replied, document_effects}
-use Rattle.sp_rules.specs.Store.{Store, less_expired, next_besides, oldest, said}
-use Rattle.sp_rules.specs.Ticks.{ack_effects, at_time, due_now, settled_by, time_after}
+use Rattle.sp_rules.specs.Store.{oldest}
+use Rattle.sp_rules.specs.Ticks.{ack_effects, after_plain, after_tick, at_time, due_now, second_refusal, tick_effects, time_after}
 use Rattle.sp_rules.specs.Weights.{held as held_weight}
-use Rattle.sp_rules.specs.declared.answers.Item.TheVariants as items
-use Rattle.sp_rules.specs.declared.answers.PrioAnswer.{PrioAnswer}
-use Rattle.sp_rules.specs.declared.answers.PrioAnswer.TheVariants as prios
 use Rattle.sp_rules.specs.declared.node.NodeRefused.{NodeRefused}
-use Rattle.sp_rules.specs.declared.store.Entry.{Entry}
-use Rattle.sp_rules.specs.declared.store.TheConstants.{IDS}
 use Rattle.laws_node.specs.Inputs.{InputFits}
-use Rattle.laws_node.specs.Stores.{IsPrio}
 use Rattle.laws_node.specs.Asked.{NewKeep}
-use Rattle.laws_node.proofs.AskedLemmas.{new_left, new_right}
 use Rattle.laws_node.proofs.Carried.{pieces_new}
-use Rattle.laws_node.proofs.Handles as judged
 use Rattle.laws_node.proofs.Own.{either, prio_sent_fits}
 use Rattle.laws_node.proofs.Arrived.{step_fields}
-use Rattle.laws_node.proofs.Adopting.{publishing, reading}
 use Rattle.laws_node.proofs.Tables.{cond_either}
 use Rattle.sp_runs.specs.Settings.{Setting, SettingFits}
 use Rattle.laws_runs.specs.Signs.{NodeIs, sizes_at}
-use Rattle.laws_runs.proofs.PlaceFacts.{AllAway, Turns, admitted_turns, all_turn, inbox_turns, row_turns, turns_on, turns_same}
+use Rattle.laws_runs.proofs.PlaceFacts.{AllAway, Turns, admitted_turns, turns_on, turns_same}
+use Rattle.laws_runs.proofs.EachKind.{settled_prio}
 use Rattle.laws_runs.proofs.Goods.{arts_fit}
 use Rattle.laws_runs.proofs.NoStarts.{pieces_at}
-use Rattle.laws_runs.proofs.StoreFacts.{AreAway, Ends_flow, Leads, Signs_it, Tells_rel, Tells_version, Tells_weight, away_both, expired_away, expired_is}
-use Rattle.laws_runs.proofs.StoreFacts.{expired_leads, gone_away, leads_nowhere, left_away, left_by_away, left_by_is, left_by_leads, left_is, left_leads}
-use Rattle.laws_runs.proofs.StoreFacts.{oldest_is, oldest_leads}
-
--- ---- effects of no place
-
-weight_away : (body : Body) → AllAway (weight_effects body)
-weight_away (bodies.Prio b) = λ place. tt
-weight_away (bodies.Rel b) = λ place. tt
-weight_away (bodies.Ack b) = λ place. tt
-weight_away (bodies.Weight b) = λ place. (Tells_weight, tt)
-weight_away (bodies.Krel b) = λ place. tt
-weight_away (bodies.Kack b) = λ place. tt
-weight_away (bodies.Epoch b) = λ place. tt
-
-pub either_away : (t : Bool) (es : List Effect) → AllAway es → AllAway (cond t es [])
-either_away true es h = h
-either_away false es h = λ place. tt
-
-rel_away : (t : Bool) (body : Body) → AllAway (cond t (delivery body ∷ []) [])
-rel_away true body = λ place. (Tells_rel, tt)
-rel_away false body = λ place. tt
-
-restart_away : (r : RelState) (v : NodeId) → AllAway (restart_effects r v)
-restart_away r v = λ place. each place r.flows
-  where
-    each : (place : ℕ) (fs : List FlowState) → AreAway place (flat_map (ended_by v) fs)
-    each place [] = tt
-    each place (f ∷ fs) =
-        away_both place (ended_by v f) (flat_map (ended_by v) fs)
-        (either_away (is_end v (ends f) && f.active) (effects.Ended (ends f) ∷ []) (λ p. (Ends_flow, tt)) place) (each place fs)
-
-pub none_away : AllAway []
-none_away = λ place. tt
-
-small_of : (format : ℕ) (body : Body) → IsPrio body → HasGoodFieldsIn format body → said (λ p. p.src.0) body < IDS
-small_of format (bodies.Prio p) is good = omega (arith, (good_prio format p good).src.1, few_nodes format)
-small_of format (bodies.Rel r) is good = absurd is
-small_of format (bodies.Ack a) is good = absurd is
-small_of format (bodies.Weight w) is good = absurd is
-small_of format (bodies.Krel w) is good = absurd is
-small_of format (bodies.Kack w) is good = absurd is
-small_of format (bodies.Epoch w) is good = absurd is
-
--- what goes in flight changes neither the place nor its store
-launched_stays : (q : PrioPeer) (e : Option Entry) → ((launched q e).peer ≡ q.peer) × ((launched q e).store ≡ q.store)
-launched_stays q None = (refl, refl)
-launched_stays q (Some e) = (refl, refl)
-
-filled_stays : (room : ℕ) (q : PrioPeer) → ((filled room q).peer ≡ q.peer) × ((filled room q).store ≡ q.store)
-filled_stays zero q = (refl, refl)
-filled_stays (suc room) q =
-    let first = launched_stays q (next_besides q.store q.flight q.last) in
-    let others = filled_stays room (launch q) in
-    (others.0 ∙ first.0, others.1 ∙ first.1)
-
-module _ (capacity format : ℕ) where
-  -- ---- pieces
-
-  acked_turns : (p : PrioState) (v number : ℕ) → PlacesAre capacity p → Turns capacity p (prio.acked_effects p v number) (prio.acked p v number)
-  acked_turns p v number h =
-      let q = peer_in p v in
-      let pairs = landed q number in
-      row_turns capacity p v (rows.acked q number) (rows.acked_effects q number) refl (λ s. left_is capacity q.store pairs s)
-      (λ e s. subst (λ n. Leads capacity v (shelf q.store) (rows.left_effects n q.store pairs) (shelf (rows.less_all q.store pairs))) (sym e)
-      (left_leads capacity v q.store pairs s))
-      (λ place other. left_away place q.peer q.store pairs other)
-      (λ none. ap (λ (r : PrioPeer). rows.acked_effects r number) none) h
-
-  -- a row whose store stays
-  row_stays : (p : PrioState) (v : ℕ) (r : PrioPeer) → r.peer ≡ (peer_in p v).peer → r.store ≡ (peer_in p v).store → PlacesAre capacity p
-      → Turns capacity p [] (prio.with_peer p v r)
-  row_stays p v r e f h =
-      row_turns capacity p v r [] e (λ s. subst (StoreIs capacity) (sym f) s)
-      (λ g s. subst (λ (t : Store). Leads capacity v (shelf (peer_in p v).store) [] (shelf t)) (sym f) (leads_nowhere capacity v (shelf (peer_in p v).store)))
-      (λ place other. tt) (λ none. refl) h
-
-  heard_turns : (answer : PrioAnswer) (v : NodeId) (number : ℕ) (p : Parts) → PlacesAre capacity p.prio
-      → Turns capacity p.prio [] (heard_where answer v number p).prio
-  heard_turns prios.New v number p h = row_stays p.prio v.0 (rows.heard (peer_in p.prio v.0) number) refl refl h
-  heard_turns prios.Seen v number p h = row_stays p.prio v.0 (rows.heard (peer_in p.prio v.0) number) refl refl h
-  heard_turns prios.BadEnd v number p h = turns_same capacity p.prio p.prio [] none_away refl refl h
-  heard_turns prios.Expired v number p h = turns_same capacity p.prio p.prio [] none_away refl refl h
-  heard_turns prios.BadSig v number p h = turns_same capacity p.prio p.prio [] none_away refl refl h
-  heard_turns prios.Epoch v number p h = turns_same capacity p.prio p.prio [] none_away refl refl h
-
-  same_prio : (t : Bool) (x p : Parts) → x.prio ≡ p.prio → (cond t x p).prio ≡ p.prio
-  same_prio true x p e = e
-  same_prio false x p e = refl
-
-  -- windows alone change
-  either_stays : (t : Bool) (x p : Parts) → x.prio.inbox ≡ p.prio.inbox → x.prio.peers ≡ p.prio.peers
-      → ((cond t x p).prio.inbox ≡ p.prio.inbox) × ((cond t x p).prio.peers ≡ p.prio.peers)
-  either_stays true x p e f = (e, f)
-  either_stays false x p e f = (refl, refl)
-
-  -- the frame of another life of its neighbour takes nothing from a place
-  greeted_turns : (t : Bool) (v : NodeId) (p : Parts) → PlacesAre capacity p.prio
-      → Turns capacity p.prio [] (cond t (record p { prio = prio.unheard p.prio v.0; rel = rel.unheard p.rel v }) p).prio
-  greeted_turns true v p h = row_stays p.prio v.0 (rows.unheard (peer_in p.prio v.0)) refl refl h
-  greeted_turns false v p h = turns_same capacity p.prio p.prio [] none_away refl refl h
-
-  quiet_turns : (old new : PrioState) (es : List Effect) → AllAway es → new ≡ old → PlacesAre capacity old → Turns capacity old es new
-  quiet_turns old new es away e h = turns_same capacity old new es away (ap (λ (p : PrioState). p.inbox) e) (ap (λ (p : PrioState). p.peers) e) h
-
-  one_turns : (arts : Arts) (at : Arrival) (p : Parts) (piece : Piece)
-      → NewKeep (λ o. HasGoodFieldsIn format o.body) (handle arts at p piece).answered
-      → PlacesAre capacity p.prio
-      → Turns capacity p.prio (handle arts at p piece).effects (handle arts at p piece).parts.prio
-  one_turns arts at p (WeightPiece o) new h =
-      let t = is_new (items.Weight (weight_answer (is_signed arts at.fixed o) (offer_to at.fixed.me p.weights o.body))) in
-      quiet_turns p.prio (cond t (record p { weights = held_weight p.weights o }) p).prio (cond t (weight_effects o.body) [])
-      (either_away t (weight_effects o.body) (weight_away o.body)) (same_prio t (record p { weights = held_weight p.weights o }) p refl) h
-  one_turns arts at p (PrioAckPiece number) new h = acked_turns p.prio at.from.0 number h
-  one_turns arts at p (PrioPiece number o) new h =
-      let answer = prio_answer (is_signed arts at.fixed o) (is_dated p.lives o.body) (judge_prio p.prio o.body at.now) in
-      let admitted = record p { prio = admit_prio p.prio o (Some at.from) } in
-      let es = prio_effects p.prio o (Some at.from) in
-      let first : Turns capacity p.prio (cond (is_new (items.Prio answer)) es []) (cond (is_new (items.Prio answer)) admitted p).prio =
-      elim (cases_Bool (is_new (items.Prio answer))) [
-        | inl t ↦
-            let is =
-            judged.is_prio p.prio o.body at.now (judged.new_prio (is_signed arts at.fixed o) (is_dated p.lives o.body) (judge_prio p.prio o.body at.now) t).1 in
-            let done = admitted_turns capacity p.prio o (Some at.from) is (small_of format o.body is (new.0 t)) h in
-            rw t done
-        | inr t ↦ let same = turns_same capacity p.prio p.prio [] none_away refl refl h in rw t same
-      ] in
-      let after = cond (is_new (items.Prio answer)) admitted p in
-      subst (λ xs. Turns capacity p.prio xs (heard_where answer at.from number after).prio) (append-nil (cond (is_new (items.Prio answer)) es []))
-      (turns_on capacity p.prio after.prio (heard_where answer at.from number after).prio (cond (is_new (items.Prio answer)) es []) [] first
-      (heard_turns answer at.from number after first.are))
-  one_turns arts at p (ReportPiece flow sboot dboot base have) new h =
-      quiet_turns p.prio (handle arts at p (ReportPiece flow sboot dboot base have)).parts.prio [] none_away
-      (same_prio (are_held p.lives flow sboot dboot) (record p { rel = reported p.rel at.from flow base have }) p refl) h
-  one_turns arts at p (AckPiece flow o) new h =
-      let t = is_new (items.Ack (ack_answer (is_signed arts at.fixed o) (is_dated p.lives o.body) (judge_ack_of p.rel flow o.body))) in
-      quiet_turns p.prio (cond t (record p { rel = admit_ack p.rel o }) p).prio (cond t [] []) (either_away t [] none_away)
-      (same_prio t (record p { rel = admit_ack p.rel o }) p refl) h
-  one_turns arts at p (RelPiece flow o) new h =
-      let t = is_new (items.Rel (rel_answer (is_signed arts at.fixed o) (is_dated p.lives o.body) (judge_rel_of p.rel flow o.body))) in
-      quiet_turns p.prio (cond t (record p { rel = admit_rel p.rel o }) p).prio (cond t (rel_effects p.rel o) [])
-      (either_away t (rel_effects p.rel o) (rel_away (is_to p.rel (flow_said o.body)) o.body))
-      (same_prio t (record p { rel = admit_rel p.rel o }) p refl) h
-  one_turns arts at p (EpochPiece o) new h =
-      let t = is_new (items.Epoch (epoch_answer (is_signed arts at.fixed o) (judge_epoch at.fixed.me p.lives o.body))) in
-      let es = restart_effects p.rel (origin_said o.body) in
-      let away = either_away t es (restart_away p.rel (origin_said o.body)) in
-      let same = either_stays t (met p o) p refl refl in
-      turns_same capacity p.prio (cond t (met p o) p).prio (cond t es []) away same.0 same.1 h
-
-  all_turns : (arts : Arts) (at : Arrival) (p : Parts) (pieces : List Piece)
-      → NewKeep (λ o. HasGoodFieldsIn format o.body) (handle_all arts at p pieces).answered → PlacesAre capacity p.prio
-      → Turns capacity p.prio (handle_all arts at p pieces).effects (handle_all arts at p pieces).parts.prio
-  all_turns arts at p [] new h = turns_same capacity p.prio p.prio [] none_away refl refl h
-  all_turns arts at p (piece ∷ pieces) new h =
-      let first = handle arts at p piece in
-      let others = handle_all arts at first.parts pieces in
-      let one = one_turns arts at p piece (new_left (λ o. HasGoodFieldsIn format o.body) first.answered others.answered new) h in
-      let rest = all_turns arts at first.parts pieces (new_right (λ o. HasGoodFieldsIn format o.body) first.answered others.answered new) one.are in
-      turns_on capacity p.prio first.parts.prio others.parts.prio first.effects others.effects one rest
-
-  -- ---- the other calls
-
-  carried_turns : (p : PrioState) (v : ℕ) → PlacesAre capacity p → Turns capacity p [] (prio.carried p v)
-  carried_turns p v h =
-      let q = settled (peer_in p v) in
-      let same = filled_stays (MAX_MESSAGES - length q.flight) q in
-      row_stays p v (rows.carried (peer_in p v)) same.0 same.1 h
-
-  expired_turns : (p : PrioState) (now : ℕ) → PlacesAre capacity p → Turns capacity p (prio.expired_effects p now) (prio.expired p now)
-  expired_turns p now h =
-      let mid = record p { inbox = less_expired p.inbox now } in
-      let one =
-      inbox_turns capacity p mid (rows.expired_effects 0 p.inbox now) refl (expired_leads capacity 0 p.inbox now h.inbox)
-      (expired_is capacity p.inbox now h.inbox)
-      (λ place other. expired_away place 0 p.inbox now other) h in
-      let two = all_turn capacity mid (prio.expired p now) (λ q. rows.expired q now) (λ q. rows.expired_effects q.peer q.store now)
-      (λ q s. record {
-        key = refl;
-        here = expired_leads capacity q.peer q.store now s;
-        away = λ place other. expired_away place q.peer q.store now other;
-        after = expired_is capacity q.store now s;
-      }) refl refl one.are in
-      turns_on capacity p mid (prio.expired p now) (rows.expired_effects 0 p.inbox now)
-      (flat_map (λ (q : PrioPeer). rows.expired_effects q.peer q.store now) p.peers) one two
-
-  taken_turns : (p : PrioState) → PlacesAre capacity p → Turns capacity p (rows.gone 0 whys.Taken (oldest p.inbox)) (prio.taken p)
-  taken_turns p h =
-      inbox_turns capacity p (prio.taken p) (rows.gone 0 whys.Taken (oldest p.inbox)) refl (oldest_leads capacity 0 p.inbox h.inbox)
-      (oldest_is capacity p.inbox h.inbox)
-      (λ place other. gone_away place 0 whys.Taken (oldest p.inbox) other) h
-
-  -- another version of the topology
-  pub closed_turns : (p : PrioState) (least : List ℕ) (gone : List NodeId) → PlacesAre capacity p
-      → Turns capacity p (prio.closed_effects p least gone) (prio.closed p least gone)
-  closed_turns p least gone h =
-      all_turn capacity p (prio.closed p least gone) (rows.closed least gone) (rows.closed_effects least gone)
-      (λ q s. record {
-        key = refl;
-        here = left_by_leads whys.Withdrawn (λ is. absurd (cc)) capacity q.peer q.store (rows.leaves (is_shut least q.edge) gone) s;
-        away = λ place other. left_by_away whys.Withdrawn place q.peer (filter (rows.leaves (is_shut least q.edge) gone) q.store.entries) other;
-        after = left_by_is capacity q.store (rows.leaves (is_shut least q.edge) gone) s;
-      }) refl refl h
-
-  ending_away : (gone : List NodeId) (flows : List FlowState) → AllAway (flat_map (rel.ended_effect gone) flows)
-  ending_away gone [] = λ place. tt
-  ending_away gone (f ∷ flows) =
-      λ place. away_both place (rel.ended_effect gone f) (flat_map (rel.ended_effect gone) flows) (one (f.active && rel.is_over gone (ends f)) place)
-      (ending_away gone flows place)
-    where
-      one : (t : Bool) → AllAway (cond t (effects.Ended (ends f) ∷ []) [])
-      one true = λ place. (Ends_flow, tt)
-      one false = λ place. tt
-
-  version_turns : (n : NodeState) (bytes : List ℕ) (t : Topology) → PlacesAre capacity n.parts.prio
-      → Turns capacity n.parts.prio (version_effects n t) (under_topology n bytes t).parts.prio
-  version_turns n bytes t h =
-      let least = weights_in t.edges in
-      let gone = removed_of (nodes_of t) t.edges in
-      let p = n.parts.prio in
-      let q = prio.closed p least gone in
-      let one = closed_turns p least gone h in
-      let two = turns_on capacity p q q (prio.closed_effects p least gone) (rel.closed_effects n.parts.rel gone) one
-      (turns_same capacity q q (rel.closed_effects n.parts.rel gone) (ending_away gone n.parts.rel.flows) refl refl one.are) in
-      turns_on capacity p p q (effects.Version t.version ∷ []) (prio.closed_effects p least gone ++ rel.closed_effects n.parts.rel gone)
-      (turns_same capacity p p (effects.Version t.version ∷ []) (λ place. (Tells_version, tt)) refl refl h) two
-
-  publish_turns : (arts : Arts) (n : NodeState) (bytes : List ℕ) → PlacesAre capacity n.parts.prio
-      → Turns capacity n.parts.prio (publish_effects arts n bytes) (after_publish arts n bytes).parts.prio
-  publish_turns arts n bytes h =
-      publishing arts n bytes (λ m told. Turns capacity n.parts.prio told m.parts.prio)
-      (turns_same capacity n.parts.prio n.parts.prio [] none_away refl refl h) (λ d reads by. version_turns n bytes d.topology h)
-
-  read_turns : (arts : Arts) (n : NodeState) (document : Option (List ℕ)) → PlacesAre capacity n.parts.prio
-      → Turns capacity n.parts.prio (document_effects arts n document) (read_by arts n document).parts.prio
-  read_turns arts n document h =
-      reading arts n document (λ m told. Turns capacity n.parts.prio told m.parts.prio)
-      (turns_same capacity n.parts.prio n.parts.prio [] none_away refl refl h) (λ bytes d is reads by. version_turns n bytes d.topology h)
-
-  -- a signature first
-  signed_turns : (p new : PrioState) (bytes : List ℕ) (es : List Effect) → PlacesAre capacity p → Turns capacity p es new
-      → Turns capacity p (effects.Signed bytes ∷ es) new
-  signed_turns p new bytes es h turns =
-      turns_on capacity p p new (effects.Signed bytes ∷ []) es (turns_same capacity p p (effects.Signed bytes ∷ []) (λ place. (Signs_it, tt)) refl refl h) turns
+use Rattle.laws_runs.proofs.StoreEffects.{Signs_it}
+use Rattle.laws_runs.proofs.StoreEffects.{away_both}
+use Rattle.laws_runs.proofs.PlaceTurns.{weight_away, none_away, small_of, greeted_turns, all_turns, carried_turns, expired_turns, taken_turns, publish_turns}
+use Rattle.laws_runs.proofs.PlaceTurns.{read_turns, signed_turns}
 
 -- ---- all cases
 
@@ -357,26 +96,29 @@ module _ (x : Setting) (arts : Arts) (fits : SettingFits arts x) (P : Kept → T
           (document_effects arts left document) one (read_turns x.store x.topology.format arts left document one.are))
       go (Some refused) e f = by n output after n [] e f (still n h)
   turned n (steps.Tick now) output after step input is h =
-      by n output after (settled_by arts (at_time n now) (due_now n) (signer_refusal n.signer))
-      (prio.expired_effects n.parts.prio (time_after n now) ++ ack_effects arts (due_now n) (signer_refusal n.signer))
-      (ap (λ (o : Output). o.effects) step.0) step.1 (go (due_now n) (signer_refusal n.signer))
+      let t = expired_turns x.store x.topology.format n.parts.prio (time_after n now) h in
+      by n output after (after_tick arts n now) (tick_effects arts n now) (ap (λ (o : Output). o.effects) step.0) step.1
+      (turns_on x.store n.parts.prio (prio.expired n.parts.prio (time_after n now)) (after_tick arts n now).parts.prio
+      (prio.expired_effects n.parts.prio (time_after n now)) _ t
+      (turns_same x.store (prio.expired n.parts.prio (time_after n now)) (after_tick arts n now).parts.prio _ signs_away
+      (ap (λ (p : PrioState). p.inbox) same) (ap (λ (p : PrioState). p.peers) same) t.are))
     where
-      go : (o : Option Ack) (r : Option SendRefused)
-          → Turns x.store n.parts.prio (prio.expired_effects n.parts.prio (time_after n now) ++ ack_effects arts o r)
-          (settled_by arts (at_time n now) o r).parts.prio
-      go None r = let t = expired_turns x.store x.topology.format n.parts.prio (time_after n now) h in
-          turns_on x.store n.parts.prio (prio.expired n.parts.prio (time_after n now)) (prio.expired n.parts.prio (time_after n now))
-          (prio.expired_effects n.parts.prio (time_after n now)) [] t
-          (turns_same x.store (prio.expired n.parts.prio (time_after n now)) (prio.expired n.parts.prio (time_after n now)) [] none_away refl refl t.are)
-      go (Some ack) (Some refusal) = let t = expired_turns x.store x.topology.format n.parts.prio (time_after n now) h in
-          turns_on x.store n.parts.prio (prio.expired n.parts.prio (time_after n now)) (prio.expired n.parts.prio (time_after n now))
-          (prio.expired_effects n.parts.prio (time_after n now)) [] t
-          (turns_same x.store (prio.expired n.parts.prio (time_after n now)) (prio.expired n.parts.prio (time_after n now)) [] none_away refl refl t.are)
-      go (Some ack) None = let t = expired_turns x.store x.topology.format n.parts.prio (time_after n now) h in
-          turns_on x.store n.parts.prio (prio.expired n.parts.prio (time_after n now)) (prio.expired n.parts.prio (time_after n now))
-          (prio.expired_effects n.parts.prio (time_after n now)) (effects.Signed (arts.spell (bodies.Ack ack)) ∷ []) t
-          (turns_same x.store (prio.expired n.parts.prio (time_after n now)) (prio.expired n.parts.prio (time_after n now))
-          (effects.Signed (arts.spell (bodies.Ack ack)) ∷ []) (λ place. (Signs_it, tt)) refl refl t.are)
+      one : (kind : FlowKind) (o : Option Ack) (r : Option SendRefused) → AllAway (ack_effects arts kind o r)
+      one kind None r = λ place. tt
+      one kind (Some ack) (Some refusal) = λ place. tt
+      one kind (Some ack) None = λ place. (Signs_it, tt)
+
+      signs_away : AllAway
+          (ack_effects arts Plain (due_now Plain n) (signer_refusal n.signer) ++ ack_effects arts Paths (due_now Paths n) (second_refusal arts n now))
+      signs_away =
+          λ place. away_both place (ack_effects arts Plain (due_now Plain n) (signer_refusal n.signer)) _
+          (one Plain (due_now Plain n) (signer_refusal n.signer) place)
+          (one Paths (due_now Paths n) (second_refusal arts n now) place)
+
+      same : (after_tick arts n now).parts.prio ≡ prio.expired n.parts.prio (time_after n now)
+      same =
+          settled_prio arts Paths (after_plain arts n now) (due_now Paths n) (second_refusal arts n now)
+          ∙ settled_prio arts Plain (at_time n now) (due_now Plain n) (signer_refusal n.signer)
   turned n (steps.SendRel dst payload) output after step input is h = go (rel_refusal n dst) (ap (λ (o : Output). o.effects) step.0) step.1
     where
       go : (r : Option SendRefused) → output.effects ≡ (refused_send r (accepted (rel_number n dst) (rel_sent arts n dst payload))).effects
@@ -413,8 +155,21 @@ module _ (x : Setting) (arts : Arts) (fits : SettingFits arts x) (P : Kept → T
           (signed_turns x.store x.topology.format n.parts.prio n.parts.prio (arts.spell (weight_body n v weight)) (weight_effects (weight_body n v weight)) h
           (turns_same x.store n.parts.prio n.parts.prio (weight_effects (weight_body n v weight)) (weight_away (weight_body n v weight)) refl refl h))
       go (Some refused) e f = by n output after n [] e f (still n h)
+  turned n (steps.SendKrel m) output after step input is h = go (send_krel_refusal n m step.choice) (ap (λ (o : Output). o.effects) step.output_is) step.new_is
+    where
+      sent : NodeState
+      sent = signed_once n (record n.parts { kflow = pushed n.parts.kflow (signed_now arts n (krel_sends n m step.choice)) m.paths })
+
+      go : (r : Option SendRefused) → output.effects ≡ (refused_send r (accepted (krel_number n m.dst) (krel_sent arts n m step.choice))).effects
+          → after ≡ kept_or r n sent → Done n output after
+      go None e f =
+          by n output after sent (krel_sent arts n m step.choice) e f
+          (turns_same x.store n.parts.prio n.parts.prio (krel_sent arts n m step.choice) (λ place. (Signs_it, tt)) refl refl h)
+      go (Some refused) e f = by n output after n [] e f (still n h)
   turned n (steps.TakeRel src) output after step input is h =
       by n output after (after_take_rel n src) [] (ap (λ (o : Output). o.effects) step.0) step.1 (still n h)
+  turned n (steps.TakeKrel src) output after step input is h =
+      by n output after (after_take_krel n src) [] (ap (λ (o : Output). o.effects) step.0) step.1 (still n h)
   turned n steps.TakePrio output after step input is h =
       by n output after (after_take_prio n) (rows.gone 0 whys.Taken (oldest n.parts.prio.inbox)) (ap (λ (o : Output). o.effects) step.0) step.1
       (taken_turns x.store x.topology.format n.parts.prio h)

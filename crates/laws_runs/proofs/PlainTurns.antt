@@ -14,7 +14,8 @@ use Rattle.laws_runs.specs.Signs.{Signs}
 use Rattle.laws_runs.proofs.Plain.{Goes, Plain, Rests, plain_turn}
 use Rattle.laws_runs.proofs.Ready.{ready_plain}
 use Rattle.laws_runs.proofs.Started.{craft_list}
-use Rattle.laws_runs.proofs.Signed.{EachFrame, moves_keep, stay_keep}
+use Rattle.laws_runs.proofs.Signed.{moves_keep, stay_keep}
+use Rattle.laws_runs.proofs.SignedEvents.{EachFrame}
 
 -- a turn is a move in the world as it is, or the crafting signer is spent
 pub moves_or_rests : (arts : Arts) (x : Setting) (old new : World) (e : Event) (j : Entry) → x.epochs ≡ false → Turn arts x old e j new

@@ -119,6 +119,8 @@ one_more capacity p es st (effects.DeliveredPrio src seq payload) fresh h = quie
 one_more capacity p es st (effects.WeightHeld origin edge seq weight) fresh h = quiet p es st (effects.WeightHeld origin edge seq weight) refl (λ id. refl) h
 one_more capacity p es st (effects.Version version) fresh h = quiet p es st (effects.Version version) refl (λ id. refl) h
 one_more capacity p es st (effects.Ended flow) fresh h = quiet p es st (effects.Ended flow) refl (λ id. refl) h
+one_more capacity p es st (effects.DeliveredKrel src seq payload) fresh h = quiet p es st (effects.DeliveredKrel src seq payload) refl (λ id. refl) h
+one_more capacity p es st (effects.Kended flow) fresh h = quiet p es st (effects.Kended flow) refl (λ id. refl) h
 one_more capacity p es st (effects.Stored place id src seq prio) fresh h = elim (cases_Bool (place == p)) [
   | inl t ↦
       rw t (stored p es st (effects.Stored place id src seq prio) (record { id = id; src = src.0; seq = seq; prio = prio }) (rw t refl) (λ i. refl)

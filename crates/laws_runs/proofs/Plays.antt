@@ -21,9 +21,10 @@ use Rattle.sp_schedule_events.specs.declared.event.Event.TheVariants as events
 use Rattle.laws_runs.specs.Story.{Played, after, after_input, after_words, at_acting, one_more, output_of, play_on}
 use Rattle.laws_runs.proofs.PlainTurns.{clean_on}
 
--- no priority message is sent
+-- no message is sent that chooses its edges
 abbrev IsPlain : Input → Type 0
 IsPlain (steps.SendPrio m) = ⊥
+IsPlain (steps.SendKrel m) = ⊥
 IsPlain _ = Unit {0}
 
 plain_step : (n : NodeState) (i : Input) → IsPlain i → NodeStep toys n i (output_of n i) (after n i)
@@ -34,6 +35,8 @@ plain_step n (steps.SendRel dst payload) plain = (refl, refl)
 plain_step n (steps.SendPrio m) plain = absurd plain
 plain_step n (steps.SetWeight v weight) plain = (refl, refl)
 plain_step n (steps.TakeRel src) plain = (refl, refl)
+plain_step n (steps.SendKrel m) plain = absurd plain
+plain_step n (steps.TakeKrel src) plain = (refl, refl)
 plain_step n steps.TakePrio plain = (refl, refl)
 plain_step n (steps.Publish document) plain = (refl, refl)
 
@@ -72,9 +75,10 @@ module _ (x : Setting) (off : x.epochs ≡ false) (p : Played) (e : Event) (h : 
   of_node plain None there on = absurd (let wrong : false ≡ true = on in cc)
   of_node plain (Some n) there on = of_input n there (plain n) _ refl on
 
--- an event that sends no priority message gives no such input
+-- an event that sends no message that chooses its edges gives no such input
 abbrev IsNoPrio : Event → Type 0
 IsNoPrio (events.Prio s d prio expiry paths payload) = ⊥
+IsNoPrio (events.Krel s d paths payload) = ⊥
 IsNoPrio _ = Unit {0}
 
 from_frame : (take : List ℕ → Input) → ((bytes : List ℕ) → IsPlain (take bytes)) → (o : Option (List ℕ)) (i : Input) → option_map take o ≡ Some i → IsPlain i
@@ -86,8 +90,10 @@ just j i plain is = let same : j ≡ i = cc in subst IsPlain same plain
 
 plain_input : (x : Setting) (es : List Event) (w : World) (n : NodeState) (e : Event) (i : Input) → IsNoPrio e → input_of toys x w n e ≡ Some i → IsPlain i
 plain_input x es w n (events.Rel a b c) i none is = just _ i tt is
+plain_input x es w n (events.Krel a b count c) i none is = absurd none
 plain_input x es w n (events.Prio a b c d f g) i none is = absurd none
 plain_input x es w n (events.Take a b) i none is = just _ i tt is
+plain_input x es w n (events.KTake a b) i none is = just _ i tt is
 plain_input x es w n (events.TakePrio a) i none is = just _ i tt is
 plain_input x es w n (events.Tick a b) i none is = just _ i tt is
 plain_input x es w n (events.Weight a b c) i none is = just _ i tt is
@@ -114,7 +120,7 @@ plain_input x es w n (events.CraftStatus a b c d f g) i none is = just _ i tt is
 plain_input x es w n (events.Start a) i none is = absurd cc
 plain_input x es w n (events.Stop a) i none is = absurd cc
 
--- each event is in its range after those before it, and sends no priority message
+-- each event is in its range after those before it, and sends no message that chooses its edges
 abbrev pub AreInRange : Setting → List Event → List Event → Type 0
 AreInRange x before [] = Unit {0}
 AreInRange x before (e ∷ es) = InRange x before e × IsNoPrio e × AreInRange x (before ++ e ∷ []) es

@@ -7,6 +7,7 @@ use Rattle.std.proofs.lemmas.Bool.{cases_Bool, cases_eq, eq-eqb, eqb-true}
 use Rattle.std.proofs.lemmas.List.{get_or-set_other, get_or-set_same}
 use Rattle.std.proofs.lemmas.List.Concat.{flat_map-append}
 use Rattle.std.proofs.lemmas.List.Quantifiers.{all_pairs_push}
+use Rattle.sp_base.specs.declared.id.Flow.{Flow}
 use Rattle.sp_base.specs.declared.id.NodeId.{NodeId}
 use Rattle.sp_msg.specs.declared.body.Body.{Body}
 use Rattle.sp_msg.specs.declared.body.Body.TheVariants as bodies
@@ -16,18 +17,19 @@ use Rattle.sp_msg.specs.declared.effect.Why.{Why}
 use Rattle.sp_msg.specs.declared.effect.Why.TheVariants.{Acked, Evicted, Expired, Withdrawn}
 use Rattle.sp_msg.specs.declared.kept.Kept.{Kept}
 use Rattle.sp_rules.specs.Documents.{version_effects}
-use Rattle.sp_rules.specs.Handle.{weight_effects}
+use Rattle.sp_rules.specs.Handle.{met_effects, weight_effects}
 use Rattle.sp_rules.specs.Node.{NodeState}
-use Rattle.sp_rules.specs.Parts.{nodes_of}
+use Rattle.sp_rules.specs.Parts.{Parts, nodes_of}
 use Rattle.sp_rules.specs.Rel as rel
 use Rattle.sp_rules.specs.Topologies.{is_shut, removed_of, weights_in}
 use Rattle.sp_topology.specs.declared.topology.Topology.{Topology}
 use Rattle.sp_rules.specs.Prio as prio
-use Rattle.sp_rules.specs.Prio.{PrioState, admit_prio, acked_effects, is_here, is_node, judge_prio, marked, place_of, prio_effects, renewed, spread}
-use Rattle.sp_rules.specs.Prio.{window_at, window_in, windows_with}
+use Rattle.sp_rules.specs.Prio.{PrioState, acked_effects, is_here, is_node, place_of, prio_effects, renewed, spread, window_at, window_in, windows_with}
 use Rattle.sp_rules.specs.PrioPeer as rows
 use Rattle.sp_rules.specs.PrioPeer.{PrioPeer}
-use Rattle.sp_rules.specs.Rel.{delivery, ended_by, is_end}
+use Rattle.sp_rules.specs.Rel.{delivery, ended_by, ending, is_end, restart_effects}
+use Rattle.sp_rules.specs.declared.kflow.FlowKind.{FlowKind}
+use Rattle.sp_rules.specs.declared.kflow.FlowKind.TheVariants.{Plain, Paths}
 use Rattle.sp_rules.specs.Flow.{FlowState, ends}
 use Rattle.sp_rules.specs.Store.{Store, entry_in, expired_entries, removed}
 use Rattle.sp_rules.specs.Window.{is_in, is_seen, with_mark}
@@ -37,6 +39,7 @@ use Rattle.laws_node.proofs.WindowMarks.{marked_is_seen, seen_stays}
 use Rattle.laws_node.proofs.WindowPlaces.{has_place, less_there, long_less, long_with}
 use Rattle.sp_runs.specs.Told.{Message, prio_by}
 use Rattle.laws_runs.specs.Priority.{AreOnce}
+use Rattle.laws_runs.proofs.EachKind.{of_delivery, of_ending}
 
 -- ---- effects without a priority delivery
 
@@ -107,29 +110,40 @@ mute_expired p now =
     mute_append (rows.expired_effects 0 p.inbox now) _ (mute_leaving Expired 0 (expired_entries p.inbox now))
     (mute_flat (λ (q : PrioPeer). rows.expired_effects q.peer q.store now) (λ q. mute_leaving Expired q.peer (expired_entries q.store now)) p.peers)
 
-mute_over : (t : Bool) (f : FlowState) → Mute (cond t (effects.Ended (ends f) ∷ []) [])
-mute_over true f = record { none = λ s. refl }
-mute_over false f = mute_none
+mute_over : (t : Bool) (kind : FlowKind) (flow : Flow) → Mute (cond t (ending kind flow ∷ []) [])
+mute_over true kind flow = of_ending (λ e. Mute (e ∷ [])) kind flow (record { none = λ s. refl }) (record { none = λ s. refl })
+mute_over false kind flow = mute_none
+
+mute_ends : (kind : FlowKind) (gone : List NodeId) (r : rel.RelState) → Mute (rel.closed_effects kind r gone)
+mute_ends kind gone r = mute_flat (rel.ended_effect kind gone) (λ f. mute_over (f.active && rel.is_over gone (ends f)) kind (ends f)) r.flows
 
 -- another version of the topology
 pub mute_version : (n : NodeState) (t : Topology) → Mute (version_effects n t)
 mute_version n t =
     let least = weights_in t.edges in
     let gone = removed_of (nodes_of t) t.edges in
+    let plain = rel.closed_effects Plain n.parts.rel gone in
+    let paths = rel.closed_effects Paths n.parts.kflow.flows gone in
     let h =
-    mute_append (prio.closed_effects n.parts.prio least gone) (rel.closed_effects n.parts.rel gone)
+    mute_append (prio.closed_effects n.parts.prio least gone) (plain ++ paths)
     (mute_flat (rows.closed_effects least gone) (λ q. mute_leaving Withdrawn q.peer (filter (rows.leaves (is_shut least q.edge) gone) q.store.entries))
     n.parts.prio.peers)
-    (mute_flat (rel.ended_effect gone) (λ f. mute_over (f.active && rel.is_over gone (ends f)) f) n.parts.rel.flows) in
+    (mute_append plain paths (mute_ends Plain gone n.parts.rel) (mute_ends Paths gone n.parts.kflow.flows)) in
     record { none = λ s. h.none s }
 
 pub mute_rel : (t : Bool) (body : Body) → Mute (cond t (delivery body ∷ []) [])
-mute_rel true body = record { none = λ s. refl }
+mute_rel true body =
+    of_delivery (λ e. Mute (e ∷ [])) (λ src seq payload. record { none = λ s. refl }) (λ src seq payload. record { none = λ s. refl }) body
 mute_rel false body = mute_none
 
-pub mute_restart : (v : NodeId) (fs : List FlowState) → Mute (flat_map (ended_by v) fs)
-mute_restart v fs = mute_flat (ended_by v)
-    (λ f. mute_either (is_end v (ends f) && f.active) (effects.Ended (ends f) ∷ []) [] (record { none = λ s. refl }) mute_none) fs
+mute_restart : (kind : FlowKind) (v : NodeId) (fs : List FlowState) → Mute (flat_map (ended_by kind v) fs)
+mute_restart kind v fs = mute_flat (ended_by kind v) (λ f. mute_over (is_end v (ends f) && f.active) kind (ends f)) fs
+
+-- flows of both kinds
+pub mute_met : (p : Parts) (v : NodeId) → Mute (met_effects p v)
+mute_met p v =
+    mute_append (restart_effects Plain p.rel v) (restart_effects Paths p.kflow.flows v) (mute_restart Plain v p.rel.flows)
+    (mute_restart Paths v p.kflow.flows.flows)
 
 -- an own message for another node is delivered to none
 pub mute_own : (p : PrioState) (o : Kept) → is_here p o.body ≡ false → Mute (prio_effects p o None)

@@ -18,7 +18,7 @@ use Rattle.sp_rules.specs.Node.{NodeState}
 use Rattle.sp_rules.specs.Parts.{Fixed, Parts}
 use Rattle.sp_rules.specs.Sends.{PrioSend, send_prio_refusal}
 use Rattle.sp_rules.specs.Steps as steps
-use Rattle.sp_rules.specs.Steps.{Input, NodeStep, Output}
+use Rattle.sp_rules.specs.Steps.{Input, NodeStep}
 use Rattle.laws_node.specs.Inputs.{InputFits}
 use Rattle.laws_node.proofs.Epochs.{own_boot_stays}
 use Rattle.laws_node.proofs.Spellings.{no_other_is_spelled_so}
@@ -41,15 +41,15 @@ use Rattle.laws_runs.specs.Signs.{Good, Known, NodeIs, Signs}
 use Rattle.laws_runs.proofs.FlowFacts.{flow_of}
 use Rattle.laws_runs.proofs.Flows.{came_bytes, crafted_bytes, new_both}
 use Rattle.laws_runs.proofs.Goods.{new_known}
-use Rattle.laws_runs.proofs.Lists.{among_cons, among_or, told_more}
+use Rattle.laws_runs.proofs.Lists.{among_or, told_more}
 use Rattle.laws_runs.proofs.Lives.{step_stays}
 use Rattle.laws_runs.proofs.PastFacts.{holds_no_other, holds_own, past_more, same_boots}
 use Rattle.laws_runs.proofs.PrioFacts.{PrioIs, prio_numbers}
 use Rattle.laws_runs.proofs.PrioPieces.{Next_life, PrioCame, PrioEnds, Same_life, VouchedPrio}
 use Rattle.laws_runs.proofs.PrioSteps.{accepted_is, prio_is_sent, step_came}
 use Rattle.laws_runs.proofs.Ready.{ready_boots, readied_parts, was_there}
-use Rattle.laws_runs.proofs.Signed.{new_have}
-use Rattle.laws_runs.proofs.StepSigns.{IsAskedBy, Signs_none, Signs_one, StepSigns, step_signs}
+use Rattle.laws_runs.proofs.SignedEvents.{new_have}
+use Rattle.laws_runs.proofs.StepSigns.{IsAskedBy, StepSigns, step_signs, which_signed}
 use Rattle.laws_runs.proofs.Tables.{node_is, node_put, same_node}
 
 -- ---- the invariant
@@ -103,7 +103,10 @@ sends_prio : (arts : Arts) (x : Setting) (w : World) (n : NodeState) (e : Event)
     → IsAskedBy i (bodies.Prio b) → SendsPrio e i
 sends_prio arts x w n (events.Prio u to a c p payload) i b reaches kind = It_sends u to a c p payload refl cc
 sends_prio arts x w n (events.Rel u to payload) i b reaches kind = absurd (asked i (steps.SendRel to payload) b (cc) kind)
+sends_prio arts x w n (events.Krel u to paths payload) i b reaches kind =
+    absurd (asked i (steps.SendKrel (record { dst = to; paths = paths; payload = payload })) b (cc) kind)
 sends_prio arts x w n (events.Take v u) i b reaches kind = absurd (asked i (steps.TakeRel u) b (cc) kind)
+sends_prio arts x w n (events.KTake v u) i b reaches kind = absurd (asked i (steps.TakeKrel u) b (cc) kind)
 sends_prio arts x w n (events.TakePrio v) i b reaches kind = absurd (asked i steps.TakePrio b (cc) kind)
 sends_prio arts x w n (events.Tick u now) i b reaches kind = absurd (asked i (steps.Tick now) b (cc) kind)
 sends_prio arts x w n (events.Weight u v weight) i b reaches kind = absurd (asked i (steps.SetWeight v weight) b (cc) kind)
@@ -289,14 +292,10 @@ module _ (arts : Arts) (x : Setting) (s d : NodeId) (fits : SettingFits arts x) 
           (done.0, subst (λ (ms : List Message). Contains ms (c.seq, c.payload)) (sym (here ∙ told)) done.1)
 
       go : StepSigns arts m.input m.output.effects → (a ≡ c.sboot) × Contains T (c.seq, c.payload)
-      go (Signs_none none) = absurd (let f : false ≡ true = rw none at among in cc)
-      go (Signs_one body kind right one) =
-          elim (among_cons (arts.spell (bodies.Prio c)) (arts.spell body) [] (subst (λ xs. is_among (arts.spell (bodies.Prio c)) xs ≡ true) one among)) [
-            | inl same ↦
-                let body_is : body ≡ bodies.Prio c = no_other_is_spelled_so arts carries.bodies body (bodies.Prio c) right good same in
-                send (sends_prio arts x w m.node e m.input c m.reaches (subst (IsAskedBy m.input) body_is kind))
-            | inr f ↦ absurd (let g : false ≡ true = f in cc)
-          ]
+      go s =
+          let it = which_signed arts m.input m.output.effects (arts.spell (bodies.Prio c)) s among in
+          let body_is : it.body ≡ bodies.Prio c = no_other_is_spelled_so arts carries.bodies it.body (bodies.Prio c) it.said.good good it.is in
+          send (sends_prio arts x w m.node e m.input c m.reaches (subst (IsAskedBy m.input) body_is it.said.asked))
 
   signed_is : (bytes : List ℕ) → is_among bytes (signed (es ++ e ∷ []) (js ++ j ∷ []) s) ≡ true
       → (is_among bytes (signed es js s) ≡ true) ⊎ ((u ≡ s) × (is_among bytes (flat_map signed_by m.output.effects) ≡ true))

@@ -13,17 +13,17 @@ use Rattle.sp_msg.specs.declared.body.Body.TheVariants as bodies
 use Rattle.sp_msg.specs.declared.body.Prio.{Prio}
 use Rattle.sp_msg.specs.declared.effect.Effect.{Effect}
 use Rattle.sp_msg.specs.declared.kept.Kept.{Kept}
-use Rattle.sp_rules.specs.Answers.{ack_answer, epoch_answer, is_new, prio_answer, rel_answer, weight_answer}
+use Rattle.sp_rules.specs.Answers.{ack_answer, epoch_answer, is_new, prio_answer, weight_answer}
 use Rattle.sp_rules.specs.Arts.{Arts}
-use Rattle.sp_rules.specs.Handle.{Arrival, handle, handle_all, heard_where, met, offer_to, weight_effects}
+use Rattle.sp_rules.specs.Handle.{Arrival, ack_item, handle, handle_all, heard_where, met, met_effects, offer_to, rel_answer_to, rel_item, weight_effects}
 use Rattle.sp_rules.specs.Lives.{are_held, held_boot, is_dated, judge_epoch, origin_said}
-use Rattle.sp_rules.specs.Parts.{Parts, is_signed}
+use Rattle.sp_rules.specs.Parts.{Parts, flows_of, is_signed, with_flows}
 use Rattle.sp_rules.specs.Pieces.{Piece, WeightPiece, PrioAckPiece, PrioPiece, ReportPiece, AckPiece, RelPiece, EpochPiece}
 use Rattle.sp_rules.specs.Prio as prio
 use Rattle.sp_rules.specs.Prio.{PrioState, admit_prio, acked_effects, is_here, is_node, judge_prio, marked, place_of, prio_effects, window_in, windows_with}
 use Rattle.sp_rules.specs.Prio.{is_there}
 use Rattle.sp_rules.specs.PrioPeer as rows
-use Rattle.sp_rules.specs.Rel.{admit_ack, admit_rel, is_to, judge_ack_of, judge_rel_of, rel_effects, reported, restart_effects}
+use Rattle.sp_rules.specs.Rel.{RelState, admit_ack, admit_rel, is_to, judge_ack_of, judge_rel_of, rel_effects, reported}
 use Rattle.sp_rules.specs.Flow.{flow_said}
 use Rattle.sp_rules.specs.Store.{said}
 use Rattle.sp_rules.specs.Weights.{held}
@@ -32,17 +32,19 @@ use Rattle.sp_rules.specs.declared.answers.Item.{Item}
 use Rattle.sp_rules.specs.declared.answers.Item.TheVariants as items
 use Rattle.sp_rules.specs.declared.answers.PrioAnswer.{PrioAnswer}
 use Rattle.sp_rules.specs.declared.answers.PrioAnswer.TheVariants as prios
+use Rattle.sp_rules.specs.declared.kflow.FlowKind.{FlowKind}
 use Rattle.sp_rules.specs.declared.lives.Life.{Life}
 use Rattle.sp_rules.specs.declared.prio.PrioJudged.{PrioJudged}
 use Rattle.sp_rules.specs.declared.prio.PrioJudged.TheVariants as judgements
 use Rattle.laws_node.specs.Asked.{NewKeep}
 use Rattle.laws_node.proofs.AskedLemmas.{new_left, new_right}
+use Rattle.laws_node.proofs.FlowKinds.{prio_beside}
 use Rattle.laws_node.proofs.Handles as judged
 use Rattle.laws_node.proofs.Tables.{cond_either}
 use Rattle.sp_runs.specs.Told.{Message, prio_by}
 use Rattle.laws_runs.specs.Priority.{AreOnce}
 use Rattle.laws_runs.proofs.NoStarts.{NoStart}
-use Rattle.laws_runs.proofs.PrioFacts.{Mute, PrioIs, begun, marks, marks_told, mute_acked, mute_given, mute_none, mute_put, mute_rel, mute_restart}
+use Rattle.laws_runs.proofs.PrioFacts.{Mute, PrioIs, begun, marks, marks_told, mute_acked, mute_given, mute_met, mute_none, mute_put, mute_rel}
 use Rattle.laws_runs.proofs.PrioFacts.{mute_weight, other_begun, prio_numbers, same_windows, spread_same}
 use Rattle.laws_runs.proofs.StartPieces.{StartLast, same_lives, start_follows}
 use Rattle.laws_runs.proofs.Tables.{same_node}
@@ -191,6 +193,11 @@ module _ (C : Type 0) (s d : NodeId) (boot : ℕ) (S : List Message) where
       let names : b.sboot ≡ held_boot lives b.src = eqb-true b.sboot (held_boot lives b.src) (subst (λ (y : Body). is_dated lives y ≡ true) is dated) in
       names ∙ ap (held_boot lives) src ∙ holding
 
+  -- where flows change beside it
+  beside : (told : List ℕ) (kind : FlowKind) (r : RelState) (p : Parts) (es : List Effect) → PrioDone C s d S told p.prio es
+      → PrioDone C s d S told (with_flows kind r p).prio es
+  beside told kind r p es done = subst (λ (q : PrioState). PrioDone C s d S told q es) (sym (prio_beside kind r p)) done
+
   one_handled : (told : List ℕ) (arts : Arts) (at : Arrival) (p : Parts) (piece : Piece) → NoStart piece → held_boot p.lives s ≡ boot
       → NewKeep (VouchedPrio C s d boot S) (handle arts at p piece).answered → PrioIs s d told p.prio
       → PrioDone C s d S told (handle arts at p piece).parts.prio (handle arts at p piece).effects
@@ -213,19 +220,22 @@ module _ (C : Type 0) (s d : NodeId) (boot : ℕ) (S : List Message) where
       let right = judged.new_prio (is_signed arts at.fixed o) (is_dated p.lives o.body) (judge_prio p.prio o.body at.now) t in
       admitted told p.prio o (Some at.from) (new_prio p.prio o.body at.now right.1) (names_held p.lives o right.2 holding) (new.0 t) h)
       (muted told p.prio [] mute_none h))
-  one_handled told arts at p (ReportPiece flow sboot dboot base have) none holding new h =
+  one_handled told arts at p (ReportPiece kind flow sboot dboot base have) none holding new h =
+      let r = reported (flows_of kind p) at.from flow base have in
       let same = muted told p.prio [] mute_none h in
-      cond_either (λ (q : Parts). PrioDone C s d S told q.prio []) (are_held p.lives flow sboot dboot)
-      (record p { rel = reported p.rel at.from flow base have }) p
-      same same
-  one_handled told arts at p (AckPiece flow o) none holding new h =
-      chosen told (items.Ack (ack_answer (is_signed arts at.fixed o) (is_dated p.lives o.body) (judge_ack_of p.rel flow o.body)))
-      (record p { rel = admit_ack p.rel o }) p []
-      (λ t. muted told p.prio [] mute_none h) (muted told p.prio [] mute_none h)
-  one_handled told arts at p (RelPiece flow o) none holding new h =
-      chosen told (items.Rel (rel_answer (is_signed arts at.fixed o) (is_dated p.lives o.body) (judge_rel_of p.rel flow o.body)))
-      (record p { rel = admit_rel p.rel o }) p (rel_effects p.rel o)
-      (λ t. muted told p.prio (rel_effects p.rel o) (mute_rel (is_to p.rel (flow_said o.body)) o.body) h) (muted told p.prio [] mute_none h)
+      cond_either (λ (q : Parts). PrioDone C s d S told q.prio []) (are_held p.lives flow sboot dboot) (with_flows kind r p) p
+      (beside told kind r p [] same) same
+  one_handled told arts at p (AckPiece kind flow o) none holding new h =
+      let r = flows_of kind p in
+      chosen told (ack_item kind (ack_answer (is_signed arts at.fixed o) (is_dated p.lives o.body) (judge_ack_of r flow o.body)))
+      (with_flows kind (admit_ack r o) p) p []
+      (λ t. beside told kind (admit_ack r o) p [] (muted told p.prio [] mute_none h)) (muted told p.prio [] mute_none h)
+  one_handled told arts at p (RelPiece kind flow o) none holding new h =
+      let r = flows_of kind p in
+      chosen told (rel_item kind (rel_answer_to arts at p (judge_rel_of r flow o.body) o))
+      (with_flows kind (admit_rel r o) p) p (rel_effects r o)
+      (λ t. beside told kind (admit_rel r o) p (rel_effects r o) (muted told p.prio (rel_effects r o) (mute_rel (is_to r (flow_said o.body)) o.body) h))
+      (muted told p.prio [] mute_none h)
   one_handled told arts at p (EpochPiece o) none holding new h = absurd none
 
   -- ---- what says of a start
@@ -262,7 +272,7 @@ module _ (C : Type 0) (s d : NodeId) (boot : ℕ) (S : List Message) where
                   Next_life above (begun s d v told p.prio h)
               | inr other ↦ Same_life (after.others s other ∙ holding) (other_begun s d v told p.prio (λ same. other (sym same)) h)
             ] in
-            let done = came_muted told (met p o).lives (met p o).prio (restart_effects p.rel v) (mute_restart v p.rel.flows) h.once ends in
+            let done = came_muted told (met p o).lives (met p o).prio (met_effects p v) (mute_met p v) h.once ends in
             rw t done
         | inr t ↦ let done = came_muted told p.lives p.prio [] mute_none h.once (Same_life holding h) in rw t done
       ]
@@ -281,10 +291,10 @@ module _ (C : Type 0) (s d : NodeId) (boot : ℕ) (S : List Message) where
   any_came told arts at p (WeightPiece o) holding new h = plain_came told arts at p (WeightPiece o) tt holding new h
   any_came told arts at p (PrioAckPiece number) holding new h = plain_came told arts at p (PrioAckPiece number) tt holding new h
   any_came told arts at p (PrioPiece number o) holding new h = plain_came told arts at p (PrioPiece number o) tt holding new h
-  any_came told arts at p (ReportPiece flow sboot dboot base have) holding new h = plain_came told arts at p
-      (ReportPiece flow sboot dboot base have) tt holding new h
-  any_came told arts at p (AckPiece flow o) holding new h = plain_came told arts at p (AckPiece flow o) tt holding new h
-  any_came told arts at p (RelPiece flow o) holding new h = plain_came told arts at p (RelPiece flow o) tt holding new h
+  any_came told arts at p (ReportPiece kind flow sboot dboot base have) holding new h =
+      plain_came told arts at p (ReportPiece kind flow sboot dboot base have) tt holding new h
+  any_came told arts at p (AckPiece kind flow o) holding new h = plain_came told arts at p (AckPiece kind flow o) tt holding new h
+  any_came told arts at p (RelPiece kind flow o) holding new h = plain_came told arts at p (RelPiece kind flow o) tt holding new h
 
   -- ---- all pieces
 

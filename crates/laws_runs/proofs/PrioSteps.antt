@@ -12,7 +12,6 @@ use Rattle.sp_msg.specs.declared.body.Body.{Body}
 use Rattle.sp_msg.specs.declared.body.Body.TheVariants as bodies
 use Rattle.sp_msg.specs.declared.body.Prio.{Prio}
 use Rattle.sp_msg.specs.declared.effect.Effect.{Effect}
-use Rattle.sp_msg.specs.declared.effect.Effect.TheVariants.{Signed}
 use Rattle.sp_msg.specs.declared.effect.Why.TheVariants.{Taken}
 use Rattle.sp_msg.specs.declared.kept.Kept.{Kept}
 use Rattle.sp_msg.specs.declared.refused.SendRefused.{SendRefused}
@@ -23,6 +22,8 @@ use Rattle.sp_rules.specs.Arts.{Arts}
 use Rattle.sp_rules.specs.Documents.{publish_effects, under_topology, version_effects}
 use Rattle.sp_rules.specs.Handle.{weight_effects}
 use Rattle.sp_topology.specs.declared.topology.Topology.{Topology}
+use Rattle.sp_rules.specs.Kflow.{ack_body, pushed}
+use Rattle.sp_rules.specs.KflowSends.{krel_number, krel_sends, krel_sent, send_krel_refusal}
 use Rattle.sp_rules.specs.Lives.{held_boot}
 use Rattle.sp_rules.specs.Link.{advanced}
 use Rattle.sp_rules.specs.Masks.{Choice}
@@ -30,7 +31,7 @@ use Rattle.sp_rules.specs.Node.{NodeState, call_refusal, called, kept_or, link_i
 use Rattle.sp_rules.specs.Parts.{Fixed, Parts}
 use Rattle.sp_rules.specs.Polls.{frame_to, polled, is_served, parts_after}
 use Rattle.sp_rules.specs.Prio as prio
-use Rattle.sp_rules.specs.Prio.{admit_prio, expired_effects, is_here, marked, prio_effects}
+use Rattle.sp_rules.specs.Prio.{PrioState, admit_prio, expired_effects, is_here, marked, prio_effects}
 use Rattle.sp_rules.specs.PrioPeer.{gone}
 use Rattle.sp_rules.specs.Rel.{pushed_in}
 use Rattle.sp_rules.specs.Sends.{PrioSend, is_unmet, mask_in, no_paths, own_prio, prio_body, prio_refusal, prio_sent as prio_told, rel_body, rel_number}
@@ -38,8 +39,10 @@ use Rattle.sp_rules.specs.Sends.{rel_refusal, rel_sent, send_prio_refusal, signe
 use Rattle.sp_rules.specs.Steps as steps
 use Rattle.sp_rules.specs.Steps.{Input, NodeStep, Output, accepted, arrived, refused_call, refused_send, replied, document_effects}
 use Rattle.sp_rules.specs.Store.{oldest, said}
-use Rattle.sp_rules.specs.Ticks.{ack_effects, at_time, due_now, settled_by, time_after}
+use Rattle.sp_rules.specs.Ticks.{ack_effects, after_plain, after_tick, at_time, due_now, second_refusal, tick_effects, time_after}
 use Rattle.sp_rules.specs.Weights.{held}
+use Rattle.sp_rules.specs.declared.kflow.FlowKind.{FlowKind}
+use Rattle.sp_rules.specs.declared.kflow.FlowKind.TheVariants.{Plain, Paths}
 use Rattle.sp_rules.specs.declared.lives.Life.{Life}
 use Rattle.sp_rules.specs.declared.node.NodeRefused.{NodeRefused}
 use Rattle.laws_node.specs.Asked.{NewKeep}
@@ -59,6 +62,7 @@ use Rattle.sp_journal.specs.declared.entry.Reply.{Reply}
 use Rattle.sp_journal.specs.declared.entry.Reply.TheVariants as replies
 use Rattle.sp_schedule_events.specs.declared.event.Event.TheVariants as events
 use Rattle.laws_runs.specs.Signs.{NodeIs, sizes_at}
+use Rattle.laws_runs.proofs.EachKind.{settled_lives, settled_prio}
 use Rattle.laws_runs.proofs.Goods.{arts_fit}
 use Rattle.laws_runs.proofs.Lists.{among_cons}
 use Rattle.laws_runs.proofs.NoStarts.{pieces_at}
@@ -110,24 +114,27 @@ calm_step arts n (steps.Poll v) output after is step = go (call_refusal n v) (ap
         (record { mute = mute_none; lives = refl; me = refl; nodes = refl; windows = refl }))
     go (Some refused) e f = calm_as n n after [] output.effects e f (calm_none n)
 calm_step arts n (steps.Tick now) output after is step =
-    calm_as n (settled_by arts (at_time n now) (due_now n) (signer_refusal n.signer)) after
-    (expired_effects n.parts.prio (time_after n now) ++ ack_effects arts (due_now n) (signer_refusal n.signer)) output.effects
-    (ap (λ (o : Output). o.effects) step.0) step.1 (go (due_now n) (signer_refusal n.signer))
+    calm_as n (after_tick arts n now) after (tick_effects arts n now) output.effects (ap (λ (o : Output). o.effects) step.0) step.1 (record {
+      mute = mute_append (expired_effects n.parts.prio (time_after n now)) _ (mute_expired n.parts.prio (time_after n now))
+          (mute_append (ack_effects arts Plain (due_now Plain n) (signer_refusal n.signer))
+          (ack_effects arts Paths (due_now Paths n) (second_refusal arts n now))
+          (one Plain (due_now Plain n) (signer_refusal n.signer)) (one Paths (due_now Paths n) (second_refusal arts n now)));
+      lives = settled_lives arts Paths (after_plain arts n now) (due_now Paths n) (second_refusal arts n now)
+          ∙ settled_lives arts Plain (at_time n now) (due_now Plain n) (signer_refusal n.signer);
+      me = ap (λ (p : PrioState). p.me) same;
+      nodes = ap (λ (p : PrioState). p.nodes) same;
+      windows = ap (λ (p : PrioState). p.windows) same;
+    })
   where
-    mute : (es : List Effect) → Mute es → Mute (expired_effects n.parts.prio (time_after n now) ++ es)
-    mute es others = mute_append (expired_effects n.parts.prio (time_after n now)) es (mute_expired n.parts.prio (time_after n now)) others
+    one : (kind : FlowKind) (o : Option Ack) (r : Option SendRefused) → Mute (ack_effects arts kind o r)
+    one kind None r = mute_none
+    one kind (Some ack) (Some refusal) = mute_none
+    one kind (Some ack) None = mute_signed (arts.spell (ack_body kind ack)) [] mute_none
 
-    go : (o : Option Ack) (r : Option SendRefused)
-        → Calm n (settled_by arts (at_time n now) o r) (expired_effects n.parts.prio (time_after n now) ++ ack_effects arts o r)
-    go None r = record { mute = mute [] mute_none; lives = refl; me = refl; nodes = refl; windows = refl }
-    go (Some ack) (Some refusal) = record { mute = mute [] mute_none; lives = refl; me = refl; nodes = refl; windows = refl }
-    go (Some ack) None = record {
-      mute = mute (Signed (arts.spell (bodies.Ack ack)) ∷ []) (mute_signed (arts.spell (bodies.Ack ack)) [] mute_none);
-      lives = refl;
-      me = refl;
-      nodes = refl;
-      windows = refl;
-    }
+    same : (after_tick arts n now).parts.prio ≡ prio.expired n.parts.prio (time_after n now)
+    same =
+        settled_prio arts Paths (after_plain arts n now) (due_now Paths n) (second_refusal arts n now)
+        ∙ settled_prio arts Plain (at_time n now) (due_now Plain n) (signer_refusal n.signer)
 calm_step arts n (steps.SendRel dst payload) output after is step = go (rel_refusal n dst) (ap (λ (o : Output). o.effects) step.0) step.1
   where
     go : (r : Option SendRefused) → output.effects ≡ (refused_send r (accepted (rel_number n dst) (rel_sent arts n dst payload))).effects
@@ -157,6 +164,20 @@ calm_step arts n (steps.SetWeight v weight) output after is step = go (weight_re
           windows = refl;
         })
     go (Some refused) e f = calm_as n n after [] output.effects e f (calm_none n)
+calm_step arts n (steps.SendKrel m) output after is step = go (send_krel_refusal n m step.choice) (ap (λ (o : Output). o.effects) step.output_is) step.new_is
+  where
+    sent : NodeState
+    sent = signed_once n (record n.parts { kflow = pushed n.parts.kflow (signed_now arts n (krel_sends n m step.choice)) m.paths })
+
+    go : (r : Option SendRefused) → output.effects ≡ (refused_send r (accepted (krel_number n m.dst) (krel_sent arts n m step.choice))).effects
+        → after ≡ kept_or r n sent → Calm n after output.effects
+    go None e f =
+        calm_as n sent after (krel_sent arts n m step.choice) output.effects e f
+        (record { mute = mute_signed (arts.spell (krel_sends n m step.choice)) [] mute_none; lives = refl; me = refl; nodes = refl; windows = refl })
+    go (Some refused) e f = calm_as n n after [] output.effects e f (calm_none n)
+calm_step arts n (steps.TakeKrel src) output after is step =
+    calm_as n _ after [] output.effects (ap (λ (o : Output). o.effects) step.0) step.1
+    (record { mute = mute_none; lives = refl; me = refl; nodes = refl; windows = refl })
 calm_step arts n (steps.TakeRel src) output after is step =
     calm_as n _ after [] output.effects (ap (λ (o : Output). o.effects) step.0) step.1
     (record { mute = mute_none; lives = refl; me = refl; nodes = refl; windows = refl })
@@ -276,6 +297,8 @@ module _ (C : Type 0) (s d : NodeId) (boot : ℕ) (S : List Message) (told : Lis
   step_came (steps.SendRel dst payload) step new me = calm_came (steps.SendRel dst payload) tt step
   step_came (steps.SetWeight v weight) step new me = calm_came (steps.SetWeight v weight) tt step
   step_came (steps.TakeRel src) step new me = calm_came (steps.TakeRel src) tt step
+  step_came (steps.SendKrel m) step new me = calm_came (steps.SendKrel m) tt step
+  step_came (steps.TakeKrel src) step new me = calm_came (steps.TakeKrel src) tt step
   step_came steps.TakePrio step new me = calm_came steps.TakePrio tt step
   step_came (steps.Publish document) step new me = calm_came (steps.Publish document) tt step
 
@@ -338,6 +361,8 @@ not_accepted s d from to a b c payload (refusals.NoPaths found) reply e = let is
 not_accepted s d from to a b c payload (refusals.Low least) reply e = let is : replies.Low least ≡ reply = cc in subst
     (λ r. prio_accepted_in s d (events.Prio from to a b c payload) r ≡ []) is refl
 not_accepted s d from to a b c payload (refusals.Spent index) reply e = let is : replies.Spent index ≡ reply = cc in subst
+    (λ r. prio_accepted_in s d (events.Prio from to a b c payload) r ≡ []) is refl
+not_accepted s d from to a b c payload (refusals.Busy other) reply e = let is : replies.Busy other ≡ reply = cc in subst
     (λ r. prio_accepted_in s d (events.Prio from to a b c payload) r ≡ []) is refl
 not_accepted s d from to a b c payload refusals.BadEnd reply e = let is : replies.BadEnd ≡ reply = cc in subst
     (λ r. prio_accepted_in s d (events.Prio from to a b c payload) r ≡ []) is refl

@@ -1,12 +1,11 @@
 -- What is published: its versions and their weights over one more event, and what the administrator hands out.
 use Rattle.std.proofs.Common.{◌≡◌, ◌<◌, ◌≤◌, ℕ, zero, suc, ◌+◌, ◌-◌, Bool, true, false, List, []}
-use Rattle.std.proofs.Common.{◌∷◌, ◌++◌, length, Option, Some, None, refl, sym, ap, subst, ◌∙◌}
-use Rattle.std.proofs.Common.{inl, inr, arith}
+use Rattle.std.proofs.Common.{◌∷◌, ◌++◌, length, Option, Some, None, refl, sym, ap, subst, ◌∙◌, inl, inr, arith}
 use Rattle.std.specs.Prelude.{◌⊎◌, ◌&&◌, ◌||◌, ◌==◌, not, fold, is_some, nat_le, slice_get}
 use Rattle.std.specs.List.{All, list_any}
 use Rattle.std.proofs.lemmas.Bool.{cases_Bool, eqb-true, ne_eqb}
 use Rattle.std.proofs.lemmas.Bool.Decides.{nat_tests}
-use Rattle.std.proofs.lemmas.List.{append-nil, length_push}
+use Rattle.std.proofs.lemmas.List.{length_push}
 use Rattle.std.proofs.lemmas.List.Elements.{All-append, All-cons, All-head, All-nil, All-tail}
 use Rattle.std.proofs.lemmas.Option.{slice_get_within}
 use Rattle.sp_base.proofs.ListLemmas.{get_left, get_push}
@@ -27,31 +26,7 @@ use Rattle.sp_schedule_events.specs.declared.event.Event.TheVariants as events
 use Rattle.sp_schedule_events.specs.declared.published.Published.{Published}
 use Rattle.laws_runs.specs.Versions.{IsPublished, ListsStand, NoneReturns}
 use Rattle.laws_runs.proofs.Lists.{are_same, both, or_true, same_bytes}
-
--- ---- the lists after more events
-
-pub lists_more : (es more : List Event) → lists_in (es ++ more) ≡ lists_in es ++ lists_in more
-lists_more [] more = refl
-lists_more (e ∷ es) more = go (list_in e) (lists_more es more)
-  where
-    go : (o : Option (List ℕ)) → lists_in (es ++ more) ≡ lists_in es ++ lists_in more
-        → with_published o (lists_in (es ++ more)) ≡ with_published o (lists_in es) ++ lists_in more
-    go None rest = rest
-    go (Some weights) rest = ap (λ (lists : List (List ℕ)). weights ∷ lists) rest
-
--- an event publishes a list, or none
-pub list_of : (e : Event) → (list_in e ≡ None) ⊎ ((weights : List ℕ) × (list_in e ≡ Some weights))
-list_of e = go (list_in e)
-  where
-    go : (o : Option (List ℕ)) → (o ≡ None) ⊎ ((weights : List ℕ) × (o ≡ Some weights))
-    go None = inl refl
-    go (Some weights) = inr (weights, refl)
-
-none_more : (es : List Event) (e : Event) → list_in e ≡ None → lists_in (es ++ e ∷ []) ≡ lists_in es
-none_more es e none = lists_more es (e ∷ []) ∙ ap (λ (o : Option (List ℕ)). lists_in es ++ with_published o []) none ∙ append-nil (lists_in es)
-
-list_more : (es : List Event) (e : Event) (weights : List ℕ) → list_in e ≡ Some weights → lists_in (es ++ e ∷ []) ≡ lists_in es ++ weights ∷ []
-list_more es e weights some = lists_more es (e ∷ []) ∙ ap (λ (o : Option (List ℕ)). lists_in es ++ with_published o []) some
+use Rattle.laws_runs.proofs.PublishedLists.{lists_more, list_of, none_more, list_more}
 
 -- ---- the last of them
 
@@ -256,8 +231,10 @@ publishes_it : (x : Setting) (es : List Event) (e : Event) (weights : List ℕ) 
 publishes_it x es (events.Publish u list) weights is range =
     record { may = range.1; fits = subst (λ (o : Option (List ℕ)). MayPublish x (published es) o) is range.2 }
 publishes_it x es (events.Rel a b p) weights is range = absurd cc
+publishes_it x es (events.Krel a b count p) weights is range = absurd cc
 publishes_it x es (events.Prio a b c d f p) weights is range = absurd cc
 publishes_it x es (events.Take a b) weights is range = absurd cc
+publishes_it x es (events.KTake a b) weights is range = absurd cc
 publishes_it x es (events.TakePrio a) weights is range = absurd cc
 publishes_it x es (events.Tick a b) weights is range = absurd cc
 publishes_it x es (events.Weight a b c) weights is range = absurd cc

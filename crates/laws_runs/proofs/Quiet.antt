@@ -3,6 +3,7 @@ use Rattle.std.proofs.Common.{◌≡◌, ℕ, ◌+◌, Bool, true, false, cond, 
 use Rattle.std.specs.Prelude.{◌&&◌}
 use Rattle.std.specs.List.{flat_map}
 use Rattle.std.proofs.lemmas.List.Concat.{flat_map-append}
+use Rattle.sp_base.specs.declared.id.Flow.{Flow}
 use Rattle.sp_base.specs.declared.id.NodeId.{NodeId}
 use Rattle.sp_msg.specs.declared.body.Body.{Body}
 use Rattle.sp_msg.specs.declared.body.Body.TheVariants as bodies
@@ -13,7 +14,7 @@ use Rattle.sp_msg.specs.declared.effect.Why.TheVariants.{Acked, Evicted, Expired
 use Rattle.sp_msg.specs.declared.kept.Kept.{Kept}
 use Rattle.sp_rules.specs.Arts.{Arts}
 use Rattle.sp_rules.specs.Documents.{publish_effects, version_effects}
-use Rattle.sp_rules.specs.Handle.{weight_effects}
+use Rattle.sp_rules.specs.Handle.{met_effects, weight_effects}
 use Rattle.sp_rules.specs.Node.{NodeState}
 use Rattle.sp_rules.specs.Parts.{Parts, closed_effects, nodes_of}
 use Rattle.sp_rules.specs.Rel as rel
@@ -25,22 +26,33 @@ use Rattle.sp_rules.specs.Prio as prio
 use Rattle.sp_rules.specs.Prio.{PrioState, acked_effects, prio_effects, expired_effects}
 use Rattle.sp_rules.specs.PrioPeer as rows
 use Rattle.sp_rules.specs.PrioPeer.{PrioPeer}
-use Rattle.sp_rules.specs.Flow.{FlowState, ends}
+use Rattle.sp_rules.specs.Flow.{ends}
 use Rattle.sp_rules.specs.Rel.{RelState, ended_by, is_end, restart_effects}
 use Rattle.sp_rules.specs.Store.{Store, entry_in, expired_entries, removed}
+use Rattle.sp_rules.specs.declared.kflow.FlowKind.{FlowKind}
+use Rattle.sp_rules.specs.declared.kflow.FlowKind.TheVariants.{Plain, Paths}
 use Rattle.sp_rules.specs.declared.store.Entry.{Entry}
 use Rattle.sp_runs.specs.Told.{delivered_by, signed_by}
 
 pub record Quiet (es : List Effect) : Type 0 where
-  pub no_delivery : (a : NodeId) → flat_map (delivered_by a) es ≡ []
+  pub no_delivery : (kind : FlowKind) (a : NodeId) → flat_map (delivered_by kind a) es ≡ []
   pub no_signature : flat_map signed_by es ≡ []
 
+-- effects that say nothing of messages of either kind
+quiet_of : (es : List Effect) → ((a : NodeId) → flat_map (delivered_by Plain a) es ≡ []) → ((a : NodeId) → flat_map (delivered_by Paths a) es ≡ [])
+    → flat_map signed_by es ≡ [] → Quiet es
+quiet_of es plain paths unsigned = record { no_delivery = none; no_signature = unsigned }
+  where
+    none : (kind : FlowKind) (a : NodeId) → flat_map (delivered_by kind a) es ≡ []
+    none Plain a = plain a
+    none Paths a = paths a
+
 pub quiet_none : Quiet []
-quiet_none = record { no_delivery = λ a. refl; no_signature = refl }
+quiet_none = quiet_of [] (λ a. refl) (λ a. refl) refl
 
 pub quiet_append : (xs ys : List Effect) → Quiet xs → Quiet ys → Quiet (xs ++ ys)
 quiet_append xs ys h k = record {
-  no_delivery = λ a. flat_map-append (delivered_by a) xs ys ∙ rw (h.no_delivery a, k.no_delivery a) refl;
+  no_delivery = λ kind a. flat_map-append (delivered_by kind a) xs ys ∙ rw (h.no_delivery kind a, k.no_delivery kind a) refl;
   no_signature = flat_map-append signed_by xs ys ∙ rw (h.no_signature, k.no_signature) refl;
 }
 
@@ -56,17 +68,17 @@ pub quiet_weight : (body : Body) → Quiet (weight_effects body)
 quiet_weight (bodies.Prio p) = quiet_none
 quiet_weight (bodies.Rel r) = quiet_none
 quiet_weight (bodies.Ack a) = quiet_none
-quiet_weight (bodies.Weight u) = record { no_delivery = λ a. refl; no_signature = refl }
+quiet_weight (bodies.Weight u) = quiet_of _ (λ a. refl) (λ a. refl) refl
 quiet_weight (bodies.Krel a) = quiet_none
 quiet_weight (bodies.Kack a) = quiet_none
 quiet_weight (bodies.Epoch a) = quiet_none
 
 pub quiet_gone : (place : ℕ) (why : Why) (e : Option Entry) → Quiet (rows.gone place why e)
 quiet_gone place why None = quiet_none
-quiet_gone place why (Some e) = record { no_delivery = λ a. refl; no_signature = refl }
+quiet_gone place why (Some e) = quiet_of _ (λ a. refl) (λ a. refl) refl
 
 quiet_stored : (place id : ℕ) (body : Body) → Quiet (rows.stored place id body)
-quiet_stored place id (bodies.Prio p) = record { no_delivery = λ a. refl; no_signature = refl }
+quiet_stored place id (bodies.Prio p) = quiet_of _ (λ a. refl) (λ a. refl) refl
 quiet_stored place id (bodies.Rel r) = quiet_none
 quiet_stored place id (bodies.Ack a) = quiet_none
 quiet_stored place id (bodies.Weight u) = quiet_none
@@ -78,7 +90,7 @@ quiet_put : (place : ℕ) (s : Store) (o : Kept) → Quiet (rows.put_effects pla
 quiet_put place s o = quiet_append (rows.stored place (s.last + 1) o.body) _ (quiet_stored place (s.last + 1) o.body) (quiet_gone place Evicted _)
 
 quiet_delivered : (body : Body) → Quiet (prio.delivered body)
-quiet_delivered (bodies.Prio p) = record { no_delivery = λ a. refl; no_signature = refl }
+quiet_delivered (bodies.Prio p) = quiet_of _ (λ a. refl) (λ a. refl) refl
 quiet_delivered (bodies.Rel r) = quiet_none
 quiet_delivered (bodies.Ack a) = quiet_none
 quiet_delivered (bodies.Weight u) = quiet_none
@@ -105,38 +117,46 @@ quiet_acked p v number = let q = prio.peer_in p v in quiet_left q.peer q.store (
 quiet_leaving : (why : Why) (place : ℕ) (es : List Entry) → Quiet (map (λ e. effects.Gone place e.id why) es)
 quiet_leaving why place [] = quiet_none
 quiet_leaving why place (e ∷ es) =
-    let rest = quiet_leaving why place es in record { no_delivery = λ a. rest.no_delivery a; no_signature = rest.no_signature }
+    let rest = quiet_leaving why place es in
+    quiet_of (effects.Gone place e.id why ∷ map (λ e. effects.Gone place e.id why) es) (rest.no_delivery Plain) (rest.no_delivery Paths) rest.no_signature
 
 pub quiet_expired : (p : PrioState) (now : ℕ) → Quiet (expired_effects p now)
 quiet_expired p now =
     quiet_append (rows.expired_effects 0 p.inbox now) _ (quiet_leaving Expired 0 (expired_entries p.inbox now))
     (quiet_flat (λ (q : PrioPeer). rows.expired_effects q.peer q.store now) (λ q. quiet_leaving Expired q.peer (expired_entries q.store now)) p.peers)
 
+quiet_over : (t : Bool) (kind : FlowKind) (flow : Flow) → Quiet (cond t (rel.ending kind flow ∷ []) [])
+quiet_over true Plain flow = quiet_of (effects.Ended flow ∷ []) (λ a. refl) (λ a. refl) refl
+quiet_over true Paths flow = quiet_of (effects.Kended flow ∷ []) (λ a. refl) (λ a. refl) refl
+quiet_over false kind flow = quiet_none
+
 -- flows end where a node starts anew
-pub quiet_ended : (r : RelState) (v : NodeId) → Quiet (restart_effects r v)
-quiet_ended r v = quiet_flat (ended_by v) (λ f. one f (is_end v (ends f) && f.active)) r.flows
-  where
-    one : (f : FlowState) (t : Bool) → Quiet (cond t (effects.Ended (ends f) ∷ []) [])
-    one f true = record { no_delivery = λ a. refl; no_signature = refl }
-    one f false = quiet_none
+pub quiet_ended : (kind : FlowKind) (r : RelState) (v : NodeId) → Quiet (restart_effects kind r v)
+quiet_ended kind r v = quiet_flat (ended_by kind v) (λ f. quiet_over (is_end v (ends f) && f.active) kind (ends f)) r.flows
+
+-- of plain flows first
+pub quiet_met : (p : Parts) (v : NodeId) → Quiet (met_effects p v)
+quiet_met p v =
+    quiet_append (restart_effects Plain p.rel v) (restart_effects Paths p.kflow.flows v) (quiet_ended Plain p.rel v) (quiet_ended Paths p.kflow.flows v)
 
 -- ---- another version of the topology
 
-quiet_over : (t : Bool) (f : FlowState) → Quiet (cond t (effects.Ended (ends f) ∷ []) [])
-quiet_over true f = record { no_delivery = λ a. refl; no_signature = refl }
-quiet_over false f = quiet_none
+quiet_ends : (kind : FlowKind) (gone : List NodeId) (r : RelState) → Quiet (rel.closed_effects kind r gone)
+quiet_ends kind gone r = quiet_flat (rel.ended_effect kind gone) (λ f. quiet_over (f.active && rel.is_over gone (ends f)) kind (ends f)) r.flows
 
 quiet_closed : (p : Parts) (least : List ℕ) (gone : List NodeId) → Quiet (closed_effects p least gone)
 quiet_closed p least gone =
-    quiet_append (prio.closed_effects p.prio least gone) (rel.closed_effects p.rel gone)
+    let plain = rel.closed_effects Plain p.rel gone in
+    let paths = rel.closed_effects Paths p.kflow.flows gone in
+    quiet_append (prio.closed_effects p.prio least gone) (plain ++ paths)
     (quiet_flat (rows.closed_effects least gone) (λ q. quiet_leaving Withdrawn q.peer (filter (rows.leaves (is_shut least q.edge) gone) q.store.entries))
     p.prio.peers)
-    (quiet_flat (rel.ended_effect gone) (λ f. quiet_over (f.active && rel.is_over gone (ends f)) f) p.rel.flows)
+    (quiet_append plain paths (quiet_ends Plain gone p.rel) (quiet_ends Paths gone p.kflow.flows))
 
 quiet_version : (n : NodeState) (t : Topology) → Quiet (version_effects n t)
 quiet_version n t =
     let h = quiet_closed n.parts (weights_in t.edges) (removed_of (nodes_of t) t.edges) in
-    record { no_delivery = λ a. h.no_delivery a; no_signature = h.no_signature }
+    quiet_of (version_effects n t) (h.no_delivery Plain) (h.no_delivery Paths) h.no_signature
 
 pub quiet_publish : (arts : Arts) (n : NodeState) (bytes : List ℕ) → Quiet (publish_effects arts n bytes)
 quiet_publish arts n bytes = publishing arts n bytes (λ m told. Quiet told) quiet_none (λ d reads by. quiet_version n d.topology)

@@ -91,18 +91,18 @@ one_object lives o (bodies.Prio p) is of = All-cons IsOfBytes o [] of (All-nil I
 one_object lives o (bodies.Rel r) is of = All-cons IsOfBytes o [] of (All-nil IsOfBytes)
 one_object lives o (bodies.Ack a) is of = All-cons IsOfBytes o [] of (All-nil IsOfBytes)
 one_object lives o (bodies.Weight w) is of = All-cons IsOfBytes o [] of (All-nil IsOfBytes)
-one_object lives o (bodies.Krel r) is of = All-nil IsOfBytes
-one_object lives o (bodies.Kack a) is of = All-nil IsOfBytes
+one_object lives o (bodies.Krel r) is of = All-cons IsOfBytes o [] of (All-nil IsOfBytes)
+one_object lives o (bodies.Kack a) is of = All-cons IsOfBytes o [] of (All-nil IsOfBytes)
 one_object lives o (bodies.Epoch e) is of = All-nil IsOfBytes
 
 plain_alone : (lives : List Life) (body : Body) (o : Kept) → IsPlain (object_alone lives body o)
-plain_alone lives (bodies.Prio p) o = record { document = refl; paths = refl; probe = refl }
-plain_alone lives (bodies.Rel r) o = record { document = refl; paths = refl; probe = refl }
-plain_alone lives (bodies.Ack a) o = record { document = refl; paths = refl; probe = refl }
-plain_alone lives (bodies.Weight w) o = record { document = refl; paths = refl; probe = refl }
-plain_alone lives (bodies.Krel r) o = record { document = refl; paths = refl; probe = refl }
-plain_alone lives (bodies.Kack a) o = record { document = refl; paths = refl; probe = refl }
-plain_alone lives (bodies.Epoch e) o = record { document = refl; paths = refl; probe = refl }
+plain_alone lives (bodies.Prio p) o = record { document = refl; probe = refl }
+plain_alone lives (bodies.Rel r) o = record { document = refl; probe = refl }
+plain_alone lives (bodies.Ack a) o = record { document = refl; probe = refl }
+plain_alone lives (bodies.Weight w) o = record { document = refl; probe = refl }
+plain_alone lives (bodies.Krel r) o = record { document = refl; probe = refl }
+plain_alone lives (bodies.Kack a) o = record { document = refl; probe = refl }
+plain_alone lives (bodies.Epoch e) o = record { document = refl; probe = refl }
 
 under_tag : (format : ℕ) (arts : Arts) (n : NodeState) (c : NodeId) (s : Contents) → Carries format arts → AreBytes (arts.frame (crafted_head n c) s)
     → AreBytes (crafted_frame arts n c s)
@@ -152,7 +152,9 @@ pub input_fits : (arts : Arts) (x : Setting) (es : List Event) (w : World) (n : 
 input_fits arts x es w n (events.Rel s d payload) input fits carries are range reaches = subst InputFits (same_input _ input reaches) range.2
 input_fits arts x es w n (events.Prio s d prio expiry paths payload) input fits carries are range reaches =
     subst InputFits (same_input _ input reaches) (range.2, range.3, range.4, range.6)
+input_fits arts x es w n (events.Krel s d paths payload) input fits carries are range reaches = subst InputFits (same_input _ input reaches) range.5
 input_fits arts x es w n (events.Take d s) input fits carries are range reaches = subst InputFits (same_input _ input reaches) tt
+input_fits arts x es w n (events.KTake d s) input fits carries are range reaches = subst InputFits (same_input _ input reaches) tt
 input_fits arts x es w n (events.TakePrio d) input fits carries are range reaches = subst InputFits (same_input _ input reaches) tt
 input_fits arts x es w n (events.Tick u now) input fits carries are range reaches = subst InputFits (same_input _ input reaches) range.1
 input_fits arts x es w n (events.Weight u v weight) input fits carries are range reaches = subst InputFits (same_input _ input reaches) (range.2, range.3)
@@ -189,7 +191,7 @@ input_fits arts x es w n (events.Craft c v key object) input fits carries are ra
 input_fits arts x es w n (events.CraftStatus c v s d base have) input fits carries are range reaches =
     let contents = slot_alone n.parts.lives (record { src = s; dst = d }) base have None [] in
     subst InputFits (same_input (steps.Datagram c (crafted_frame arts n c contents)) input reaches)
-    (crafted_bytes x.topology.format arts n c contents carries (record { document = refl; paths = refl; probe = refl }) (All-nil IsOfBytes))
+    (crafted_bytes x.topology.format arts n c contents carries (record { document = refl; probe = refl }) (All-nil IsOfBytes))
 input_fits arts x es w n (events.Publish u weights) input fits carries are range reaches =
     let last = with_list w.published weights in
     subst InputFits (same_input (steps.Publish (handed_out x last)) input reaches) (fits.room last.version (last_weights x last))
@@ -219,7 +221,10 @@ pub payload_fits : (arts : Arts) (x : Setting) (es : List Event) (w : World) (n 
 payload_fits arts x es w n (events.Rel s d payload) input range reaches = subst (λ (i : Input). AreBytes (payload_in i)) (same_input _ input reaches) range.3
 payload_fits arts x es w n (events.Prio s d prio expiry paths payload) input range reaches =
     subst (λ (i : Input). AreBytes (payload_in i)) (same_input _ input reaches) range.7
+payload_fits arts x es w n (events.Krel s d paths payload) input range reaches =
+    subst (λ (i : Input). AreBytes (payload_in i)) (same_input _ input reaches) range.6
 payload_fits arts x es w n (events.Take d s) input range reaches = subst (λ (i : Input). AreBytes (payload_in i)) (same_input _ input reaches) no_bytes
+payload_fits arts x es w n (events.KTake d s) input range reaches = subst (λ (i : Input). AreBytes (payload_in i)) (same_input _ input reaches) no_bytes
 payload_fits arts x es w n (events.TakePrio d) input range reaches = subst (λ (i : Input). AreBytes (payload_in i)) (same_input _ input reaches) no_bytes
 payload_fits arts x es w n (events.Tick u now) input range reaches = subst (λ (i : Input). AreBytes (payload_in i)) (same_input _ input reaches) no_bytes
 payload_fits arts x es w n (events.Weight u v weight) input range reaches =

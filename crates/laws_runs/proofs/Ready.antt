@@ -194,7 +194,16 @@ extended_is x P u n upto on above within is = record {
     parts = is.holds.parts;
   };
   acks = is.acks;
-  obeys = record { least = is.obeys.least; prio = is.obeys.prio; rows = is.obeys.rows; rel = is.obeys.rel; flows = is.obeys.flows };
+  obeys = record {
+    least = is.obeys.least;
+    prio = is.obeys.prio;
+    rows = is.obeys.rows;
+    rel = is.obeys.rel;
+    flows = is.obeys.flows;
+    kflow = is.obeys.kflow;
+    on_paths =
+        is.obeys.on_paths;
+  };
   dated = is.dated;
   plain = λ off. absurd (let wrong : false ≡ true = sym off ∙ on in cc);
 }

@@ -24,7 +24,7 @@ use Rattle.sp_schedule_events.specs.declared.event.Event.TheVariants as events
 use Rattle.laws_runs.specs.Since.{after_last, effects_since, is_start_of}
 use Rattle.laws_runs.proofs.LifeCases.{Begins, Ends, Kind, Other, kind_of}
 use Rattle.laws_runs.proofs.Lists.{as_they_are, both, here_is, or_true, told_more}
-use Rattle.laws_runs.proofs.Signed.{even}
+use Rattle.laws_runs.proofs.SignedEvents.{even}
 use Rattle.laws_runs.proofs.Started.{moves_other}
 
 -- ---- behind the last that passes
@@ -81,8 +81,10 @@ module _ (es : List Event) (js : List Entry) (e : Event) (j : Entry) (same : len
 
 pub no_start : (u : NodeId) (e : Event) → IsOther e → is_start_of u e ≡ false
 no_start u (events.Rel s d p) is = refl
+no_start u (events.Krel s d count p) is = refl
 no_start u (events.Prio s d prio expiry paths p) is = refl
 no_start u (events.Take d s) is = refl
+no_start u (events.KTake d s) is = refl
 no_start u (events.TakePrio d) is = refl
 no_start u (events.Tick v now) is = refl
 no_start u (events.Weight a b k) is = refl

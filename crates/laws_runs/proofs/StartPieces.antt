@@ -11,26 +11,29 @@ use Rattle.sp_frame.specs.declared.refused.SectionRefused.{SectionRefused}
 use Rattle.sp_msg.specs.declared.body.Ack.{Ack}
 use Rattle.sp_msg.specs.declared.kept.Kept.{Kept}
 use Rattle.sp_msg.specs.declared.refused.SendRefused.{SendRefused}
-use Rattle.sp_rules.specs.Answers.{ack_answer, epoch_answer, is_new, prio_answer, rel_answer, weight_answer}
+use Rattle.sp_rules.specs.Answers.{ack_answer, epoch_answer, is_new, prio_answer, weight_answer}
 use Rattle.sp_rules.specs.Arrivals.{arrival_at, greeted, heeded, parts_met, pieces_in, pieces_where, before_document, document_at, read_by, rises}
 use Rattle.sp_rules.specs.Arts.{Arts}
-use Rattle.sp_rules.specs.Handle.{Arrival, handle, handle_all, heard_where, met, offer_to}
+use Rattle.sp_rules.specs.Handle.{Arrival, ack_item, handle, handle_all, heard_where, met, offer_to, rel_answer_to, rel_item}
+use Rattle.sp_rules.specs.KflowSends.{send_krel_refusal}
 use Rattle.sp_rules.specs.Lives.{are_held, boot_said, held_boot, is_dated, judge_epoch, origin_said}
 use Rattle.sp_rules.specs.Node.{NodeState, call_refusal, called, kept_or, link_in, with_link}
-use Rattle.sp_rules.specs.Parts.{Fixed, Parts, is_signed}
+use Rattle.sp_rules.specs.Parts.{Fixed, Parts, flows_of, is_signed, with_flows}
 use Rattle.sp_rules.specs.Pieces.{Piece, WeightPiece, PrioAckPiece, PrioPiece, ReportPiece, AckPiece, RelPiece, EpochPiece, pieces_of, prio_piece, slot_pieces}
 use Rattle.sp_rules.specs.Prio.{admit_prio, judge_prio}
 use Rattle.sp_rules.specs.Rel.{admit_ack, admit_rel, judge_ack_of, judge_rel_of, reported}
 use Rattle.sp_rules.specs.Sends.{rel_refusal, send_prio_refusal, signer_refusal, weight_refusal}
 use Rattle.sp_rules.specs.Steps as steps
 use Rattle.sp_rules.specs.Steps.{Input, NodeStep, Output, arrived, refused_call}
-use Rattle.sp_rules.specs.Ticks.{at_time, due_now, settled_by}
+use Rattle.sp_rules.specs.Ticks.{after_plain, at_time, due_now, second_refusal, settled_by}
 use Rattle.sp_rules.specs.Weights.{held}
 use Rattle.sp_rules.specs.declared.answers.EpochAnswer.{EpochAnswer}
 use Rattle.sp_rules.specs.declared.answers.EpochAnswer.TheVariants as starts
 use Rattle.sp_rules.specs.declared.answers.Item.TheVariants as items
 use Rattle.sp_rules.specs.declared.answers.PrioAnswer.{PrioAnswer}
 use Rattle.sp_rules.specs.declared.answers.PrioAnswer.TheVariants as prios
+use Rattle.sp_rules.specs.declared.kflow.FlowKind.{FlowKind}
+use Rattle.sp_rules.specs.declared.kflow.FlowKind.TheVariants.{Plain, Paths}
 use Rattle.sp_rules.specs.declared.lives.Life.{Life}
 use Rattle.sp_rules.specs.declared.node.LinkReply.{LinkReply}
 use Rattle.sp_rules.specs.declared.node.LinkReply.TheVariants as links
@@ -42,6 +45,7 @@ use Rattle.laws_node.specs.Asked.{NewKeep}
 use Rattle.laws_node.specs.Epochs.{Follows}
 use Rattle.laws_node.proofs.AskedLemmas.{new_left, new_right}
 use Rattle.laws_node.proofs.Epochs.{epoch_taken}
+use Rattle.laws_node.proofs.FlowKinds.{lives_beside}
 use Rattle.laws_node.proofs.Tables.{cond_either}
 use Rattle.laws_runs.proofs.NoStarts.{NoStart, pieces_at, beside}
 
@@ -55,14 +59,14 @@ before_map : {X : Type 0} (f : X → Piece) → ((x : X) → NoStart (f x)) → 
 before_map f each [] ys h = h
 before_map f each (x ∷ xs) ys h = inl (each x, before_map f each xs ys h)
 
-before_slot : (slot : Option Report) (ys : List Piece) → StartLast ys → StartLast (slot_pieces slot ++ ys)
-before_slot None ys h = h
-before_slot (Some r) ys h =
+before_slot : (kind : FlowKind) (slot : Option Report) (ys : List Piece) → StartLast ys → StartLast (slot_pieces kind slot ++ ys)
+before_slot kind None ys h = h
+before_slot kind (Some r) ys h =
     inl (
       tt,
-      subst StartLast (sym (append_assoc (map (AckPiece r.flow) (as_list r.ack)) (map (RelPiece r.flow) r.rels) ys))
-          (before_map (AckPiece r.flow) (λ o. tt) (as_list r.ack) (map (RelPiece r.flow) r.rels ++ ys)
-          (before_map (RelPiece r.flow) (λ o. tt) r.rels ys h)),
+      subst StartLast (sym (append_assoc (map (AckPiece kind r.flow) (as_list r.ack)) (map (RelPiece kind r.flow) r.rels) ys))
+          (before_map (AckPiece kind r.flow) (λ o. tt) (as_list r.ack) (map (RelPiece kind r.flow) r.rels ++ ys)
+          (before_map (RelPiece kind r.flow) (λ o. tt) r.rels ys h)),
     )
 
 last_object : (o : Option Kept) → StartLast (map EpochPiece (as_list o))
@@ -71,11 +75,13 @@ last_object (Some o) = inr refl
 
 last_of : (s : Contents) → StartLast (pieces_of s)
 last_of s =
-    before_map WeightPiece (λ o. tt) s.weights (PrioAckPiece s.prio_ack ∷ (map prio_piece s.prios ++ (slot_pieces s.slot ++ map EpochPiece (as_list s.epoch))))
+    let last = map EpochPiece (as_list s.epoch) in
+    let paths = slot_pieces Paths s.paths ++ last in
+    let slots = slot_pieces Plain s.slot ++ paths in
+    before_map WeightPiece (λ o. tt) s.weights (PrioAckPiece s.prio_ack ∷ (map prio_piece s.prios ++ slots))
     (inl (
       tt,
-      before_map prio_piece (λ m. tt) s.prios (slot_pieces s.slot ++ map EpochPiece (as_list s.epoch))
-          (before_slot s.slot (map EpochPiece (as_list s.epoch)) (last_object s.epoch)),
+      before_map prio_piece (λ m. tt) s.prios slots (before_slot Plain s.slot paths (before_slot Paths s.paths last (last_object s.epoch))),
     ))
 
 last_in : (f : Fixed) (r : Result Contents SectionRefused) → StartLast (pieces_in f r)
@@ -121,14 +127,17 @@ same_lives arts at p (PrioPiece number o) none =
     let answer = prio_answer (is_signed arts at.fixed o) (is_dated p.lives o.body) (judge_prio p.prio o.body at.now) in
     let new = record p { prio = admit_prio p.prio o (Some at.from) } in
     heard_lives answer at.from number (cond (is_new (items.Prio answer)) new p) ∙ either (is_new (items.Prio answer)) new p refl
-same_lives arts at p (ReportPiece flow sboot dboot base have) none =
-    either (are_held p.lives flow sboot dboot) (record p { rel = reported p.rel at.from flow base have }) p refl
-same_lives arts at p (AckPiece flow o) none =
-    either (is_new (items.Ack (ack_answer (is_signed arts at.fixed o) (is_dated p.lives o.body) (judge_ack_of p.rel flow o.body))))
-    (record p { rel = admit_ack p.rel o }) p refl
-same_lives arts at p (RelPiece flow o) none =
-    either (is_new (items.Rel (rel_answer (is_signed arts at.fixed o) (is_dated p.lives o.body) (judge_rel_of p.rel flow o.body))))
-    (record p { rel = admit_rel p.rel o }) p refl
+same_lives arts at p (ReportPiece kind flow sboot dboot base have) none =
+    let r = reported (flows_of kind p) at.from flow base have in
+    either (are_held p.lives flow sboot dboot) (with_flows kind r p) p (lives_beside kind r p)
+same_lives arts at p (AckPiece kind flow o) none =
+    let r = flows_of kind p in
+    either (is_new (ack_item kind (ack_answer (is_signed arts at.fixed o) (is_dated p.lives o.body) (judge_ack_of r flow o.body))))
+    (with_flows kind (admit_ack r o) p) p (lives_beside kind (admit_ack r o) p)
+same_lives arts at p (RelPiece kind flow o) none =
+    let r = flows_of kind p in
+    either (is_new (rel_item kind (rel_answer_to arts at p (judge_rel_of r flow o.body) o)))
+    (with_flows kind (admit_rel r o) p) p (lives_beside kind (admit_rel r o) p)
 same_lives arts at p (EpochPiece o) none = absurd none
 
 -- and so does a greeting
@@ -182,12 +191,12 @@ module _ (arts : Arts) (v : NodeId) (most : ℕ) where
   one_below at p (PrioAckPiece number) new low = low
   one_below at p (PrioPiece number o) new low =
       subst (λ (lives : List Life). held_boot lives v ≤ most) (sym (same_lives arts at p (PrioPiece number o) tt)) low
-  one_below at p (ReportPiece flow sboot dboot base have) new low =
-      subst (λ (lives : List Life). held_boot lives v ≤ most) (sym (same_lives arts at p (ReportPiece flow sboot dboot base have) tt)) low
-  one_below at p (AckPiece flow o) new low =
-      subst (λ (lives : List Life). held_boot lives v ≤ most) (sym (same_lives arts at p (AckPiece flow o) tt)) low
-  one_below at p (RelPiece flow o) new low =
-      subst (λ (lives : List Life). held_boot lives v ≤ most) (sym (same_lives arts at p (RelPiece flow o) tt)) low
+  one_below at p (ReportPiece kind flow sboot dboot base have) new low =
+      subst (λ (lives : List Life). held_boot lives v ≤ most) (sym (same_lives arts at p (ReportPiece kind flow sboot dboot base have) tt)) low
+  one_below at p (AckPiece kind flow o) new low =
+      subst (λ (lives : List Life). held_boot lives v ≤ most) (sym (same_lives arts at p (AckPiece kind flow o) tt)) low
+  one_below at p (RelPiece kind flow o) new low =
+      subst (λ (lives : List Life). held_boot lives v ≤ most) (sym (same_lives arts at p (RelPiece kind flow o) tt)) low
 
   pub all_below : (at : Arrival) (p : Parts) (pieces : List Piece) → NewKeep (SaysMost v most) (handle_all arts at p pieces).answered
       → held_boot p.lives v ≤ most
@@ -208,10 +217,11 @@ module _ (arts : Arts) (v : NodeId) (most : ℕ) where
   or_below None n m after e here done = subst Below (sym e) done
   or_below (Some refusal) n m after e here done = subst Below (sym e) here
 
-  settled_below : (n : NodeState) (o : Option Ack) (r : Option SendRefused) → Below n → Below (settled_by arts n o r)
-  settled_below n None r low = low
-  settled_below n (Some ack) (Some refusal) low = low
-  settled_below n (Some ack) None low = low
+  settled_below : (kind : FlowKind) (n : NodeState) (o : Option Ack) (r : Option SendRefused) → Below n → Below (settled_by arts kind n o r)
+  settled_below kind n None r low = low
+  settled_below kind n (Some ack) (Some refusal) low = low
+  settled_below Plain n (Some ack) None low = low
+  settled_below Paths n (Some ack) None low = low
 
   pub step_below : (n : NodeState) (input : Input) (output : Output) (after : NodeState) → NodeStep arts n input output after
       → NewKeep (SaysMost v most) output.answered → Below n → Below after
@@ -231,11 +241,14 @@ module _ (arts : Arts) (v : NodeId) (most : ℕ) where
           (reading arts (before_document arts n u bytes) (document_at arts n u bytes) (λ m told. Below m) first (λ document d is reads by. first))
       go (Some refused) new e = subst Below (sym e) low
   step_below n (steps.Tick now) output after step new low =
-      subst Below (sym step.1) (settled_below (at_time n now) (due_now n) (signer_refusal n.signer) low)
+      subst Below (sym step.1) (settled_below Paths (after_plain arts n now) (due_now Paths n) (second_refusal arts n now)
+      (settled_below Plain (at_time n now) (due_now Plain n) (signer_refusal n.signer) low))
   step_below n (steps.SendRel dst payload) output after step new low = or_below (rel_refusal n dst) n _ after step.1 low low
   step_below n (steps.SendPrio m) output after step new low = or_below (send_prio_refusal n m step.choice) n _ after step.new_is low low
   step_below n (steps.SetWeight u weight) output after step new low = or_below (weight_refusal n u weight) n _ after step.1 low low
+  step_below n (steps.SendKrel m) output after step new low = or_below (send_krel_refusal n m step.choice) n _ after step.new_is low low
   step_below n (steps.TakeRel src) output after step new low = subst Below (sym step.1) low
+  step_below n (steps.TakeKrel src) output after step new low = subst Below (sym step.1) low
   step_below n steps.TakePrio output after step new low = subst Below (sym step.1) low
   step_below n (steps.Publish document) output after step new low =
       subst Below (sym step.1) (publishing arts n document (λ m told. Below m) low (λ d reads by. low))

@@ -21,8 +21,10 @@ more_started es e u = fold-append (started_after u) false es (e ∷ [])
 
 as_started : (u : ℕ) (was : Bool) (e : Event) → IsOther e → started_after u was e ≡ was
 as_started u was (events.Rel s d p) is = refl
+as_started u was (events.Krel s d paths p) is = refl
 as_started u was (events.Prio s d prio expiry paths p) is = refl
 as_started u was (events.Take d s) is = refl
+as_started u was (events.KTake d s) is = refl
 as_started u was (events.TakePrio d) is = refl
 as_started u was (events.Tick v now) is = refl
 as_started u was (events.Weight a b w) is = refl
@@ -43,8 +45,10 @@ still_started es e u other was = more_started es e u ∙ as_started u (is_starte
 -- what reaches a node is neither
 pub moves_other : (arts : Arts) (x : Setting) (w : World) (n : NodeState) (e : Event) (input : Input) → input_of arts x w n e ≡ Some input → IsOther e
 moves_other arts x w n (events.Rel s d p) input is = tt
+moves_other arts x w n (events.Krel s d paths p) input is = tt
 moves_other arts x w n (events.Prio s d prio expiry paths p) input is = tt
 moves_other arts x w n (events.Take d s) input is = tt
+moves_other arts x w n (events.KTake d s) input is = tt
 moves_other arts x w n (events.TakePrio d) input is = tt
 moves_other arts x w n (events.Tick v now) input is = tt
 moves_other arts x w n (events.Weight a b k) input is = tt
@@ -66,8 +70,10 @@ pub of_craft : (P : Event → Type 0) → ((c v key : NodeId) (object : CraftedO
 of_craft P objects documents key (events.Craft c v k object) is = objects c v k object
 of_craft P objects documents key (events.CraftDocument c v k version weights) is = documents c v k version weights
 of_craft P objects documents key (events.Rel s d p) is = absurd is
+of_craft P objects documents key (events.Krel s d paths p) is = absurd is
 of_craft P objects documents key (events.Prio s d prio expiry paths p) is = absurd is
 of_craft P objects documents key (events.Take d s) is = absurd is
+of_craft P objects documents key (events.KTake d s) is = absurd is
 of_craft P objects documents key (events.TakePrio d) is = absurd is
 of_craft P objects documents key (events.Tick v now) is = absurd is
 of_craft P objects documents key (events.Weight a b k) is = absurd is

@@ -1,6 +1,5 @@
 -- What a store's effects say that it holds, and that each eviction leaves the fullest source its share.
-use Rattle.sp_base.specs.declared.id.Flow.{Flow}
-use Rattle.laws_runs.specs.Places.{FreshIf, Rising, Shelf, Steps, StoreIs, all_held, as_held, less_held, shelf, shelf_after, shelf_by}
+use Rattle.laws_runs.specs.Places.{Rising, Shelf, StoreIs, all_held, as_held, less_held, shelf}
 use Rattle.std.proofs.Common.{◌≡◌, ◌<◌, ◌≤◌, ℕ, ◌+◌, ◌==◌, Bool, true, false, cond, List, [], ◌∷◌, ◌++◌, length, map, filter, Option, Some, None, refl, sym, ap}
 use Rattle.std.proofs.Common.{subst, ◌∙◌, inl, inr, arith, not, nat_lt}
 use Rattle.std.specs.Prelude.{drop, find, slice_get}
@@ -9,9 +8,6 @@ use Rattle.std.proofs.lemmas.Bool.{cases_Bool, eq-eqb, eqb-true, ne_eqb}
 use Rattle.std.proofs.lemmas.Bool.Decides.{nat_tests}
 use Rattle.std.proofs.lemmas.List.{length-append, length-drop, map-append}
 use Rattle.std.proofs.lemmas.List.Elements.{All-head, All-nil, All-tail}
-use Rattle.sp_base.specs.declared.id.EdgeId.{EdgeId}
-use Rattle.sp_base.specs.declared.id.Flow.{Flow}
-use Rattle.sp_base.specs.declared.id.NodeId.{NodeId}
 use Rattle.sp_msg.specs.declared.body.Body.{Body}
 use Rattle.sp_msg.specs.declared.body.Body.TheVariants as bodies
 use Rattle.sp_msg.specs.declared.effect.Effect.{Effect}
@@ -28,83 +24,9 @@ use Rattle.sp_rules.specs.declared.store.TheConstants.{IDS}
 use Rattle.laws_node.specs.Stores.{IsPrio}
 use Rattle.laws_node.proofs.Lost.{all_filter, all_less_first, filter_shorter, less_first_shorter, less_one, one_goes}
 use Rattle.laws_node.proofs.Tables.{all_drop_first, all_push, all_weaker, cond_where}
-use Rattle.sp_runs.specs.Held.{Held, IsShare, ShareIf}
+use Rattle.sp_runs.specs.Held.{Held, IsShare}
 use Rattle.laws_runs.proofs.Evictions.{rising_push, rising_less, rising_filter, rising_drop, keeps_all, less_one_held, above_all, is_share}
-
--- ---- what effects make of a place
-
--- from this shelf effects lead to that one, all fresh, and each eviction leaves a share
-pub record Leads (capacity p : ℕ) (st : Shelf) (es : List Effect) (after : Shelf) : Type 0 where
-  pub held : shelf_by p st es ≡ after
-  pub shares : Steps capacity p st es
-
-pub held_both : (p : ℕ) (st : Shelf) (xs ys : List Effect) → shelf_by p st (xs ++ ys) ≡ shelf_by p (shelf_by p st xs) ys
-held_both p st [] ys = refl
-held_both p st (e ∷ xs) ys = held_both p (shelf_after p st e) xs ys
-
-pub shares_both : (capacity p : ℕ) (st : Shelf) (xs ys : List Effect) → Steps capacity p st xs → Steps capacity p (shelf_by p st xs) ys
-    → Steps capacity p st (xs ++ ys)
-shares_both capacity p st [] ys one two = two
-shares_both capacity p st (e ∷ xs) ys one two = (one.0, shares_both capacity p (shelf_after p st e) xs ys one.1 two)
-
-pub leads_on : (capacity p : ℕ) (st mid after : Shelf) (xs ys : List Effect) → Leads capacity p st xs mid → Leads capacity p mid ys after
-    → Leads capacity p st (xs ++ ys) after
-leads_on capacity p st mid after xs ys one two = record {
-  held = held_both p st xs ys ∙ ap (λ h. shelf_by p h ys) one.held ∙ two.held;
-  shares = shares_both capacity p st xs ys one.shares (subst (λ h. Steps capacity p h ys) (sym one.held) two.shares);
-}
-
-pub leads_nowhere : (capacity p : ℕ) (st : Shelf) → Leads capacity p st [] st
-leads_nowhere capacity p st = record { held = refl; shares = tt }
-
--- one effect of another place, or of none
-pub data IsAway (p : ℕ) : Effect → Type 0 where
-  Signs_it : {bytes : List ℕ} → IsAway p (effects.Signed bytes)
-  Tells_rel : {src : NodeId} {seq : ℕ} {payload : List ℕ} → IsAway p (effects.Delivered src seq payload)
-  Tells_prio : {src : NodeId} {seq : ℕ} {payload : List ℕ} → IsAway p (effects.DeliveredPrio src seq payload)
-  Tells_weight : {origin : NodeId} {edge : EdgeId} {seq weight : ℕ} → IsAway p (effects.WeightHeld origin edge seq weight)
-  Ends_flow : {flow : Flow} → IsAway p (effects.Ended flow)
-  Tells_version : {version : ℕ} → IsAway p (effects.Version version)
-  Stores : {place id seq prio : ℕ} {src : NodeId} → (place ≡ p → ⊥) → IsAway p (effects.Stored place id src seq prio)
-  Leaves : {place id : ℕ} {why : Why} → (place ≡ p → ⊥) → IsAway p (effects.Gone place id why)
-
-abbrev pub AreAway : ℕ → List Effect → Type 0
-AreAway p [] = Unit {0}
-AreAway p (e ∷ es) = IsAway p e × AreAway p es
-
-pub away_both : (p : ℕ) (xs ys : List Effect) → AreAway p xs → AreAway p ys → AreAway p (xs ++ ys)
-away_both p [] ys one two = two
-away_both p (e ∷ xs) ys one two = (one.0, away_both p xs ys one.1 two)
-
-one_away : (capacity p : ℕ) (st : Shelf) (e : Effect) → IsAway p e → (shelf_after p st e ≡ st) × (FreshIf p st.top e × ShareIf capacity p st.held e)
-one_away capacity p st (effects.Signed bytes) is = (refl, (tt, tt))
-one_away capacity p st (effects.Delivered src seq payload) is = (refl, (tt, tt))
-one_away capacity p st (effects.DeliveredPrio src seq payload) is = (refl, (tt, tt))
-one_away capacity p st (effects.WeightHeld origin edge seq weight) is = (refl, (tt, tt))
-one_away capacity p st (effects.Ended flow) is = (refl, (tt, tt))
-one_away capacity p st (effects.Version version) is = (refl, (tt, tt))
-one_away capacity p st (effects.Stored place id src seq prio) (Stores other) =
-    let f : (place == p) ≡ false = ne_eqb place p other in (rw f refl, (λ same. absurd (other same), tt))
-one_away capacity p st (effects.Gone place id whys.Evicted) (Leaves other) =
-    let f : (place == p) ≡ false = ne_eqb place p other in (rw f refl, (λ same. absurd (other same), λ same. absurd (other same)))
-one_away capacity p st (effects.Gone place id whys.Expired) (Leaves other) =
-    let f : (place == p) ≡ false = ne_eqb place p other in (rw f refl, (λ same. absurd (other same), tt))
-one_away capacity p st (effects.Gone place id whys.Acked) (Leaves other) =
-    let f : (place == p) ≡ false = ne_eqb place p other in (rw f refl, (λ same. absurd (other same), tt))
-one_away capacity p st (effects.Gone place id whys.Taken) (Leaves other) =
-    let f : (place == p) ≡ false = ne_eqb place p other in (rw f refl, (λ same. absurd (other same), tt))
-one_away capacity p st (effects.Gone place id whys.Withdrawn) (Leaves other) =
-    let f : (place == p) ≡ false = ne_eqb place p other in (rw f refl, (λ same. absurd (other same), tt))
-
-pub leads_away : (capacity p : ℕ) (st : Shelf) (es : List Effect) → AreAway p es → Leads capacity p st es st
-leads_away capacity p st [] away = leads_nowhere capacity p st
-leads_away capacity p st (e ∷ es) away =
-    let first = one_away capacity p st e away.0 in
-    let rest = leads_away capacity p st es away.1 in
-    record {
-      held = ap (λ h. shelf_by p h es) first.0 ∙ rest.held;
-      shares = (first.1, subst (λ h. Steps capacity p h es) (sym first.0) rest.shares);
-    }
+use Rattle.laws_runs.proofs.StoreEffects.{Leaves, Stores, Leads, leads_on, leads_nowhere, AreAway, away_both}
 
 -- ---- what each change of a store tells of its place
 

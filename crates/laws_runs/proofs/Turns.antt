@@ -13,6 +13,7 @@ use Rattle.sp_rules.specs.Arts.{Arts}
 use Rattle.sp_rules.specs.Documents.{after_publish}
 use Rattle.sp_rules.specs.Masks.{Choice, IsChoice, graph_of}
 use Rattle.sp_rules.specs.Node.{NodeState, start_effects}
+use Rattle.sp_rules.specs.KflowSends.{after_send_krel, after_take_krel}
 use Rattle.sp_rules.specs.Parts.{Fixed}
 use Rattle.sp_rules.specs.Polls.{after_poll}
 use Rattle.sp_rules.specs.Rel as rel
@@ -49,8 +50,9 @@ use Rattle.laws_runs.proofs.Words.{each_reply_has_words}
 
 -- ---- a node has a step for each input
 
--- and for a priority message where there is a choice of edges
+-- and for a message that chooses its edges where there is a choice
 abbrev Choosable : NodeState → Input → Type 0
+Choosable n (steps.SendKrel m) = (choice : Choice) × IsChoice n.parts.weights (graph_of n.fixed.topology n.parts.weights) n.fixed.me m.dst m.paths choice
 Choosable n (steps.SendPrio m) = (choice : Choice) × IsChoice n.parts.weights (graph_of n.fixed.topology n.parts.weights) n.fixed.me m.dst m.paths choice
 Choosable n _ = Unit {0}
 
@@ -72,6 +74,13 @@ stepped arts n (steps.SendPrio m) c = record {
 }
 stepped arts n (steps.SetWeight v weight) c =
     record { output = steps.set_weight_output arts n v weight; after = after_set_weight arts n v weight; step = (refl, refl) }
+stepped arts n (steps.SendKrel m) c = record {
+  output = steps.send_krel_output arts n m c.0;
+  after = after_send_krel arts n m c.0;
+  step = record { choice = c.0; is_choice = λ free none. c.1; output_is = refl; new_is = refl };
+}
+stepped arts n (steps.TakeKrel src) c =
+    record { output = steps.replied (steps.Payload (rel.oldest n.parts.kflow.flows src)); after = after_take_krel n src; step = (refl, refl) }
 stepped arts n (steps.TakeRel src) c =
     record { output = steps.replied (steps.Payload (rel.oldest n.parts.rel src)); after = after_take_rel n src; step = (refl, refl) }
 stepped arts n (steps.Publish document) c = record { output = steps.publish_output arts n document; after = after_publish arts n document; step = (refl, refl) }
@@ -96,6 +105,8 @@ reached : (arts : Arts) (x : Setting) (es : List Event) (w v : World) (n : NodeS
 reached arts x es w v n (events.Rel s d payload) same range other here choices = Comes (steps.SendRel d payload) refl tt
 reached arts x es w v n (events.Prio s d p expiry paths payload) same range other here choices =
     Comes _ refl (choices d paths s refl range.0 range.1)
+reached arts x es w v n (events.Krel s d paths payload) same range other here choices = Comes _ refl (choices d paths s refl range.1 range.2)
+reached arts x es w v n (events.KTake d s) same range other here choices = Comes (steps.TakeKrel s) refl tt
 reached arts x es w v n (events.Take d s) same range other here choices = Comes (steps.TakeRel s) refl tt
 reached arts x es w v n (events.TakePrio d) same range other here choices = Comes steps.TakePrio refl tt
 reached arts x es w v n (events.Tick u now) same range other here choices = Comes (steps.Tick now) refl tt
@@ -166,6 +177,8 @@ brought : (x : Setting) (es : List Event) (w : World) (e : Event) → x.epochs �
     → ((u v : NodeId) → length (frames_in w.directions u v) ≡ polls es u v) → IsBrought w e
 brought x es w (events.Rel s d payload) off range full count = record { other = tt; here = refl }
 brought x es w (events.Prio s d p expiry paths payload) off range full count = record { other = tt; here = refl }
+brought x es w (events.Krel s d paths payload) off range full count = record { other = tt; here = refl }
+brought x es w (events.KTake d s) off range full count = record { other = tt; here = refl }
 brought x es w (events.Take d s) off range full count = record { other = tt; here = refl }
 brought x es w (events.TakePrio d) off range full count = record { other = tt; here = refl }
 brought x es w (events.Tick u now) off range full count = record { other = tt; here = refl }
@@ -189,6 +202,8 @@ brought x es w (events.Stop u) off range full count =
 acts : (x : Setting) (es : List Event) (e : Event) → AreFields x es e → IsTrue (is_correct x (acting e))
 acts x es (events.Rel s d payload) range = range.0
 acts x es (events.Prio s d p expiry paths payload) range = range.0
+acts x es (events.Krel s d paths payload) range = range.1
+acts x es (events.KTake d s) range = range.1
 acts x es (events.Take d s) range = range.0
 acts x es (events.TakePrio d) range = range
 acts x es (events.Tick u now) range = range.0

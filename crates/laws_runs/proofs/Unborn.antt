@@ -5,23 +5,23 @@ use Rattle.std.specs.List.{All}
 use Rattle.std.proofs.lemmas.List.Elements.{All-nil}
 use Rattle.sp_base.specs.declared.id.Flow.{Flow}
 use Rattle.sp_base.specs.declared.id.NodeId.{NodeId}
-use Rattle.sp_msg.specs.declared.body.Ack.{Ack}
 use Rattle.sp_msg.specs.declared.body.Body.{Body}
 use Rattle.sp_msg.specs.declared.body.Body.TheVariants as bodies
 use Rattle.sp_msg.specs.declared.kept.Kept.{Kept}
-use Rattle.sp_msg.specs.declared.refused.SendRefused.{SendRefused}
 use Rattle.sp_rules.specs.Arrivals.{arrival_at, parts_met, before_document, document_at, read_by}
 use Rattle.sp_rules.specs.Arts.{Arts}
 use Rattle.sp_rules.specs.Flow.{FlowState, ends, is_flow, no_flow}
 use Rattle.sp_rules.specs.Handle.{Arrival, handle, handle_all}
 use Rattle.sp_rules.specs.Lives.{are_held, held_boot, is_dated, start}
+use Rattle.sp_rules.specs.KflowSends.{send_krel_refusal}
 use Rattle.sp_rules.specs.Node.{NodeState, call_refusal, kept_or, called, link_in, with_link}
-use Rattle.sp_rules.specs.Parts.{Parts}
+use Rattle.sp_rules.specs.Parts.{Parts, flows_of}
 use Rattle.sp_rules.specs.Pieces.{Piece}
 use Rattle.sp_rules.specs.Rel.{RelState, flow_in}
 use Rattle.sp_rules.specs.Sends.{rel_refusal, send_prio_refusal, signer_refusal, weight_refusal}
-use Rattle.sp_rules.specs.Steps.{Input, NodeStep, Output, Poll, Datagram, Tick, SendRel, SendPrio, SetWeight, TakeRel, TakePrio, Publish}
-use Rattle.sp_rules.specs.Ticks.{at_time, due_now, settled_by}
+use Rattle.sp_rules.specs.Steps.{Input, NodeStep, Output, Poll, Datagram, Tick, SendRel, SendPrio, SetWeight, TakeRel, TakePrio, SendKrel, TakeKrel, Publish}
+use Rattle.sp_rules.specs.Ticks.{after_plain, at_time, due_now, second_refusal}
+use Rattle.sp_rules.specs.declared.kflow.FlowKind.TheVariants.{Plain, Paths}
 use Rattle.sp_rules.specs.declared.lives.Life.{Life}
 use Rattle.sp_rules.specs.Link.{advanced}
 use Rattle.sp_rules.specs.Polls.{is_served, parts_after, polled}
@@ -29,6 +29,7 @@ use Rattle.laws_node.proofs.Tables.{all_first, all_weaker, cond_either}
 use Rattle.laws_node.proofs.Adopting.{publishing, reading}
 use Rattle.laws_runs.specs.Dated.{AreDated, FlowDated, NamesHeld}
 use Rattle.laws_runs.specs.Unborn.{FlowUnborn, HoldNone, NamesNone, Unborn}
+use Rattle.laws_runs.proofs.EachKind.{settled_lives}
 use Rattle.laws_runs.proofs.NoStarts.{NoStarts, met_as_it_was, no_starts_at, pieces_at}
 use Rattle.laws_runs.proofs.StartPieces.{same_lives}
 
@@ -66,7 +67,7 @@ held_none lives none flow (bodies.Weight w) h = absurd h
 held_none lives none flow (bodies.Epoch x) h = absurd h
 
 pub unborn_of : (p : Parts) → HoldNone p.lives → AreDated p → Unborn p
-unborn_of p none dated = record { lives = none; flows = all_weaker (FlowDated p.lives) FlowUnborn p.rel.flows one dated }
+unborn_of p none dated = record { lives = none; flows = λ kind. all_weaker (FlowDated p.lives) FlowUnborn (flows_of kind p).flows one (dated kind) }
   where
     kept : {P Q : Kept → Type 0} (ack : Option Kept) → ((o : Kept) → P o → Q o) → IfSome ack P → IfSome ack Q
     kept None less is = tt
@@ -102,16 +103,15 @@ lives_stay arts n (Datagram v bytes) output new s without =
     ∙ ap (λ (p : Parts). p.lives) (met_as_it_was arts n v bytes without) in
     ap (λ (m : NodeState). m.parts.lives) s.1 ∙ kept_lives (call_refusal n v) n (read_by arts left (document_at arts n v bytes))
     (reading arts left (document_at arts n v bytes) (λ m told. m.parts.lives ≡ n.parts.lives) first (λ document d is reads by. first))
-lives_stay arts n (Tick now) output new s without = ap (λ (m : NodeState). m.parts.lives) s.1 ∙ go (due_now n) (signer_refusal n.signer)
-  where
-    go : (o : Option Ack) (r : Option SendRefused) → (settled_by arts (at_time n now) o r).parts.lives ≡ n.parts.lives
-    go None r = refl
-    go (Some ack) (Some refusal) = refl
-    go (Some ack) None = refl
+lives_stay arts n (Tick now) output new s without =
+    ap (λ (m : NodeState). m.parts.lives) s.1 ∙ settled_lives arts Paths (after_plain arts n now) (due_now Paths n) (second_refusal arts n now)
+    ∙ settled_lives arts Plain (at_time n now) (due_now Plain n) (signer_refusal n.signer)
 lives_stay arts n (SendRel dst payload) output new s without = ap (λ (m : NodeState). m.parts.lives) s.1 ∙ kept_lives (rel_refusal n dst) n _ refl
 lives_stay arts n (SendPrio m) output new s without = ap (λ (y : NodeState). y.parts.lives) s.new_is ∙ kept_lives (send_prio_refusal n m s.choice) n _ refl
 lives_stay arts n (SetWeight v weight) output new s without = ap (λ (m : NodeState). m.parts.lives) s.1 ∙ kept_lives (weight_refusal n v weight) n _ refl
 lives_stay arts n (TakeRel src) output new s without = ap (λ (m : NodeState). m.parts.lives) s.1
+lives_stay arts n (SendKrel m) output new s without = ap (λ (y : NodeState). y.parts.lives) s.new_is ∙ kept_lives (send_krel_refusal n m s.choice) n _ refl
+lives_stay arts n (TakeKrel src) output new s without = ap (λ (m : NodeState). m.parts.lives) s.1
 lives_stay arts n TakePrio output new s without = ap (λ (m : NodeState). m.parts.lives) s.1
 lives_stay arts n (Publish document) output new s without =
     ap (λ (m : NodeState). m.parts.lives) s.1 ∙ publishing arts n document (λ m told. m.parts.lives ≡ n.parts.lives) refl (λ d reads by. refl)

@@ -38,7 +38,8 @@ use Rattle.laws_runs.specs.Versions.{DocumentsAreHeld, DocumentsSpread, FramesBr
 use Rattle.laws_runs.specs.Versions.{VersionsArePublished}
 use Rattle.laws_runs.proofs.Lists.{same_bytes}
 use Rattle.laws_runs.proofs.Published.{hands_out, later_stays, lists_on, publishes, still_published}
-use Rattle.laws_runs.proofs.Signed.{frame_back, of_setting, signs}
+use Rattle.laws_runs.proofs.Signed.{of_setting, signs}
+use Rattle.laws_runs.proofs.SignedEvents.{frame_back}
 
 -- ---- what each correct node runs under
 

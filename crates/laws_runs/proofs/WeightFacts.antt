@@ -3,6 +3,7 @@ use Rattle.std.proofs.Common.{◌≡◌, ℕ, ◌+◌, Bool, true, false, cond, 
 use Rattle.std.specs.Prelude.{◌&&◌}
 use Rattle.std.specs.List.{flat_map}
 use Rattle.std.proofs.lemmas.Bool.{cases_Bool}
+use Rattle.sp_base.specs.declared.id.Flow.{Flow}
 use Rattle.sp_base.specs.declared.id.NodeId.{NodeId}
 use Rattle.sp_msg.specs.declared.body.Body.{Body}
 use Rattle.sp_msg.specs.declared.body.Body.TheVariants as bodies
@@ -14,14 +15,16 @@ use Rattle.sp_msg.specs.declared.effect.Why.TheVariants as whys
 use Rattle.sp_msg.specs.declared.kept.Kept.{Kept}
 use Rattle.sp_rules.specs.Flow.{ends}
 use Rattle.sp_rules.specs.Prio as prio
-use Rattle.sp_rules.specs.Prio.{PrioState, admit_prio, judge_prio, prio_effects}
+use Rattle.sp_rules.specs.Prio.{PrioState, prio_effects}
 use Rattle.sp_rules.specs.PrioPeer as rows
 use Rattle.sp_rules.specs.PrioPeer.{PrioPeer}
-use Rattle.sp_rules.specs.Rel.{RelState, delivery, ended_by, is_end, restart_effects}
+use Rattle.sp_rules.specs.Rel.{RelState, delivery, ended_by, ending, is_end, restart_effects}
+use Rattle.sp_rules.specs.declared.kflow.FlowKind.{FlowKind}
 use Rattle.sp_rules.specs.Store.{Store, entry_in, evicted, expired_entries, removed}
 use Rattle.sp_rules.specs.declared.store.Entry.{Entry}
 use Rattle.laws_node.specs.Lives.{last_told, weight_told}
 use Rattle.laws_runs.specs.Weights.{EachHeld}
+use Rattle.laws_runs.proofs.EachKind.{of_delivery, of_ending}
 
 -- the last weight that is told of an end of an edge
 abbrev pub last_weight : (edge : ℕ) → NodeId → ℕ → List Effect → ℕ
@@ -53,6 +56,8 @@ each_both P (effects.Gone place id why ∷ xs) ys one two = each_both P xs ys on
 each_both P (effects.Delivered src seq payload ∷ xs) ys one two = each_both P xs ys one two
 each_both P (effects.DeliveredPrio src seq payload ∷ xs) ys one two = each_both P xs ys one two
 each_both P (effects.Ended flow ∷ xs) ys one two = each_both P xs ys one two
+each_both P (effects.DeliveredKrel src seq payload ∷ xs) ys one two = each_both P xs ys one two
+each_both P (effects.Kended flow ∷ xs) ys one two = each_both P xs ys one two
 each_both P (effects.Version version ∷ xs) ys one two = each_both P xs ys one two
 
 pub each_less : (P Q : WeightBody → Type 0) → ((u : WeightBody) → P u → Q u) → (es : List Effect) → EachHeld P es → EachHeld Q es
@@ -65,6 +70,8 @@ each_less P Q less (effects.Gone place id why ∷ es) h = each_less P Q less es 
 each_less P Q less (effects.Delivered src seq payload ∷ es) h = each_less P Q less es h
 each_less P Q less (effects.DeliveredPrio src seq payload ∷ es) h = each_less P Q less es h
 each_less P Q less (effects.Ended flow ∷ es) h = each_less P Q less es h
+each_less P Q less (effects.DeliveredKrel src seq payload ∷ es) h = each_less P Q less es h
+each_less P Q less (effects.Kended flow ∷ es) h = each_less P Q less es h
 each_less P Q less (effects.Version version ∷ es) h = each_less P Q less es h
 
 pub no_both : (xs ys : List Effect) → NoUpdates xs → NoUpdates ys → NoUpdates (xs ++ ys)
@@ -140,9 +147,20 @@ no_expired p now =
     (no_flat (λ (q : PrioPeer). rows.expired_effects q.peer q.store now) (λ q. no_expiring q.peer (expired_entries q.store now)) p.peers)
 
 pub no_rel : (t : Bool) (body : Body) → NoUpdates (cond t (delivery body ∷ []) [])
-no_rel true body = record { last = λ edge end w. refl; each = λ P. tt }
+no_rel true body =
+    record {
+      last = λ edge end w. of_delivery (λ e. last_weight edge end w (e ∷ []) ≡ w) (λ src seq payload. refl) (λ src seq payload. refl) body;
+      each = λ P. of_delivery (λ e. EachHeld P (e ∷ [])) (λ src seq payload. tt) (λ src seq payload. tt) body;
+    }
 no_rel false body = no_none
 
-pub no_restart : (r : RelState) (v : NodeId) → NoUpdates (restart_effects r v)
-no_restart r v = no_flat (ended_by v)
-    (λ f. no_either (is_end v (ends f) && f.active) (effects.Ended (ends f) ∷ []) (record { last = λ edge end w. refl; each = λ P. tt })) r.flows
+-- a flow that ended
+pub no_ending : (kind : FlowKind) (flow : Flow) → NoUpdates (ending kind flow ∷ [])
+no_ending kind flow = record {
+  last = λ edge end w. of_ending (λ e. last_weight edge end w (e ∷ []) ≡ w) kind flow refl refl;
+  each = λ P. of_ending (λ e. EachHeld P (e ∷ [])) kind flow tt tt;
+}
+
+pub no_restart : (kind : FlowKind) (r : RelState) (v : NodeId) → NoUpdates (restart_effects kind r v)
+no_restart kind r v =
+    no_flat (ended_by kind v) (λ f. no_either (is_end v (ends f) && f.active) (ending kind (ends f) ∷ []) (no_ending kind (ends f))) r.flows

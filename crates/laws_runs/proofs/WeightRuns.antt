@@ -48,7 +48,8 @@ use Rattle.laws_runs.proofs.Signed.{signs, signs_ready}
 use Rattle.laws_runs.proofs.SinceFacts.{all_more, moved_all, moved_since, since_is_all, since_more, since_start}
 use Rattle.laws_runs.proofs.Tables.{node_is, node_put, same_node}
 use Rattle.laws_runs.proofs.WeightFacts.{NoUpdates, each_both, each_less, last_both, last_weight, no_either, no_none, no_signed}
-use Rattle.laws_runs.proofs.WeightSteps.{WTurns, turned}
+use Rattle.laws_runs.proofs.WeightSteps.{turned}
+use Rattle.laws_runs.proofs.WeightTurns.{WTurns}
 
 -- ---- the rows of a node
 
@@ -206,7 +207,7 @@ weights_on arts x es js old e j new fits reads keys signs range (Moves m) unforg
     (turned x arts P Q (acting e) m.node m.input m.output m.after m.step
     (input_fits arts x es w m.node e m.input fits reads there.bytes range.fields m.reaches) is
     (known_weights arts x es js Q (said_more arts x es js e j same) m.output.answered (new_known arts x es js m.output.answered nothing.1))
-    (λ u own correct. own_known arts x es js w new e j m same before (bodies.Weight u) own) (rows_of x P (acting e) m.node is))
+    (λ index u own correct. own_known arts x es js w new e j m same before index (bodies.Weight u) own) (rows_of x P (acting e) m.node is))
 weights_on arts x es js old e j new fits reads keys signs range (Stays spends) unforged h =
     rested_on arts x es js e j signs.entries old new (spends_rest x old e j new spends) h
 weights_on arts x es js old e j new fits reads keys signs range (Lives on life) unforged h =

@@ -1,13 +1,9 @@
 -- What each step tells and keeps of weights.
-use Rattle.std.proofs.Common.{◌≡◌, ℕ, ◌*◌, ◌==◌, Bool, true, false, cond, List, [], ◌∷◌, ◌++◌, length, Option, Some, None, refl, sym, ap, subst, ◌∙◌, inl, inr}
-use Rattle.std.proofs.Common.{nat_lt, filter, map}
+use Rattle.std.proofs.Common.{◌≡◌, ℕ, Bool, true, false, cond, List, [], ◌∷◌, ◌++◌, Option, Some, None, refl, sym, ap, subst, ◌∙◌, inl, inr, arith, filter, map}
 use Rattle.std.specs.Prelude.{◌&&◌}
-use Rattle.std.specs.Option.{option_and_then}
-use Rattle.std.specs.List.{slice_get}
 use Rattle.std.proofs.lemmas.Bool.{cases_Bool}
 use Rattle.sp_base.specs.declared.id.NodeId.{NodeId}
 use Rattle.sp_msg.specs.declared.body.Ack.{Ack}
-use Rattle.sp_msg.specs.declared.body.Body.{Body}
 use Rattle.sp_msg.specs.declared.body.Body.TheVariants as bodies
 use Rattle.sp_msg.specs.declared.body.WeightBody.{WeightBody}
 use Rattle.sp_msg.specs.declared.effect.Effect.{Effect}
@@ -15,133 +11,61 @@ use Rattle.sp_msg.specs.declared.effect.Effect.TheVariants as effects
 use Rattle.sp_msg.specs.declared.effect.Why.TheVariants as whys
 use Rattle.sp_msg.specs.declared.kept.Kept.{Kept}
 use Rattle.sp_msg.specs.declared.refused.SendRefused.{SendRefused}
-use Rattle.sp_rules.specs.Answers.{ack_answer, epoch_answer, is_new, prio_answer, rel_answer, weight_answer}
-use Rattle.sp_rules.specs.Arrivals.{arrival_at, handled, has_risen, link_after, parts_met, before_document, document_at, read_by}
+use Rattle.sp_rules.specs.Answers.{ack_answer, epoch_answer, is_new, prio_answer, weight_answer}
+use Rattle.sp_rules.specs.Arrivals.{arrival_at, handled, has_risen, link_after, parts_met, before_document, document_at, read_by, unheard}
 use Rattle.sp_rules.specs.Arts.{Arts}
 use Rattle.sp_rules.specs.Documents.{after_publish, publish_effects, under_topology, version_effects}
-use Rattle.sp_rules.specs.Flow.{FlowState, ends, flow_said}
+use Rattle.sp_rules.specs.Flow.{ends, flow_said}
 use Rattle.sp_rules.specs.Parts as parts
 use Rattle.sp_rules.specs.Topologies.{is_shut, removed_of, weights_in}
 use Rattle.sp_rules.specs.declared.store.Entry.{Entry}
 use Rattle.sp_topology.specs.declared.topology.Topology.{Topology}
-use Rattle.sp_rules.specs.Handle.{Arrival, handle, handle_all, heard_where, met, offer_of, offer_to, weight_effects}
+use Rattle.sp_rules.specs.Handle.{Arrival, ack_item, handle, handle_all, heard_where, met, met_effects, offer_to, rel_answer_to, rel_item, weight_effects}
+use Rattle.sp_rules.specs.Kflow.{ack_body, pushed}
+use Rattle.sp_rules.specs.KflowSends.{after_take_krel, krel_number, krel_sends, krel_sent, send_krel_refusal}
 use Rattle.sp_rules.specs.Link.{advanced}
 use Rattle.sp_rules.specs.Lives.{are_held, is_dated, judge_epoch, origin_said}
 use Rattle.sp_rules.specs.Node.{NodeState, call_refusal, called, kept_or, link_in, signed_now, signed_once, with_link}
-use Rattle.sp_rules.specs.Parts.{Fixed, Parts, is_signed, nodes_of}
+use Rattle.sp_rules.specs.Parts.{Fixed, Parts, flows_of, is_signed, nodes_of, with_flows}
 use Rattle.sp_rules.specs.Pieces.{Piece, WeightPiece, PrioAckPiece, PrioPiece, ReportPiece, AckPiece, RelPiece, EpochPiece}
 use Rattle.sp_rules.specs.Polls.{frame_to, polled, is_served, parts_after}
 use Rattle.sp_rules.specs.Prio as prio
-use Rattle.sp_rules.specs.Prio.{PrioState, admit_prio, judge_prio, prio_effects}
+use Rattle.sp_rules.specs.Prio.{admit_prio, judge_prio, prio_effects}
 use Rattle.sp_rules.specs.PrioPeer as rows
-use Rattle.sp_rules.specs.PrioPeer.{PrioPeer}
 use Rattle.sp_rules.specs.Rel as rel
-use Rattle.sp_rules.specs.Rel.{RelState, admit_ack, admit_rel, delivery, ended_by, is_end, is_to, judge_ack_of, judge_rel_of, pushed_in, rel_effects, reported}
-use Rattle.sp_rules.specs.Rel.{restart_effects}
+use Rattle.sp_rules.specs.Rel.{RelState, admit_ack, admit_rel, is_to, judge_ack_of, judge_rel_of, pushed_in, rel_effects, reported, restart_effects, settled}
 use Rattle.sp_rules.specs.Sends.{after_take_prio, after_take_rel, mask_in, own_prio, prio_body, prio_sent, rel_body, rel_number, rel_refusal, rel_sent}
 use Rattle.sp_rules.specs.Sends.{send_prio_refusal, signer_refusal, weight_body, weight_number, weight_refusal, weight_sent}
 use Rattle.sp_rules.specs.Steps as steps
 use Rattle.sp_rules.specs.Steps.{Input, NodeStep, Output, accepted, arrived, refused_call, refused_send, replied, document_effects}
 use Rattle.sp_rules.specs.Store.{oldest}
-use Rattle.sp_rules.specs.Ticks.{ack_effects, at_time, due_now, settled_by, time_after}
-use Rattle.sp_rules.specs.Weights.{WeightState, held, held_in, offer, row_for, row_of, weight_of, replaced}
+use Rattle.sp_rules.specs.Ticks.{ack_effects, after_plain, after_tick, at_time, due_now, second_refusal, settled_by, tick_effects, time_after}
+use Rattle.sp_rules.specs.Weights.{WeightState, held, row_for, replaced}
+use Rattle.sp_rules.specs.declared.kflow.FlowKind.{FlowKind}
+use Rattle.sp_rules.specs.declared.kflow.FlowKind.TheVariants.{Plain, Paths}
 use Rattle.sp_rules.specs.declared.answers.Item.TheVariants as items
 use Rattle.sp_rules.specs.declared.answers.PrioAnswer.{PrioAnswer}
 use Rattle.sp_rules.specs.declared.answers.PrioAnswer.TheVariants as prios
 use Rattle.sp_rules.specs.declared.node.NodeRefused.{NodeRefused}
-use Rattle.sp_rules.specs.declared.weights.Offer.TheVariants as offers
-use Rattle.sp_rules.specs.declared.weights.TheConstants.{MAX_OWN_HEARD}
 use Rattle.sp_topology.specs.declared.topology.Edge.{Edge}
 use Rattle.laws_node.specs.About.{HasNode}
 use Rattle.laws_node.specs.Inputs.{InputFits}
 use Rattle.laws_node.specs.Asked.{IsOwn, NewKeep}
 use Rattle.laws_node.proofs.AskedLemmas.{new_left, new_right}
+use Rattle.laws_node.proofs.FlowKinds.{weights_beside}
 use Rattle.laws_node.proofs.Handles as judged
 use Rattle.laws_node.proofs.About.{weight_about}
 use Rattle.laws_node.proofs.Own.{in_own_format, left, weight_sent_fits}
-use Rattle.laws_node.specs.HeldUpdates as lists
-use Rattle.laws_node.proofs.LastWeights.{At, HasRows, IsUpdateAt, held_said, length_stays, new_at, said as row_said}
+use Rattle.laws_node.proofs.LastWeights.{HasRows, new_at}
 use Rattle.laws_node.proofs.Adopting.{publishing, reading}
 use Rattle.laws_node.proofs.Tables.{cond_either}
 use Rattle.sp_runs.specs.Settings.{Setting}
-use Rattle.laws_runs.specs.Weights.{EachHeld}
 use Rattle.laws_runs.specs.Signs.{NodeIs, sizes_at}
 use Rattle.laws_runs.proofs.Lists.{both}
 use Rattle.laws_runs.proofs.NoStarts.{pieces_at}
-use Rattle.laws_runs.proofs.WeightFacts.{NoUpdates, each_both, last_both, last_weight, no_acked, no_both, no_either, no_expired, no_gone, no_none, no_prio}
-use Rattle.laws_runs.proofs.WeightFacts.{no_rel, no_restart, no_signed, no_flat}
-
--- ---- what a step makes of the weights
-
-pub record WTurns (P : WeightBody → Type 0) (old : WeightState) (es : List Effect) (new : WeightState) : Type 0 where
-  pub edges : new.edges ≡ old.edges
-  pub rows : HasRows new
-  pub said : (edge : ℕ) (end : NodeId) (row : ℕ) → At old edge end.0 row → row_said new row ≡ last_weight edge end (row_said old row) es
-  pub each : EachHeld P es
-
-pub at_later : (old new : WeightState) (edge end row : ℕ) → new.edges ≡ old.edges → At old edge end row → At new edge end row
-at_later old new edge end row e at = record { joined = at.joined; there = ap (λ es. slice_get es edge) e ∙ at.there; placed = at.placed }
-
-w_same : (P : WeightBody → Type 0) (old new : WeightState) (es : List Effect) → NoUpdates es → new.edges ≡ old.edges → new.rows ≡ old.rows → HasRows old
-    → WTurns P old es new
-w_same P old new es none e f h = record {
-  edges = e;
-  rows = record { rows = ap length f ∙ h.rows ∙ ap (λ (x : List Edge). 2 * length x) (sym e) };
-  said = λ edge end row at. ap (λ r. weight_of (held_in r row)) f ∙ sym (none.last edge end (row_said old row));
-  each = none.each P;
-}
-
-w_on : (P : WeightBody → Type 0) (old mid new : WeightState) (xs ys : List Effect) → WTurns P old xs mid → WTurns P mid ys new → WTurns P old (xs ++ ys) new
-w_on P old mid new xs ys one two = record {
-  edges = two.edges ∙ one.edges;
-  rows = two.rows;
-  said =
-      λ edge end row at. two.said edge end row (at_later old mid edge end.0 row one.edges at) ∙ ap (λ w. last_weight edge end w ys) (one.said edge end row at)
-      ∙ sym (last_both edge end (row_said old row) xs ys);
-  each = each_both P xs ys one.each two.each;
-}
-
--- an update is held
-held_turns : (P : WeightBody → Type 0) (s : WeightState) (o : Kept) → IsUpdateAt s o.body → ((u : WeightBody) → o.body ≡ bodies.Weight u → P u) → HasRows s
-    → WTurns P s (weight_effects o.body) (held s o)
-held_turns P s o at vouched h = record {
-  edges = refl;
-  rows = record { rows = length_stays s.rows o (row_for s.edges o.body) ∙ h.rows };
-  said = λ edge end row here. held_said s o edge end.0 row h here at ∙ same edge end (row_said s row) o.body at.update at.is;
-  each = subst (λ b. EachHeld P (weight_effects b)) (sym at.is) (vouched at.update at.is, tt);
-}
-  where
-    same : (edge : ℕ) (end : NodeId) (w : ℕ) (body : Body) (u : WeightBody) → body ≡ bodies.Weight u
-        → lists.last_weight edge end.0 w (record { body = body; signature = o.signature } ∷ []) ≡ last_weight edge end w (weight_effects body)
-    same edge end w (bodies.Weight v) u e = refl
-    same edge end w (bodies.Prio v) u e = absurd (cc)
-    same edge end w (bodies.Rel v) u e = absurd (cc)
-    same edge end w (bodies.Ack v) u e = absurd (cc)
-    same edge end w (bodies.Krel v) u e = absurd (cc)
-    same edge end w (bodies.Kack v) u e = absurd (cc)
-    same edge end w (bodies.Epoch v) u e = absurd (cc)
-
-offered : (me : NodeId) (s : WeightState) (body : Body) → offer_to me s body ≡ offers.New → offer_of s body ≡ offers.New
-offered me s (bodies.Weight u) e = go ((u.origin.0 == me.0) && nat_lt MAX_OWN_HEARD u.seq) e
-  where
-    go : (t : Bool) → cond t offers.Foreign (offer s u) ≡ offers.New → offer s u ≡ offers.New
-    go true e = absurd (cc)
-    go false e = e
-offered me s (bodies.Prio u) e = absurd (cc)
-offered me s (bodies.Rel u) e = absurd (cc)
-offered me s (bodies.Ack u) e = absurd (cc)
-offered me s (bodies.Krel u) e = absurd (cc)
-offered me s (bodies.Kack u) e = absurd (cc)
-offered me s (bodies.Epoch u) e = absurd (cc)
-
--- the row of an own update is there
-own_at : (s : WeightState) (u : WeightBody) (row : ℕ) → row_for s.edges (bodies.Weight u) ≡ Some row → IsUpdateAt s (bodies.Weight u)
-own_at s u row e = go (slice_get s.edges u.edge.0) refl e
-  where
-    go : (o : Option Edge) → slice_get s.edges u.edge.0 ≡ o → option_and_then (λ (f : Edge). row_of u.edge.0 f u.origin.0) o ≡ Some row
-        → IsUpdateAt s (bodies.Weight u)
-    go None there e = absurd (cc)
-    go (Some f) there e = record { update = u; is = refl; edge = f; there = there; row = row; placed = e }
+use Rattle.laws_runs.proofs.WeightFacts.{NoUpdates, no_acked, no_both, no_either, no_expired, no_gone, no_none, no_prio}
+use Rattle.laws_runs.proofs.WeightFacts.{no_ending, no_rel, no_restart, no_signed, no_flat}
+use Rattle.laws_runs.proofs.WeightTurns.{WTurns, w_same, w_on, held_turns, offered, own_at}
 
 -- ---- pieces
 
@@ -158,8 +82,8 @@ w_heard prios.BadSig v number p = refl
 w_heard prios.Epoch v number p = refl
 
 -- the frame of another life of its neighbour changes no weight
-w_greeted : (t : Bool) (v : NodeId) (p : Parts) → (cond t (record p { prio = prio.unheard p.prio v.0; rel = rel.unheard p.rel v }) p).weights ≡ p.weights
-w_greeted t v p = w_either t (record p { prio = prio.unheard p.prio v.0; rel = rel.unheard p.rel v }) p refl
+w_greeted : (t : Bool) (v : NodeId) (p : Parts) → (cond t (unheard v p) p).weights ≡ p.weights
+w_greeted t v p = w_either t (unheard v p) p refl
 
 module _ (P : WeightBody → Type 0) where
   still : (p : Parts) (w : WeightState) (es : List Effect) → NoUpdates es → w ≡ p.weights → HasRows p.weights → WTurns P p.weights es w
@@ -185,21 +109,28 @@ module _ (P : WeightBody → Type 0) where
       still p (heard_where answer at.from number (cond t admitted p)).weights (cond t (prio_effects p.prio o (Some at.from)) [])
       (no_either t (prio_effects p.prio o (Some at.from)) (no_prio p.prio o (Some at.from)))
       (w_heard answer at.from number (cond t admitted p) ∙ w_either t admitted p refl) h
-  one_turns arts at p (ReportPiece flow sboot dboot base have) new h =
-      still p (handle arts at p (ReportPiece flow sboot dboot base have)).parts.weights [] no_none
-      (w_either (are_held p.lives flow sboot dboot) (record p { rel = reported p.rel at.from flow base have }) p refl) h
-  one_turns arts at p (AckPiece flow o) new h =
-      let t = is_new (items.Ack (ack_answer (is_signed arts at.fixed o) (is_dated p.lives o.body) (judge_ack_of p.rel flow o.body))) in
-      still p (cond t (record p { rel = admit_ack p.rel o }) p).weights (cond t [] []) (no_either t [] no_none)
-      (w_either t (record p { rel = admit_ack p.rel o }) p refl) h
-  one_turns arts at p (RelPiece flow o) new h =
-      let t = is_new (items.Rel (rel_answer (is_signed arts at.fixed o) (is_dated p.lives o.body) (judge_rel_of p.rel flow o.body))) in
-      still p (cond t (record p { rel = admit_rel p.rel o }) p).weights (cond t (rel_effects p.rel o) [])
-      (no_either t (rel_effects p.rel o) (no_rel (is_to p.rel (flow_said o.body)) o.body)) (w_either t (record p { rel = admit_rel p.rel o }) p refl) h
+  one_turns arts at p (ReportPiece kind flow sboot dboot base have) new h =
+      let r = reported (flows_of kind p) at.from flow base have in
+      still p (handle arts at p (ReportPiece kind flow sboot dboot base have)).parts.weights [] no_none
+      (w_either (are_held p.lives flow sboot dboot) (with_flows kind r p) p (weights_beside kind r p)) h
+  one_turns arts at p (AckPiece kind flow o) new h =
+      let r = flows_of kind p in
+      let t = is_new (ack_item kind (ack_answer (is_signed arts at.fixed o) (is_dated p.lives o.body) (judge_ack_of r flow o.body))) in
+      still p (cond t (with_flows kind (admit_ack r o) p) p).weights (cond t [] []) (no_either t [] no_none)
+      (w_either t (with_flows kind (admit_ack r o) p) p (weights_beside kind (admit_ack r o) p)) h
+  one_turns arts at p (RelPiece kind flow o) new h =
+      let r = flows_of kind p in
+      let t = is_new (rel_item kind (rel_answer_to arts at p (judge_rel_of r flow o.body) o)) in
+      still p (cond t (with_flows kind (admit_rel r o) p) p).weights (cond t (rel_effects r o) [])
+      (no_either t (rel_effects r o) (no_rel (is_to r (flow_said o.body)) o.body))
+      (w_either t (with_flows kind (admit_rel r o) p) p (weights_beside kind (admit_rel r o) p)) h
   one_turns arts at p (EpochPiece o) new h =
       let t = is_new (items.Epoch (epoch_answer (is_signed arts at.fixed o) (judge_epoch at.fixed.me p.lives o.body))) in
-      still p (cond t (met p o) p).weights (cond t (restart_effects p.rel (origin_said o.body)) [])
-      (no_either t (restart_effects p.rel (origin_said o.body)) (no_restart p.rel (origin_said o.body))) (w_either t (met p o) p refl) h
+      let v = origin_said o.body in
+      let ended = restart_effects Plain p.rel v in
+      let paths = restart_effects Paths p.kflow.flows v in
+      still p (cond t (met p o) p).weights (cond t (met_effects p v) [])
+      (no_either t (met_effects p v) (no_both ended paths (no_restart Plain p.rel v) (no_restart Paths p.kflow.flows v))) (w_either t (met p o) p refl) h
 
   all_turns : (arts : Arts) (at : Arrival) (p : Parts) (pieces : List Piece)
       → NewKeep (λ o. (u : WeightBody) → o.body ≡ bodies.Weight u → P u) (handle_all arts at p pieces).answered → HasRows p.weights
@@ -219,14 +150,18 @@ no_leaving : (place : ℕ) (es : List Entry) → NoUpdates (map (λ e. effects.G
 no_leaving place [] = no_none
 no_leaving place (e ∷ es) = let rest = no_leaving place es in record { last = λ edge end w. rest.last edge end w; each = λ P. rest.each P }
 
-no_ending : (gone : List NodeId) (f : FlowState) → NoUpdates (rel.ended_effect gone f)
-no_ending gone f = no_either (f.active && rel.is_over gone (ends f)) (effects.Ended (ends f) ∷ []) (record { last = λ edge end w. refl; each = λ P. tt })
+no_ended : (kind : FlowKind) (gone : List NodeId) (r : RelState) → NoUpdates (rel.closed_effects kind r gone)
+no_ended kind gone r =
+    no_flat (rel.ended_effect kind gone)
+    (λ f. no_either (f.active && rel.is_over gone (ends f)) (rel.ending kind (ends f) ∷ []) (no_ending kind (ends f))) r.flows
 
 no_closed : (p : Parts) (least : List ℕ) (gone : List NodeId) → NoUpdates (parts.closed_effects p least gone)
 no_closed p least gone =
-    no_both (prio.closed_effects p.prio least gone) (rel.closed_effects p.rel gone)
+    let plain = rel.closed_effects Plain p.rel gone in
+    let paths = rel.closed_effects Paths p.kflow.flows gone in
+    no_both (prio.closed_effects p.prio least gone) (plain ++ paths)
     (no_flat (rows.closed_effects least gone) (λ q. no_leaving q.peer (filter (rows.leaves (is_shut least q.edge) gone) q.store.entries)) p.prio.peers)
-    (no_flat (rel.ended_effect gone) (no_ending gone) p.rel.flows)
+    (no_both plain paths (no_ended Plain gone p.rel) (no_ended Paths gone p.kflow.flows))
 
 version_turns : (P : WeightBody → Type 0) (n : NodeState) (bytes : List ℕ) (t : Topology) → HasRows n.parts.weights
     → WTurns P n.parts.weights (version_effects n t) (under_topology n bytes t).parts.weights
@@ -266,7 +201,7 @@ module _ (x : Setting) (arts : Arts) (K : Kept → Type 0) (P : WeightBody → T
 
   pub turned : (n : NodeState) (i : Input) (output : Output) (after : NodeState) → NodeStep arts n i output after → InputFits i → NodeIs x K u n
       → NewKeep (λ o. (v : WeightBody) → o.body ≡ bodies.Weight v → P v) output.answered
-      → ((v : WeightBody) → IsOwn arts n i output.effects (bodies.Weight v) → P v) → HasRows n.parts.weights → Done n output after
+      → ((index : ℕ) (v : WeightBody) → IsOwn arts n i output.effects index (bodies.Weight v) → P v) → HasRows n.parts.weights → Done n output after
   turned n (steps.Poll v) output after step input is new own h = go (call_refusal n v) (ap (λ (o : Output). o.effects) step.0) step.1
     where
       go : (r : Option NodeRefused) → output.effects ≡ (refused_call r (replied (steps.Frame (frame_to arts n v)))).effects
@@ -295,19 +230,30 @@ module _ (x : Setting) (arts : Arts) (K : Kept → Type 0) (P : WeightBody → T
           (document_effects arts left document) one (read_turns P arts left document one.rows))
       go (Some refused) new e f = by n output after n [] e f (plain n [] no_none h)
   turned n (steps.Tick now) output after step input is new own h =
-      by n output after (settled_by arts (at_time n now) (due_now n) (signer_refusal n.signer))
-      (prio.expired_effects n.parts.prio (time_after n now) ++ ack_effects arts (due_now n) (signer_refusal n.signer))
-      (ap (λ (o : Output). o.effects) step.0) step.1 (go (due_now n) (signer_refusal n.signer))
+      by n output after (after_tick arts n now) (tick_effects arts n now) (ap (λ (o : Output). o.effects) step.0) step.1
+      (w_same P n.parts.weights (after_tick arts n now).parts.weights (tick_effects arts n now) silent (ap (λ (s : WeightState). s.edges) same)
+      (ap (λ (s : WeightState). s.rows) same) h)
     where
-      go : (o : Option Ack) (r : Option SendRefused)
-          → WTurns P n.parts.weights (prio.expired_effects n.parts.prio (time_after n now) ++ ack_effects arts o r)
-          (settled_by arts (at_time n now) o r).parts.weights
-      go None r = w_same P n.parts.weights n.parts.weights _ (no_both _ [] (no_expired n.parts.prio (time_after n now)) no_none) refl refl h
-      go (Some ack) (Some refusal) = w_same P n.parts.weights n.parts.weights _ (no_both _ [] (no_expired n.parts.prio (time_after n now)) no_none) refl refl h
-      go (Some ack) None =
-          w_same P n.parts.weights n.parts.weights _
-          (no_both _ (effects.Signed (arts.spell (bodies.Ack ack)) ∷ []) (no_expired n.parts.prio (time_after n now))
-          (no_signed (arts.spell (bodies.Ack ack)) [] no_none)) refl refl h
+      none : (kind : FlowKind) (o : Option Ack) (r : Option SendRefused) → NoUpdates (ack_effects arts kind o r)
+      none kind None r = no_none
+      none kind (Some ack) (Some refusal) = no_none
+      none kind (Some ack) None = no_signed (arts.spell (ack_body kind ack)) [] no_none
+
+      silent : NoUpdates (tick_effects arts n now)
+      silent =
+          no_both (prio.expired_effects n.parts.prio (time_after n now)) _ (no_expired n.parts.prio (time_after n now))
+          (no_both _ _ (none Plain (due_now Plain n) (signer_refusal n.signer)) (none Paths (due_now Paths n) (second_refusal arts n now)))
+
+      settled_weights : (kind : FlowKind) (m : NodeState) (o : Option Ack) (r : Option SendRefused)
+          → (settled_by arts kind m o r).parts.weights ≡ m.parts.weights
+      settled_weights kind m None r = refl
+      settled_weights kind m (Some ack) (Some refusal) = refl
+      settled_weights kind m (Some ack) None = weights_beside kind (settled (flows_of kind m.parts) (signed_now arts m (ack_body kind ack))) m.parts
+
+      same : (after_tick arts n now).parts.weights ≡ n.parts.weights
+      same =
+          settled_weights Paths (after_plain arts n now) (due_now Paths n) (second_refusal arts n now)
+          ∙ settled_weights Plain (at_time n now) (due_now Plain n) (signer_refusal n.signer)
   turned n (steps.SendRel dst payload) output after step input is new own h = go (rel_refusal n dst) (ap (λ (o : Output). o.effects) step.0) step.1
     where
       go : (r : Option SendRefused) → output.effects ≡ (refused_send r (accepted (rel_number n dst) (rel_sent arts n dst payload))).effects
@@ -342,7 +288,8 @@ module _ (x : Setting) (arts : Arts) (K : Kept → Type 0) (P : WeightBody → T
           let body = weight_body n v weight in
           let o = signed_now arts n body in
           let row : row_for n.parts.weights.edges body ≡ Some facts.row = ap (λ (es : List Edge). row_for es body) is.holds.parts.weights.edges ∙ facts.place in
-          let mine : (w : WeightBody) → body ≡ bodies.Weight w → P w = λ w same. own w (subst (IsOwn arts n (steps.SetWeight v weight) output.effects) same
+          let mine : (w : WeightBody) → body ≡ bodies.Weight w → P w = λ w same. own n.signer.index w
+          (subst (IsOwn arts n (steps.SetWeight v weight) output.effects n.signer.index) same
           (record {
             mine = refl;
             fields = in_own_format (sizes_at x K u) n body is.holds facts.fields;
@@ -352,14 +299,30 @@ module _ (x : Setting) (arts : Arts) (K : Kept → Type 0) (P : WeightBody → T
             before = [];
             after = weight_effects body;
             told = e;
+            place = omega arith;
           })) in
           by n output after (signed_once n (record n.parts { weights = held n.parts.weights o })) (weight_sent arts n v weight) e f
           (w_on P n.parts.weights n.parts.weights (held n.parts.weights o) (effects.Signed (arts.spell body) ∷ []) (weight_effects body)
           (plain n (effects.Signed (arts.spell body) ∷ []) (no_signed (arts.spell body) [] no_none) h)
           (held_turns P n.parts.weights o (own_at n.parts.weights _ facts.row row) mine h))
       go (Some refused) free e f = by n output after n [] e f (plain n [] no_none h)
+  turned n (steps.SendKrel m) output after step input is new own h =
+      go (send_krel_refusal n m step.choice) (ap (λ (o : Output). o.effects) step.output_is) step.new_is
+    where
+      sent : NodeState
+      sent = signed_once n (record n.parts { kflow = pushed n.parts.kflow (signed_now arts n (krel_sends n m step.choice)) m.paths })
+
+      go : (r : Option SendRefused) → output.effects ≡ (refused_send r (accepted (krel_number n m.dst) (krel_sent arts n m step.choice))).effects
+          → after ≡ kept_or r n sent → Done n output after
+      go None e f =
+          by n output after sent (krel_sent arts n m step.choice) e f
+          (w_same P n.parts.weights n.parts.weights (krel_sent arts n m step.choice) (no_signed (arts.spell (krel_sends n m step.choice)) [] no_none) refl refl
+          h)
+      go (Some refused) e f = by n output after n [] e f (plain n [] no_none h)
   turned n (steps.TakeRel src) output after step input is new own h =
       by n output after (after_take_rel n src) [] (ap (λ (o : Output). o.effects) step.0) step.1 (plain n [] no_none h)
+  turned n (steps.TakeKrel src) output after step input is new own h =
+      by n output after (after_take_krel n src) [] (ap (λ (o : Output). o.effects) step.0) step.1 (plain n [] no_none h)
   turned n steps.TakePrio output after step input is new own h =
       by n output after (after_take_prio n) (rows.gone 0 whys.Taken (oldest n.parts.prio.inbox)) (ap (λ (o : Output). o.effects) step.0) step.1
       (w_same P n.parts.weights n.parts.weights (rows.gone 0 whys.Taken (oldest n.parts.prio.inbox))

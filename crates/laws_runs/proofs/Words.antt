@@ -1,6 +1,6 @@
 -- Each answer to an event in its range has words.
 use Rattle.std.proofs.Common.{◌≡◌, ◌≢◌, ◌<◌, ℕ, ◌==◌, Bool, true, false, cond, not, nat_lt, List, [], ◌∷◌, length, Option, Some, None, refl, sym, ap}
-use Rattle.std.proofs.Common.{subst, ◌∙◌, inl, inr, arith}
+use Rattle.std.proofs.Common.{subst, ◌∙◌, inl, inr, arith, ◌&&◌}
 use Rattle.std.specs.Prelude.{◌+◌, ◌||◌, Err, Ok, slice_get, position, unwrap_or}
 use Rattle.std.specs.List.{All, list_any, position_or_len}
 use Rattle.std.proofs.lemmas.Bool.{cases_Bool, ne_eqb}
@@ -19,10 +19,14 @@ use Rattle.sp_msg.specs.declared.refused.SendRefused.TheVariants as refusals
 use Rattle.sp_rules.specs.declared.rel.RelRefused.TheVariants as room_refusals
 use Rattle.sp_rules.specs.Flow.{is_full, FlowState}
 use Rattle.sp_rules.specs.Node.{NodeState, Signer, call_refusal}
-use Rattle.sp_rules.specs.Parts.{edge_to}
+use Rattle.sp_msg.specs.declared.mask.Mask.{Mask as MaskOf}
+use Rattle.sp_rules.specs.Kflow as kflow
+use Rattle.sp_rules.specs.Kflow.{KState, busy, paths_to, waiting_mask}
+use Rattle.sp_rules.specs.KflowSends.{KSend, krel_refusal, no_mask, no_place, send_krel_refusal}
+use Rattle.sp_rules.specs.Parts.{edge_to, is_first}
 use Rattle.sp_rules.specs.Polls.{frame_to}
 use Rattle.sp_rules.specs.Prio as prio
-use Rattle.sp_rules.specs.Rel.{RelState, flow_in, own_flow, room, are_ends}
+use Rattle.sp_rules.specs.Rel.{RelState, are_ends, flow_in, is_waiting, own_flow, room}
 use Rattle.sp_rules.specs.Masks.{Choice, Mask, OnlyPaths}
 use Rattle.sp_rules.specs.Sends.{PrioSend, is_unmet, no_life, no_paths, no_room, prio_refusal}
 use Rattle.sp_rules.specs.Sends.{rel_refusal, send_prio_refusal, signer_refusal, weight_refusal, weight_refusal_at}
@@ -118,7 +122,7 @@ rel_words n dst left =
     (life_words (is_unmet n dst))
     (both_have (no_room (room n.parts.rel dst)) (signer_refusal n.signer) (room_words n.parts.rel dst) (signer_words n.signer left))
 
--- ---- a priority message
+-- ---- a priority message, and one on paths
 
 paths_words : (r : Choice) → HasWords (no_paths r)
 paths_words (Mask mask) = tt
@@ -135,6 +139,42 @@ prio_words n m choice left =
     go true b = told _
     go false true = told _
     go false false = signer_words n.signer left
+
+-- the room for a message on so many paths
+place_words : (k : KState) (dst : NodeId) (count : ℕ) → HasWords (no_place (kflow.room k dst count))
+place_words k dst count =
+    go (not (are_ends r (own_flow r dst) r.me dst)) (is_full r.bound f) (is_waiting r dst && not (paths_to k dst == count))
+  where
+    r : RelState
+    r = k.flows
+
+    f : FlowState
+    f = flow_in r.flows (own_flow r dst)
+
+    busy_words : (b : Bool)
+        → HasWords (no_place (cond b (Err (refusals.Busy (paths_to k dst))) (Ok (record { seq = f.at.have + 1; mask = waiting_mask k dst }))))
+    busy_words true = told _
+    busy_words false = tt
+
+    go : (a b c : Bool)
+        → HasWords (no_place
+        (busy k dst count (cond a (Err room_refusals.BadEnd) (cond b (Err (room_refusals.Full f.at.base f.at.have)) (Ok (f.at.have + 1))))))
+    go true b c = told _
+    go false true c = told _
+    go false false c = busy_words (is_waiting r dst && not (paths_to k dst == count))
+
+krel_words : (n : NodeState) (m : KSend) (choice : Choice) → HasLeft n.signer → HasWords (send_krel_refusal n m choice)
+krel_words n m choice left =
+    both_have (krel_refusal n m) (no_mask (waiting_mask n.parts.kflow m.dst) choice)
+    (both_have (no_life (is_first n.fixed || is_unmet n m.dst)) (or_else (no_place (kflow.room n.parts.kflow m.dst m.paths)) (signer_refusal n.signer))
+    (life_words (is_first n.fixed || is_unmet n m.dst))
+    (both_have (no_place (kflow.room n.parts.kflow m.dst m.paths)) (signer_refusal n.signer) (place_words n.parts.kflow m.dst m.paths)
+    (signer_words n.signer left)))
+    (mask_words (waiting_mask n.parts.kflow m.dst))
+  where
+    mask_words : (waiting : Option MaskOf) → HasWords (no_mask waiting choice)
+    mask_words None = paths_words choice
+    mask_words (Some mask) = tt
 
 -- ---- a weight
 
@@ -250,6 +290,11 @@ each_reply_has_words arts x es js w fits carries run few e n after input output 
         let moves = stepped arts n input (steps.SendPrio m) output after is step in
         subst words (sym moves.output_is)
         (sent_words x number _ _ (send_prio_refusal n m moves.choice) (prio_words n m moves.choice left))
+    go (events.Krel s d paths payload) range there is =
+        let m : KSend = record { dst = d; paths = paths; payload = payload } in
+        let moves = stepped arts n input (steps.SendKrel m) output after is step in
+        subst words (sym moves.output_is) (sent_words x number _ _ (send_krel_refusal n m moves.choice) (krel_words n m moves.choice left))
+    go (events.KTake d s) range there is = subst words (sym (stepped arts n input (steps.TakeKrel s) output after is step).0) (told _)
     go (events.Take d s) range there is = subst words (sym (stepped arts n input (steps.TakeRel s) output after is step).0) (told _)
     go (events.TakePrio d) range there is =
         let moves = stepped arts n input steps.TakePrio output after is step in

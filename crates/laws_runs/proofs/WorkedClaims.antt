@@ -32,6 +32,7 @@ use Rattle.sp_runs.specs.Weights.{effective_weight}
 use Rattle.sp_runs.specs.Worlds.{World, at_start, node_in}
 use Rattle.sp_journal.specs.declared.entry.Entry.{Entry}
 use Rattle.sp_schedule_events.specs.declared.event.Event.{Event}
+use Rattle.sp_rules.specs.declared.kflow.FlowKind.TheVariants.{Plain}
 use Rattle.laws_runs.specs.Flows.{flow_at}
 use Rattle.laws_runs.specs.Priority.{AreOnce}
 use Rattle.laws_runs.specs.States.{NodeClaims, SignClaims, is_good_in}
@@ -197,13 +198,13 @@ sixteen_at_least format = go (format == FORMAT_1)
     go false = omega arith
 
 says : (w : World) (u : NodeId) (n : NodeState) (k : ℕ) (o : Kept) → SignClaims toys (line []) (send ∷ []) signed_one w → node_in w.nodes u ≡ Some n
-    → slice_get (flow_at n (node 1) (node 3)).at.list k ≡ Some o → signer_of o.body ≡ node 1 → encoded o.body ≡ object
+    → slice_get (flow_at Plain n (node 1) (node 3)).at.list k ≡ Some o → signer_of o.body ≡ node 1 → encoded o.body ≡ object
 says w u n k o h at there signer =
     let sizes = sizes_of (λ o. IsTrue (is_good_in toys (line []) (send ∷ []) signed_one o)) n in
     let wide = sixteen_at_least sizes.format in
-    let row = read sizes n.signer.index n.parts.rel.flows flow (omega arith, omega (arith, wide)) (omega arith, omega (arith, wide))
+    let row = read Plain sizes n.signer.index n.parts.rel.flows flow (omega arith, omega (arith, wide)) (omega arith, omega (arith, wide))
     (h.kept u n at).parts.rel.flows in
-    let good = both _ _ (all_get (Fits sizes) (flow_at n (node 1) (node 3)).at.list k o row.messages there).holds in
+    let good = both _ _ (all_get (Fits sizes) (flow_at Plain n (node 1) (node 3)).at.list k o row.messages there).holds in
     let known : is_among (encoded o.body) (object ∷ []) ≡ true =
     subst (λ (v : NodeId). (not (is_correct (line []) v) || is_among (encoded o.body) (signed (send ∷ []) signed_one v)) ≡ true) signer good.1 in
     elim (among_cons (encoded o.body) object [] known) [ inl same ↦ sym same | inr none ↦ wrong none ]

@@ -7,7 +7,8 @@ use Rattle.sp_msg.specs.declared.body.Body.{Body}
 use Rattle.sp_msg.specs.declared.body.Body.TheVariants as bodies
 use Rattle.sp_rules.specs.Flow.{FlowState, ends}
 use Rattle.sp_rules.specs.Lives.{held_boot}
-use Rattle.sp_rules.specs.Parts.{Parts}
+use Rattle.sp_rules.specs.Parts.{Parts, flows_of}
+use Rattle.sp_rules.specs.declared.kflow.FlowKind.{FlowKind}
 use Rattle.sp_rules.specs.declared.lives.Life.{Life}
 
 pub record NamesBoth (lives : List Life) (flow : Flow) (src dst : NodeId) (sboot dboot : ℕ) : Type 0 where
@@ -31,4 +32,4 @@ pub record FlowDated (lives : List Life) (f : FlowState) : Type 0 where
 
 -- what is kept of all flows names their ends so
 abbrev pub AreDated : Parts → Type 0
-AreDated p = All (FlowDated p.lives) p.rel.flows
+AreDated p = (kind : FlowKind) → All (FlowDated p.lives) (flows_of kind p).flows

@@ -4,6 +4,7 @@ use Rattle.sp_base.specs.Lists.{IsPrefix}
 use Rattle.sp_base.specs.declared.id.NodeId.{NodeId}
 use Rattle.sp_journal.specs.declared.entry.Entry.{Entry}
 use Rattle.sp_rules.specs.Arts.{Arts}
+use Rattle.sp_rules.specs.declared.kflow.FlowKind.{FlowKind}
 use Rattle.sp_runs.specs.Held.{AreShares, held}
 use Rattle.sp_runs.specs.Runs.{Clean}
 use Rattle.sp_runs.specs.Settings.{Setting, StaysUp, is_correct}
@@ -16,8 +17,9 @@ use Rattle.laws_runs.specs.Priority.{AreOnce}
 
 -- these events and their entries break no promise
 pub record IsGood (x : Setting) (es : List Event) (js : List Entry) : Type 0 where
-  -- what was delivered between correct nodes is a prefix of what was sent
-  pub prefix : (s d : NodeId) → IsTrue (is_correct x s) → IsTrue (is_correct x d) → IsPrefix (delivered es js s d) (sent es js s d)
+  -- what flows of either kind delivered between correct nodes is a prefix of what was sent
+  pub prefix : (kind : FlowKind) (s d : NodeId) → IsTrue (is_correct x s) → IsTrue (is_correct x d)
+      → IsPrefix (delivered kind es js s d) (sent kind es js s d)
   -- of no source a priority message is delivered twice
   pub once : (s d : NodeId) → IsTrue (is_correct x d) → AreOnce (map (λ m. m.0) (prio_delivered es js s d))
   -- no place holds more entries than its capacity

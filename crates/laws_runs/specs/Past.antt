@@ -8,6 +8,7 @@ use Rattle.sp_base.specs.declared.id.NodeId.{NodeId}
 use Rattle.sp_rules.specs.Arts.{Arts}
 use Rattle.sp_rules.specs.Lives.{held_boot}
 use Rattle.sp_rules.specs.Node.{NodeState}
+use Rattle.sp_rules.specs.declared.kflow.FlowKind.{FlowKind}
 use Rattle.sp_runs.specs.Runs.{Clean, Lives, Moves, Starts, Stays, Turn, Turned}
 use Rattle.sp_runs.specs.Settings.{Setting}
 use Rattle.sp_runs.specs.Told.{Message, accepted_in, delivered_by, prio_accepted_in, prio_by, told_at}
@@ -48,15 +49,15 @@ abbrev pub told_under : {X : Type 0} → NodeId → ℕ → NodeId → ℕ → L
 told_under s x d y tells None = []
 told_under s x d y tells (Some n) = if holds n s x d y then tells else []
 
--- ---- reliable messages
+-- ---- reliable messages of either kind
 
 -- accepted from clients of s for d, while s had boot x and held boot y of d
-abbrev pub sent_under : List Happened → NodeId → ℕ → NodeId → ℕ → List Message
-sent_under past s x d y = flat_map (λ h. told_under s x d y (accepted_in s d h.event h.entry.reply) h.mover) past
+abbrev pub sent_under : FlowKind → List Happened → NodeId → ℕ → NodeId → ℕ → List Message
+sent_under kind past s x d y = flat_map (λ h. told_under s x d y (accepted_in kind s d h.event h.entry.reply) h.mover) past
 
 -- delivered at d of what came from s, while d had boot y and held boot x of s
-abbrev pub delivered_under : List Happened → NodeId → ℕ → NodeId → ℕ → List Message
-delivered_under past s x d y = flat_map (λ h. told_under s x d y (told_at d (delivered_by s) (h.event, h.entry)) h.mover) past
+abbrev pub delivered_under : FlowKind → List Happened → NodeId → ℕ → NodeId → ℕ → List Message
+delivered_under kind past s x d y = flat_map (λ h. told_under s x d y (told_at d (delivered_by kind s) (h.event, h.entry)) h.mover) past
 
 -- ---- priority messages
 

@@ -31,10 +31,9 @@ HasGoodMessages arts s = All (λ o. IsTrue (arts.is_good o.body)) (objects_in (p
 abbrev pub written : Arts → Head → Contents → (key : List ℕ) → List ℕ
 written arts h s key = arts.frame h s ++ arts.tag key (arts.frame h s)
 
--- no part that no node writes: no document, no K-path slot, no probe
+-- no part that no node writes beside others: no document, no probe
 pub record IsPlain (s : Contents) : Type 0 where
   pub document : s.document ≡ None
-  pub paths : s.paths ≡ None
   pub probe : s.probe ≡ None
 
 -- frames and messages of one format

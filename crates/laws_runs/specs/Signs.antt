@@ -9,7 +9,8 @@ use Rattle.sp_topology.specs.Keys.{key_of}
 use Rattle.sp_rules.specs.Rel.{is_over}
 use Rattle.sp_rules.specs.Arts.{Arts}
 use Rattle.sp_rules.specs.Node.{NodeState}
-use Rattle.sp_rules.specs.Parts.{is_signed_by, nodes_of}
+use Rattle.sp_rules.specs.Parts.{flows_of, is_signed_by, nodes_of}
+use Rattle.sp_rules.specs.declared.kflow.FlowKind.{FlowKind}
 use Rattle.laws_node.specs.Withdrawals.{Obeys}
 use Rattle.laws_node.specs.Nodes.{NodeHolds}
 use Rattle.laws_node.specs.Shapes.{shape_at_start, shape_of}
@@ -86,7 +87,7 @@ pub record NodeIs (x : Setting) (P : Kept → Type 0) (u : NodeId) (n : NodeStat
   -- with its rows and bounds as at its start
   pub shape : shape_of n ≡ shape_at_start (fixed_at x u n.fixed.boot) (signer_from x u 0 n.signer.bound) (link_keys x u) x.buffer x.store
   pub holds : NodeHolds (sizes_at x P u) n
-  pub acks : All (FlowAck n.parts.rel.removed) n.parts.rel.flows
+  pub acks : (kind : FlowKind) → All (FlowAck (flows_of kind n.parts).removed) (flows_of kind n.parts).flows
   -- its parts know of its topology what it is now
   pub obeys : Obeys n
   -- what it keeps of a flow names the boots that it holds of both ends

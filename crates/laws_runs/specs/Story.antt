@@ -4,6 +4,7 @@ use Rattle.std.specs.Prelude.{ℕ, ◌≡◌, ◌+◌, Bool, true, false, List, 
 use Rattle.sp_base.specs.declared.id.NodeId.{NodeId}
 use Rattle.sp_rules.specs.Arrivals.{after_datagram}
 use Rattle.sp_rules.specs.Documents.{after_publish}
+use Rattle.sp_rules.specs.KflowSends.{after_send_krel, after_take_krel}
 use Rattle.sp_rules.specs.Masks.{Mask, open_edges}
 use Rattle.sp_rules.specs.Node.{NodeState}
 use Rattle.sp_rules.specs.Polls.{after_poll}
@@ -12,6 +13,7 @@ use Rattle.sp_rules.specs.Sends.{after_send_prio, after_send_rel, after_set_weig
 use Rattle.sp_rules.specs.Steps as steps
 use Rattle.sp_rules.specs.Steps.{Input, Output}
 use Rattle.sp_rules.specs.Ticks.{after_tick}
+use Rattle.sp_rules.specs.declared.kflow.FlowKind.TheVariants.{Plain}
 use Rattle.laws_node.specs.Story.{node, row, toys}
 use Rattle.sp_runs.specs.Forgery.{forged}
 use Rattle.sp_runs.specs.Inputs.{acting, input_of}
@@ -35,7 +37,7 @@ use Rattle.sp_schedule_events.specs.declared.event.Event.{Event}
 use Rattle.sp_schedule_events.specs.declared.event.Event.TheVariants as events
 use Rattle.laws_runs.specs.Acknowledged.{acknowledged}
 
--- ---- a run is played, where each priority message goes over all edges
+-- ---- a run is played, where each message that chooses edges goes over all of them
 
 -- what a node answers, and what it is after it
 abbrev pub output_of : NodeState → Input → Output
@@ -46,6 +48,8 @@ output_of n (steps.SendRel dst payload) = steps.send_rel_output toys n dst paylo
 output_of n (steps.SendPrio message) = steps.send_prio_output toys n message (Mask (open_edges 0 n.parts.weights.least))
 output_of n (steps.SetWeight v weight) = steps.set_weight_output toys n v weight
 output_of n (steps.TakeRel src) = steps.replied (steps.Payload (rel.oldest n.parts.rel src))
+output_of n (steps.SendKrel message) = steps.send_krel_output toys n message (Mask (open_edges 0 n.parts.weights.least))
+output_of n (steps.TakeKrel src) = steps.replied (steps.Payload (rel.oldest n.parts.kflow.flows src))
 output_of n steps.TakePrio = steps.take_prio_output n
 output_of n (steps.Publish document) = steps.publish_output toys n document
 
@@ -58,6 +62,8 @@ after n (steps.SendRel dst payload) = after_send_rel toys n dst payload
 after n (steps.SendPrio message) = after_send_prio toys n message (Mask (open_edges 0 n.parts.weights.least))
 after n (steps.SetWeight v weight) = after_set_weight toys n v weight
 after n (steps.TakeRel src) = after_take_rel n src
+after n (steps.SendKrel message) = after_send_krel toys n message (Mask (open_edges 0 n.parts.weights.least))
+after n (steps.TakeKrel src) = after_take_krel n src
 after n steps.TakePrio = after_take_prio n
 after n (steps.Publish document) = after_publish toys n document
 
@@ -183,8 +189,8 @@ pub record StoriesArePlayed : Type 0 where
   pub is_run : Clean toys (line []) (play (line []) message).events (play (line []) message).journal (play (line []) message).world
   pub all_of_it : (play (line []) message).events ≡ message
   pub replies_are : map (λ j. j.reply) (play (line []) message).journal ≡ told
-  pub is_delivered : delivered (play (line []) message).events (play (line []) message).journal (node 1) (node 3) ≡ (1, 104 ∷ 105 ∷ []) ∷ []
-  pub is_acknowledged : acknowledged toys (play (line []) message).events (play (line []) message).journal (node 1) (node 3) ≡ 1
+  pub is_delivered : delivered Plain (play (line []) message).events (play (line []) message).journal (node 1) (node 3) ≡ (1, 104 ∷ 105 ∷ []) ∷ []
+  pub is_acknowledged : acknowledged Plain toys (play (line []) message).events (play (line []) message).journal (node 1) (node 3) ≡ 1
   -- where 1 didn't sign it, the object is forged, and the run ends before it
   pub is_forged : (play (line (node 2 ∷ [])) (craft ∷ [])).forged ≡ Some (whats.Object object)
   pub ends_before : (play (line (node 2 ∷ [])) (craft ∷ [])).events ≡ []

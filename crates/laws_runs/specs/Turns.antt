@@ -12,8 +12,8 @@ use Rattle.sp_journal.specs.declared.entry.Entry.{Entry}
 use Rattle.sp_schedule_events.specs.declared.event.Event.{Event}
 use Rattle.laws_runs.specs.Premises.{Carries}
 
--- whatever the weights are, there is a choice of edges for a priority message of a correct node to any other: the cheapest disjoint paths, or how
--- many there are
+-- whatever the weights are, there is a choice of edges for a message of a correct node to any other, of priority or on paths: the cheapest disjoint paths, or
+-- how many there are
 abbrev pub HaveChoices : Setting → Type 0
 HaveChoices x = (weights : WeightState) (s d : NodeId) (paths : ℕ) → IsTrue (is_correct x s) → IsTrue (is_other x s d)
     → (choice : Choice) × IsChoice weights (graph_of x.topology weights) s d paths choice

@@ -7,7 +7,8 @@ use Rattle.sp_msg.specs.declared.body.Body.{Body}
 use Rattle.sp_msg.specs.declared.body.Body.TheVariants as bodies
 use Rattle.sp_rules.specs.Flow.{FlowState}
 use Rattle.sp_rules.specs.Lives.{held_boot}
-use Rattle.sp_rules.specs.Parts.{Parts}
+use Rattle.sp_rules.specs.Parts.{Parts, flows_of}
+use Rattle.sp_rules.specs.declared.kflow.FlowKind.{FlowKind}
 use Rattle.sp_rules.specs.declared.lives.Life.{Life}
 
 -- the boots that a message names are 0
@@ -31,4 +32,4 @@ pub record FlowUnborn (f : FlowState) : Type 0 where
 -- parts that hold no start of anybody
 pub record Unborn (p : Parts) : Type 0 where
   pub lives : HoldNone p.lives
-  pub flows : All FlowUnborn p.rel.flows
+  pub flows : (kind : FlowKind) → All FlowUnborn (flows_of kind p).flows

@@ -8,6 +8,8 @@ use Rattle.sp_msg.specs.declared.body.Body.TheVariants as bodies
 use Rattle.sp_msg.specs.declared.kept.Kept.{Kept}
 use Rattle.sp_rules.specs.Flow.{FlowState, no_flow}
 use Rattle.sp_rules.specs.Node.{NodeState}
+use Rattle.sp_rules.specs.Parts.{flows_of}
+use Rattle.sp_rules.specs.declared.kflow.FlowKind.{FlowKind}
 use Rattle.sp_rules.specs.PrioPeer.{PrioPeer}
 use Rattle.sp_rules.specs.Rel.{put_flow}
 use Rattle.sp_rules.specs.Store.{Store}
@@ -87,11 +89,12 @@ SaysFlow f = (length f.at.list ≤ 2) × (length f.inbox ≤ 2) × (length (as_l
 abbrev pub SaysPeer : PrioPeer → Type 0
 SaysPeer q = (length q.store.entries ≤ 4) × (length q.flight ≤ 4)
 
--- the bounds in numbers: six flows of two messages, two payloads and one acknowledgement; four entries that wait for clients; two neighbours with four entries
+-- the bounds in numbers: six flows of each kind with two messages, two payloads and one acknowledgement; four entries that wait for clients; two neighbours
+-- with four entries
 -- and four in flight; two edges with four rows
 pub record SaysBounds (n : NodeState) : Type 0 where
-  pub flows : length n.parts.rel.flows ≡ 6
-  pub each_flow : All SaysFlow n.parts.rel.flows
+  pub flows : (kind : FlowKind) → length (flows_of kind n.parts).flows ≡ 6
+  pub each_flow : (kind : FlowKind) → All SaysFlow (flows_of kind n.parts).flows
   pub inbox : length n.parts.prio.inbox.entries ≤ 4
   pub peers : map (λ q. q.peer) n.parts.prio.peers ≡ 1 ∷ 3 ∷ []
   pub each_peer : All SaysPeer n.parts.prio.peers

@@ -34,6 +34,7 @@ use Rattle.sp_journal.specs.declared.entry.Reply.TheVariants as replies
 use Rattle.sp_schedule_events.specs.Documents.{none_published}
 use Rattle.sp_schedule_events.specs.declared.event.Event.{Event}
 use Rattle.sp_schedule_events.specs.declared.event.Event.TheVariants as events
+use Rattle.sp_rules.specs.declared.kflow.FlowKind.TheVariants.{Plain}
 use Rattle.laws_runs.specs.Flows.{flow_at}
 use Rattle.laws_runs.specs.LifeKeys.{KeyClaims}
 use Rattle.laws_runs.specs.LifePriority.{LifePrioClaims}
@@ -196,7 +197,7 @@ sends o = record {
 pub record SignaturesAreWorked : Type 0 where
   -- whatever of 1 stands in a list then is that message
   pub says : (w : World) (u : NodeId) (n : NodeState) (k : ℕ) (o : Kept) → SignClaims toys (line []) (send ∷ []) signed_one w → node_in w.nodes u ≡ Some n
-      → slice_get (flow_at n (node 1) (node 3)).at.list k ≡ Some o → signer_of o.body ≡ node 1 → encoded o.body ≡ object
+      → slice_get (flow_at Plain n (node 1) (node 3)).at.list k ≡ Some o → signer_of o.body ≡ node 1 → encoded o.body ≡ object
   pub is_good : is_good_in toys (line []) (send ∷ []) signed_one (message (1 ∷ [])) ≡ true
   -- under the signature of another, or where 1 signed nothing
   pub other_signature : SignClaims toys (line []) (send ∷ []) signed_one (keeps (message (2 ∷ []))) → ⊥

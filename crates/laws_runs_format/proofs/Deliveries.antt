@@ -12,7 +12,8 @@ use Rattle.byteorder.specs.Endian.{big_bytes}
 use Rattle.laws_node.proofs.Objects.{objects_are_answered}
 use Rattle.laws_node.specs.Inputs.{InputFits}
 use Rattle.laws_node.specs.Objects.{objects_in}
-use Rattle.laws_runs.proofs.Signed.{even, reached}
+use Rattle.laws_runs.proofs.SignedEvents.{even}
+use Rattle.laws_runs.proofs.Signed.{reached}
 use Rattle.sp_base.specs.Spelling.{AreBytes}
 use Rattle.sp_base.specs.declared.format.TheConstants.{FORMAT_1}
 use Rattle.sp_base.specs.declared.id.NodeId.{NodeId}
@@ -22,7 +23,7 @@ use Rattle.sp_frame.specs.Grammar.{later_bytes}
 use Rattle.sp_frame.specs.Objects.{IsObject, object_bytes}
 use Rattle.sp_frame.specs.Prioritized.{numbered_bytes, prios_bytes}
 use Rattle.sp_frame.specs.Probes.{epoch_bytes, probes_bytes}
-use Rattle.sp_frame.specs.Ranges.{IsContentsIn, IsDocument, Later}
+use Rattle.sp_frame.specs.Ranges.{IsContentsIn, IsDocument, IsReport, Later}
 use Rattle.sp_frame.specs.Reliable.{Report, ack_bytes, paths_bytes, place_bytes, rels_bytes, report_bytes, slot_bytes}
 use Rattle.sp_frame.specs.Sections.{Contents, control_bytes, plain_bytes, sections_bytes_in, sections_of_in}
 use Rattle.sp_frame.specs.Views.{as_list}
@@ -39,6 +40,7 @@ use Rattle.sp_msg.specs.declared.kept.Kept.{Kept}
 use Rattle.sp_node_format.specs.Format.{format_in}
 use Rattle.sp_rules.proofs.ArrivalLemmas.{of_frame}
 use Rattle.sp_rules.specs.Arrivals.{arrival_at, handled, parts_met, pieces_in, pieces_where, reply_at, sections_in, heeded}
+use Rattle.sp_rules.specs.KflowSends.{send_krel_refusal}
 use Rattle.sp_rules.specs.Node.{NodeState, call_refusal, link_in, own_epoch, start_effects, is_shut_to}
 use Rattle.sp_rules.specs.Parts.{Fixed}
 use Rattle.sp_rules.specs.Pieces.{Piece, pieces_of}
@@ -60,7 +62,7 @@ use Rattle.laws_runs_format.specs.Arts.{arts_of}
 use Rattle.laws_runs_format.specs.Journals.{JournalsAreCountable}
 use Rattle.laws_runs.proofs.LifeCases.{Exhausts, LifeCase, Nobody, Starts_now, Stops, life_case}
 use Rattle.laws_runs_format.proofs.EffectCounts.{TellsDeliveries, step_most}
-use Rattle.laws_runs_format.proofs.FrameBytes.{objects_are, prio_objects, slot_objects}
+use Rattle.laws_runs_format.proofs.FrameBytes.{end_objects, objects_are, prio_objects, slot_objects}
 use Rattle.laws_runs_format.proofs.Headers.{headers_fit}
 use Rattle.laws_runs_format.proofs.ReadBack.{format_carries, part_are}
 
@@ -120,6 +122,27 @@ epoch_long format len (Some o) is = go (format == FORMAT_1) is.0
     go true e = absurd (cc)
     go false e = omega (arith, a_byte format o)
 
+-- how many objects sections have
+objects_long : (s : Contents) → length (objects_in (pieces_of s))
+    ≡ length s.weights + length (prio_objects s.prios) + length (slot_objects s.slot) + length (slot_objects s.paths) + length (as_list s.epoch)
+objects_long s =
+    let are = ap length (objects_are s) in
+    let objects = length-append s.weights (prio_objects s.prios ++ end_objects s) in
+    let rest = length-append (prio_objects s.prios) (end_objects s) in
+    let slots = length-append (slot_objects s.slot) (slot_objects s.paths ++ as_list s.epoch) in
+    let last = length-append (slot_objects s.paths) (as_list s.epoch) in
+    omega (arith, are, objects, rest, slots, last)
+
+paths_long : (format len : ℕ) (o : Option Report) → IfSome o (Later format (IsReport format kinds.Kack kinds.Krel len))
+    → length (slot_objects o) ≤ length (paths_bytes format o)
+unfolding paths_bytes
+paths_long format len None is = omega arith
+paths_long format len (Some r) is = go (format == FORMAT_1) is.0
+  where
+    go : (t : Bool) → t ≡ false → length (slot_objects (Some r)) ≤ length (later_bytes (report_bytes format) t (Some r))
+    go true e = absurd (cc)
+    go false e = omega (arith, length-append (as_list r.ack) r.rels, ack_long format r.ack, rels_long format r.rels, report_long format r)
+
 plain_long : (format len : ℕ) (s : Contents) → IsContentsIn format len s → length (objects_in (pieces_of s)) ≤ length (plain_bytes format s)
 unfolding plain_bytes
 plain_long format len s is =
@@ -133,15 +156,12 @@ plain_long format len s is =
     let slot = length-append most (slot_bytes format s.slot) in
     let prios = length-append front (prios_bytes format s.prios) in
     let first = length-append (weights_bytes format s.weights) (big_bytes 8 s.prio_ack) in
-    let ends = slot_objects s.slot ++ as_list s.epoch in
-    let objects = length-append s.weights (prio_objects s.prios ++ ends) in
-    let rest = length-append (prio_objects s.prios) ends in
-    let both = length-append (slot_objects s.slot) (as_list s.epoch) in
+    let objects = objects_long s in
     let epoch = epoch_long format len s.epoch is.epoch in
-    let are = ap length (objects_are s) in
+    let on_paths = paths_long format len s.paths is.paths in
     let each_weight = weights_long format s.weights in
     let each_prio = prios_long format s.prios in
-    omega (arith, last, before, paths, slot, prios, first, objects, rest, both, epoch, are, map_long s.prios, each_weight, each_prio, slot_long format s.slot)
+    omega (arith, last, before, paths, slot, prios, first, objects, on_paths, epoch, map_long s.prios, each_weight, each_prio, slot_long format s.slot)
 
 -- a document comes alone
 sections_long : (format : ℕ) (len : ℕ) (s : Contents) → IsContentsIn format len s → length (objects_in (pieces_of s)) ≤ length (sections_bytes_in format s)
@@ -178,18 +198,7 @@ heeded_few : (f : Fixed) (s : Contents) → length (objects_in (pieces_in f (Ok 
 heeded_few f s = beside (λ ps. length (objects_in ps) ≤ length (objects_in (pieces_of s))) s.document (pieces_of (heeded f s)) (omega arith) (go f.epochs)
   where
     less : length (objects_in (pieces_of (record s { epoch = None }))) ≤ length (objects_in (pieces_of s))
-    less =
-        let slot = slot_objects s.slot in
-        let prios = prio_objects s.prios in
-        let one = ap length (objects_are s) in
-        let two = ap length (objects_are (record s { epoch = None })) in
-        let one_first = length-append s.weights (prios ++ (slot ++ as_list s.epoch)) in
-        let two_first = length-append s.weights (prios ++ (slot ++ [])) in
-        let one_next = length-append prios (slot ++ as_list s.epoch) in
-        let two_next = length-append prios (slot ++ []) in
-        let one_last = length-append slot (as_list s.epoch) in
-        let two_last = length-append slot [] in
-        omega (arith, one, two, one_first, two_first, one_next, two_next, one_last, two_last)
+    less = omega (arith, objects_long s, objects_long (record s { epoch = None }))
 
     go : (t : Bool) → length (objects_in (pieces_of (cond t s (record s { epoch = None })))) ≤ length (objects_in (pieces_of s))
     go true = omega arith
@@ -248,12 +257,18 @@ answered_few format old new (steps.SendPrio m) output fits step = rw step.output
     silent : (r : Option SendRefused) (seq : ℕ) (es : List Effect) → length (refused_send r (accepted seq es)).answered ≤ MAX_FRAME_BYTES - 33
     silent (Some r) seq es = omega arith
     silent None seq es = omega arith
+answered_few format old new (steps.SendKrel m) output fits step = rw step.output_is (silent (send_krel_refusal old m step.choice) _ _)
+  where
+    silent : (r : Option SendRefused) (seq : ℕ) (es : List Effect) → length (refused_send r (accepted seq es)).answered ≤ MAX_FRAME_BYTES - 33
+    silent (Some r) seq es = omega arith
+    silent None seq es = omega arith
 answered_few format old new (steps.SetWeight v weight) output fits step = rw step.0 (silent _ _ _)
   where
     silent : (r : Option SendRefused) (seq : ℕ) (es : List Effect) → length (refused_send r (accepted seq es)).answered ≤ MAX_FRAME_BYTES - 33
     silent (Some r) seq es = omega arith
     silent None seq es = omega arith
 answered_few format old new (steps.TakeRel u) output fits step = rw step.0 (omega arith)
+answered_few format old new (steps.TakeKrel u) output fits step = rw step.0 (omega arith)
 answered_few format old new steps.TakePrio output fits step = rw step.0 (omega arith)
 answered_few format old new (steps.Publish document) output fits step = rw step.0 (omega arith)
 
@@ -318,6 +333,7 @@ journals_are_countable s es js w graph run =
             gone = λ a b c. refl;
             held = λ a b c d. refl;
             ended = λ f. refl;
+            kended = λ f. refl;
             version = λ v. refl;
           }) (setting_of s) es js w fits run;
       priority =
@@ -327,6 +343,7 @@ journals_are_countable s es js w graph run =
             gone = λ a b c. refl;
             held = λ a b c d. refl;
             ended = λ f. refl;
+            kended = λ f. refl;
             version = λ v. refl;
           }) (setting_of s) es js w fits run;
     }

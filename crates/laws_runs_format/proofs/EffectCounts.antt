@@ -23,29 +23,33 @@ use Rattle.sp_msg.specs.declared.effect.Why.{Why}
 use Rattle.sp_msg.specs.declared.effect.Why.TheVariants as whys
 use Rattle.sp_msg.specs.declared.kept.Kept.{Kept}
 use Rattle.sp_msg.specs.declared.refused.SendRefused.{SendRefused}
-use Rattle.sp_rules.specs.Answers.{ack_answer, epoch_answer, is_new, prio_answer, rel_answer, weight_answer}
+use Rattle.sp_rules.specs.Answers.{ack_answer, epoch_answer, is_new, prio_answer, weight_answer}
 use Rattle.sp_rules.specs.Arts.{Arts}
 use Rattle.sp_rules.specs.Arrivals.{arrival_at, parts_met, pieces_in, pieces_where, reply_at, sections_in, before_document, document_at, handled}
 use Rattle.sp_rules.specs.Polls.{frame_to}
 use Rattle.sp_rules.specs.Flow.{FlowState, ends, flow_said}
-use Rattle.sp_rules.specs.Handle.{Arrival, handle, handle_all, met, offer_to, where_new, weight_effects}
+use Rattle.sp_rules.specs.Handle.{Arrival, ack_item, handle, handle_all, met, met_effects, offer_to, rel_answer_to, rel_item, where_new, weight_effects}
+use Rattle.sp_rules.specs.KflowSends.{krel_number, krel_sends, krel_sent, send_krel_refusal}
 use Rattle.sp_rules.specs.Lives.{is_dated, judge_epoch, origin_said}
 use Rattle.sp_rules.specs.Node.{NodeState, call_refusal}
-use Rattle.sp_rules.specs.Parts.{Parts, is_signed, closed_effects, nodes_of}
+use Rattle.sp_rules.specs.Parts.{Parts, closed_effects, flows_of, is_signed, nodes_of, with_flows}
 use Rattle.sp_rules.specs.Pieces.{Piece, WeightPiece, PrioAckPiece, PrioPiece, ReportPiece, AckPiece, RelPiece, EpochPiece}
 use Rattle.sp_rules.specs.Prio.{PrioState, acked_effects, admit_prio, delivered, expired_effects, is_here, judge_prio, peer_in, prio_effects}
 use Rattle.sp_rules.specs.PrioPeer as rows
 use Rattle.sp_rules.specs.PrioPeer.{PrioPeer, gone, goes_to, put_effects, stored}
-use Rattle.sp_rules.specs.Rel.{RelState, admit_ack, admit_rel, delivery, ended_by, is_end, is_to, judge_ack_of, judge_rel_of, rel_effects, restart_effects}
+use Rattle.sp_rules.specs.Rel.{RelState, admit_ack, admit_rel, delivery, ended_by, ending, is_end, is_to, judge_ack_of, judge_rel_of, rel_effects}
+use Rattle.sp_rules.specs.Rel.{restart_effects}
 use Rattle.sp_rules.specs.Sends.{mask_in, own_prio, prio_body, prio_sent, rel_body, rel_number, rel_refusal, rel_sent, send_prio_refusal, signed_effect}
 use Rattle.sp_rules.specs.Sends.{signer_refusal, weight_body, weight_number, weight_refusal, weight_sent}
 use Rattle.sp_rules.specs.Steps as steps
 use Rattle.sp_rules.specs.Steps.{Input, NodeStep, Output, accepted, refused_call, refused_send, document_effects}
 use Rattle.sp_rules.specs.Store.{Store, entry_in, evicted, expired_entries, oldest, removed}
-use Rattle.sp_rules.specs.Ticks.{ack_effects, due_now, tick_effects, time_after}
+use Rattle.sp_rules.specs.Ticks.{ack_effects, due_now, second_refusal, tick_effects, time_after}
 use Rattle.sp_rules.specs.Weights.{held}
 use Rattle.sp_rules.specs.declared.answers.Item.{Item}
 use Rattle.sp_rules.specs.declared.answers.Item.TheVariants as items
+use Rattle.sp_rules.specs.declared.kflow.FlowKind.{FlowKind}
+use Rattle.sp_rules.specs.declared.kflow.FlowKind.TheVariants as flows
 use Rattle.sp_rules.specs.declared.node.NodeRefused.{NodeRefused}
 use Rattle.sp_rules.specs.declared.store.Entry.{Entry}
 
@@ -56,6 +60,7 @@ pub record TellsDeliveries (p : Effect → Bool) : Type 0 where
   pub gone : (place id : ℕ) (why : Why) → p (effects.Gone place id why) ≡ false
   pub held : (origin : NodeId) (edge : EdgeId) (seq weight : ℕ) → p (effects.WeightHeld origin edge seq weight) ≡ false
   pub ended : (flow : Flow) → p (effects.Ended flow) ≡ false
+  pub kended : (flow : Flow) → p (effects.Kended flow) ≡ false
   pub version : (version : ℕ) → p (effects.Version version) ≡ false
 
 module _ (p : Effect → Bool) (tells : TellsDeliveries p) where
@@ -158,24 +163,35 @@ module _ (p : Effect → Bool) (tells : TellsDeliveries p) where
       go true = one (delivery o.body)
       go false = omega arith
 
-  over_none : (t : Bool) (f : FlowState) → number (cond t (effects.Ended (ends f) ∷ []) []) ≡ 0
-  over_none true f = none (effects.Ended (ends f)) (tells.ended (ends f))
-  over_none false f = refl
+  ending_none : (kind : FlowKind) (flow : Flow) → number (ending kind flow ∷ []) ≡ 0
+  ending_none flows.Plain flow = none (effects.Ended flow) (tells.ended flow)
+  ending_none flows.Paths flow = none (effects.Kended flow) (tells.kended flow)
 
-  ended_none : (v : NodeId) (f : FlowState) → number (ended_by v f) ≡ 0
-  ended_none v f = over_none (is_end v (ends f) && f.active) f
+  over_none : (kind : FlowKind) (t : Bool) (f : FlowState) → number (cond t (ending kind (ends f) ∷ []) []) ≡ 0
+  over_none kind true f = ending_none kind (ends f)
+  over_none kind false f = refl
 
-  restart_none : (r : RelState) (v : NodeId) → number (restart_effects r v) ≡ 0
-  restart_none r v = none_each (ended_by v) (ended_none v) r.flows
+  restart_none : (kind : FlowKind) (r : RelState) (v : NodeId) → number (restart_effects kind r v) ≡ 0
+  restart_none kind r v = none_each (ended_by kind v) (λ f. over_none kind (is_end v (ends f) && f.active) f) r.flows
+
+  met_none : (q : Parts) (v : NodeId) → number (met_effects q v) ≡ 0
+  met_none q v =
+      none_both (restart_effects flows.Plain q.rel v) (restart_effects flows.Paths q.kflow.flows v) (restart_none flows.Plain q.rel v)
+      (restart_none flows.Paths q.kflow.flows v)
 
   -- ---- another version of the topology
 
+  flows_none : (kind : FlowKind) (r : RelState) (gone : List NodeId) → number (rel.closed_effects kind r gone) ≡ 0
+  flows_none kind r gone = none_each (rel.ended_effect kind gone) (λ f. over_none kind (f.active && rel.is_over gone (ends f)) f) r.flows
+
   closed_none : (q : Parts) (least : List ℕ) (gone : List NodeId) → number (closed_effects q least gone) ≡ 0
   closed_none q least gone =
-      none_both (prio.closed_effects q.prio least gone) (rel.closed_effects q.rel gone)
+      none_both (prio.closed_effects q.prio least gone)
+      (rel.closed_effects flows.Plain q.rel gone ++ rel.closed_effects flows.Paths q.kflow.flows gone)
       (none_each (rows.closed_effects least gone)
       (λ r. leaving_none r.peer whys.Withdrawn (filter (rows.leaves (is_shut least r.edge) gone) r.store.entries)) q.prio.peers)
-      (none_each (rel.ended_effect gone) (λ f. over_none (f.active && rel.is_over gone (ends f)) f) q.rel.flows)
+      (none_both (rel.closed_effects flows.Plain q.rel gone) (rel.closed_effects flows.Paths q.kflow.flows gone) (flows_none flows.Plain q.rel gone)
+      (flows_none flows.Paths q.kflow.flows gone))
 
   version_none : (n : NodeState) (t : Topology) → number (version_effects n t) ≡ 0
   version_none n t =
@@ -205,17 +221,16 @@ module _ (p : Effect → Bool) (tells : TellsDeliveries p) where
       new_most (items.Prio (prio_answer (is_signed arts at.fixed o) (is_dated q.lives o.body) (judge_prio q.prio o.body at.now))) o q
       (record q { prio = admit_prio q.prio o (Some at.from) })
       (prio_effects q.prio o (Some at.from)) (prio_one q.prio o (Some at.from))
-  piece_most arts at q (ReportPiece flow sboot dboot base have) = omega arith
-  piece_most arts at q (AckPiece flow o) =
-      new_most (items.Ack (ack_answer (is_signed arts at.fixed o) (is_dated q.lives o.body) (judge_ack_of q.rel flow o.body))) o q
-      (record q { rel = admit_ack q.rel o }) [] (omega arith)
-  piece_most arts at q (RelPiece flow o) =
-      new_most (items.Rel (rel_answer (is_signed arts at.fixed o) (is_dated q.lives o.body) (judge_rel_of q.rel flow o.body))) o q
-      (record q { rel = admit_rel q.rel o })
-      (rel_effects q.rel o) (rel_one q.rel o)
+  piece_most arts at q (ReportPiece kind flow sboot dboot base have) = omega arith
+  piece_most arts at q (AckPiece kind flow o) =
+      new_most (ack_item kind (ack_answer (is_signed arts at.fixed o) (is_dated q.lives o.body) (judge_ack_of (flows_of kind q) flow o.body))) o q
+      (with_flows kind (admit_ack (flows_of kind q) o) q) [] (omega arith)
+  piece_most arts at q (RelPiece kind flow o) =
+      new_most (rel_item kind (rel_answer_to arts at q (judge_rel_of (flows_of kind q) flow o.body) o)) o q
+      (with_flows kind (admit_rel (flows_of kind q) o) q) (rel_effects (flows_of kind q) o) (rel_one (flows_of kind q) o)
   piece_most arts at q (EpochPiece o) =
       new_most (items.Epoch (epoch_answer (is_signed arts at.fixed o) (judge_epoch at.fixed.me q.lives o.body))) o q (met q o)
-      (restart_effects q.rel (origin_said o.body)) (omega (arith, restart_none q.rel (origin_said o.body)))
+      (met_effects q (origin_said o.body)) (omega (arith, met_none q (origin_said o.body)))
 
   all_most : (arts : Arts) (at : Arrival) (q : Parts) (ps : List Piece) → number (handle_all arts at q ps).effects ≤ length (handle_all arts at q ps).answered
   all_most arts at q [] = omega arith
@@ -232,14 +247,18 @@ module _ (p : Effect → Bool) (tells : TellsDeliveries p) where
 
   -- ---- steps
 
+  acks_none : (arts : Arts) (kind : FlowKind) (a : Option Ack) (r : Option SendRefused) → number (ack_effects arts kind a r) ≡ 0
+  acks_none arts kind None r = refl
+  acks_none arts kind (Some a) (Some r) = refl
+  acks_none arts kind (Some a) None = none _ (tells.signed _)
+
   ticked : (arts : Arts) (n : NodeState) (now : ℕ) → number (tick_effects arts n now) ≡ 0
-  ticked arts n now = none_both (expired_effects n.parts.prio (time_after n now)) (ack_effects arts (due_now n) (signer_refusal n.signer))
-      (all_expired_none n.parts.prio (time_after n now)) (acks (due_now n) (signer_refusal n.signer))
-    where
-      acks : (a : Option Ack) (r : Option SendRefused) → number (ack_effects arts a r) ≡ 0
-      acks None r = refl
-      acks (Some a) (Some r) = refl
-      acks (Some a) None = none _ (tells.signed _)
+  ticked arts n now =
+      let plain = ack_effects arts flows.Plain (due_now flows.Plain n) (signer_refusal n.signer) in
+      let paths = ack_effects arts flows.Paths (due_now flows.Paths n) (second_refusal arts n now) in
+      none_both (expired_effects n.parts.prio (time_after n now)) (plain ++ paths) (all_expired_none n.parts.prio (time_after n now))
+      (none_both plain paths (acks_none arts flows.Plain (due_now flows.Plain n) (signer_refusal n.signer))
+      (acks_none arts flows.Paths (due_now flows.Paths n) (second_refusal arts n now)))
 
   sent : (r : Option SendRefused) (seq : ℕ) (es : List Effect) → number es ≤ 1 → number (refused_send r (accepted seq es)).effects ≤ 1
   sent (Some r) seq es most = omega arith
@@ -275,10 +294,15 @@ module _ (p : Effect → Bool) (tells : TellsDeliveries p) where
       rw step.output_is (below (steps.send_prio_output arts old m step.choice)
       (sent (send_prio_refusal old m step.choice) old.parts.prio.next (prio_sent arts old m step.choice)
       (omega (arith, most, none told (tells.signed _), prio_one old.parts.prio own None))))
+  step_most arts old new (steps.SendKrel m) output step =
+      rw step.output_is (below (steps.send_krel_output arts old m step.choice)
+      (sent (send_krel_refusal old m step.choice) (krel_number old m.dst) (krel_sent arts old m step.choice)
+      (one (signed_effect arts (krel_sends old m step.choice)))))
   step_most arts old new (steps.SetWeight v weight) output step =
       let told = signed_effect arts (weight_body old v weight) in
       rw step.0 (below (steps.set_weight_output arts old v weight) (sent (weight_refusal old v weight) (weight_number old v) (weight_sent arts old v weight)
       (omega (arith, both (told ∷ []) (weight_effects (weight_body old v weight)), none told (tells.signed _), weight_none (weight_body old v weight)))))
   step_most arts old new (steps.TakeRel u) output step = rw step.0 (omega arith)
+  step_most arts old new (steps.TakeKrel u) output step = rw step.0 (omega arith)
   step_most arts old new steps.TakePrio output step = rw step.0 (omega (arith, gone_none 0 whys.Taken (oldest old.parts.prio.inbox)))
   step_most arts old new (steps.Publish document) output step = rw step.0 (omega (arith, publish_none arts old document))

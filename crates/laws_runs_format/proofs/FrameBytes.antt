@@ -1,6 +1,6 @@
 -- A frame's sections are bytes exactly where the payloads and signatures of its objects are.
 use Rattle.std.proofs.Common.{◌≡◌, ◌<◌, ◌==◌, ℕ, Bool, true, false, List, [], ◌∷◌, ◌++◌, length, map, append_assoc, Option, Some, None, arith}
-use Rattle.std.proofs.Common.{refl, sym, ap, subst, ◌∙◌, arith}
+use Rattle.std.proofs.Common.{refl, sym, ap, ap₂, subst, ◌∙◌, arith}
 use Rattle.std.specs.List.{All, flat_map}
 use Rattle.std.specs.Prelude.{IfSome}
 use Rattle.std.proofs.lemmas.List.Elements.{All-append, All-cons, All-head, All-nil, All-tail}
@@ -11,7 +11,7 @@ use Rattle.sp_frame.specs.Grammar.{counted_bytes, later_bytes}
 use Rattle.sp_frame.specs.Objects.{IsObject, object_bytes}
 use Rattle.sp_frame.specs.Prioritized.{numbered_bytes, prios_bytes}
 use Rattle.sp_frame.specs.Probes.{epoch_bytes, probe_bytes, probes_bytes}
-use Rattle.sp_frame.specs.Ranges.{IsContentsIn, IsDocument, Later}
+use Rattle.sp_frame.specs.Ranges.{IsContentsIn, IsDocument, IsReport, Later}
 use Rattle.sp_frame.specs.Reliable.{Report, ack_bytes, boot_bytes, paths_bytes, place_bytes, rels_bytes, report_bytes, slot_bytes}
 use Rattle.sp_frame.specs.Sections.{Contents, control_bytes, plain_bytes, sections_bytes_in, document_bytes, sized_bytes, with_document, zeros_bytes}
 use Rattle.sp_frame.specs.Views.{as_list}
@@ -26,6 +26,8 @@ use Rattle.sp_msg.specs.declared.body.Body.{Body}
 use Rattle.sp_msg.specs.declared.body.Body.TheVariants as bodies
 use Rattle.sp_msg.specs.declared.kept.Kept.{Kept}
 use Rattle.sp_rules.specs.Pieces.{Piece, WeightPiece, PrioAckPiece, AckPiece, RelPiece, EpochPiece, pieces_of, prio_piece, slot_pieces}
+use Rattle.sp_rules.specs.declared.kflow.FlowKind.{FlowKind}
+use Rattle.sp_rules.specs.declared.kflow.FlowKind.TheVariants as flows
 use Rattle.laws_node.specs.Objects.{objects_in, objects_of}
 use Rattle.laws_runs.specs.Premises.{AreOfBytes, IsOfBytes, IsPlain}
 use Rattle.laws_runs_format.proofs.Bytes.{joined, joined3, joined4, left, none, of_number, one_first, parts3, parts4, right}
@@ -181,24 +183,32 @@ prio_ones : (ms : List (ℕ × Kept)) → objects_in (map prio_piece ms) ≡ pri
 prio_ones [] = refl
 prio_ones (m ∷ ms) = ap (λ (xs : List Kept). m.1 ∷ xs) (prio_ones ms)
 
-slot_ones : (s : Option Report) → objects_in (slot_pieces s) ≡ slot_objects s
-slot_ones None = refl
-slot_ones (Some r) =
-    objects_both (map (AckPiece r.flow) (as_list r.ack)) (map (RelPiece r.flow) r.rels)
-    ∙ ap (λ (xs : List Kept). xs ++ objects_in (map (RelPiece r.flow) r.rels)) (each_one (AckPiece r.flow) (λ o. refl) (as_list r.ack))
-    ∙ ap (λ (xs : List Kept). as_list r.ack ++ xs) (each_one (RelPiece r.flow) (λ o. refl) r.rels)
+slot_ones : (kind : FlowKind) (s : Option Report) → objects_in (slot_pieces kind s) ≡ slot_objects s
+slot_ones kind None = refl
+slot_ones kind (Some r) =
+    objects_both (map (AckPiece kind r.flow) (as_list r.ack)) (map (RelPiece kind r.flow) r.rels)
+    ∙ ap (λ (xs : List Kept). xs ++ objects_in (map (RelPiece kind r.flow) r.rels)) (each_one (AckPiece kind r.flow) (λ o. refl) (as_list r.ack))
+    ∙ ap (λ (xs : List Kept). as_list r.ack ++ xs) (each_one (RelPiece kind r.flow) (λ o. refl) r.rels)
 
-pub objects_are : (s : Contents) → objects_in (pieces_of s) ≡ s.weights ++ (prio_objects s.prios ++ (slot_objects s.slot ++ as_list s.epoch))
-objects_are s =
+-- those of the two slots and of the Epoch object
+abbrev pub end_objects : Contents → List Kept
+end_objects s = slot_objects s.slot ++ (slot_objects s.paths ++ as_list s.epoch)
+
+ends_are : (s : Contents)
+    → objects_in (slot_pieces flows.Plain s.slot ++ (slot_pieces flows.Paths s.paths ++ map EpochPiece (as_list s.epoch))) ≡ end_objects s
+ends_are s =
     let last = map EpochPiece (as_list s.epoch) in
-    let later = slot_pieces s.slot ++ last in
+    objects_both (slot_pieces flows.Plain s.slot) (slot_pieces flows.Paths s.paths ++ last)
+    ∙ ap₂ (λ (xs ys : List Kept). xs ++ ys) (slot_ones flows.Plain s.slot)
+    (objects_both (slot_pieces flows.Paths s.paths) last
+    ∙ ap₂ (λ (xs ys : List Kept). xs ++ ys) (slot_ones flows.Paths s.paths) (each_one EpochPiece (λ o. refl) (as_list s.epoch)))
+
+pub objects_are : (s : Contents) → objects_in (pieces_of s) ≡ s.weights ++ (prio_objects s.prios ++ end_objects s)
+objects_are s =
+    let later = slot_pieces flows.Plain s.slot ++ (slot_pieces flows.Paths s.paths ++ map EpochPiece (as_list s.epoch)) in
     objects_both (map WeightPiece s.weights) (PrioAckPiece s.prio_ack ∷ (map prio_piece s.prios ++ later))
-    ∙ ap (λ (xs : List Kept). xs ++ objects_in (map prio_piece s.prios ++ later)) (each_one WeightPiece (λ o. refl) s.weights)
-    ∙ ap (λ (xs : List Kept). s.weights ++ xs) (objects_both (map prio_piece s.prios) later
-    ∙ ap (λ (xs : List Kept). xs ++ objects_in later) (prio_ones s.prios)
-    ∙ ap (λ (xs : List Kept). prio_objects s.prios ++ xs) (objects_both (slot_pieces s.slot) last
-    ∙ ap (λ (xs : List Kept). xs ++ objects_in last) (slot_ones s.slot)
-    ∙ ap (λ (xs : List Kept). slot_objects s.slot ++ xs) (each_one EpochPiece (λ o. refl) (as_list s.epoch))))
+    ∙ ap₂ (λ (xs ys : List Kept). xs ++ ys) (each_one WeightPiece (λ o. refl) s.weights)
+    (objects_both (map prio_piece s.prios) later ∙ ap₂ (λ (xs ys : List Kept). xs ++ ys) (prio_ones s.prios) (ends_are s))
 
 prios_in : (ms : List (ℕ × Kept)) → All IsOfBytes (prio_objects ms) → All IsNumberedOf ms
 unfolding IsNumberedOf
@@ -231,15 +241,28 @@ epoch_out format len (Some o) later are = go (format == FORMAT_1) later.0 are
     go true e are = absurd (cc)
     go false e are = All-cons IsOfBytes o [] (object_out format o (right (big_bytes 1 1) (object_bytes format o) are)) (All-nil IsOfBytes)
 
--- ---- parts that no node writes
+-- ---- the slot on paths, which it lacks too
 
-no_paths : (format : ℕ) → AreBytes (paths_bytes format None)
+paths_in : (format : ℕ) (s : Option Report) → All IsOfBytes (slot_objects s) → AreBytes (paths_bytes format s)
 unfolding paths_bytes
-no_paths format = go (format == FORMAT_1)
+paths_in format s all = go (format == FORMAT_1) s all
   where
-    go : (t : Bool) → AreBytes (later_bytes (report_bytes format) t None)
-    go true = none
-    go false = of_number 1 0
+    go : (t : Bool) (s : Option Report) → All IsOfBytes (slot_objects s) → AreBytes (later_bytes (report_bytes format) t s)
+    go true s all = none
+    go false None all = of_number 1 0
+    go false (Some r) all = joined (big_bytes 1 1) (report_bytes format r) (of_number 1 1) (report_in format r all)
+
+paths_out : (format len : ℕ) (s : Option Report) → IfSome s (Later format (IsReport format kinds.Kack kinds.Krel len)) → AreBytes (paths_bytes format s)
+    → All IsOfBytes (slot_objects s)
+unfolding paths_bytes
+paths_out format len None later are = All-nil IsOfBytes
+paths_out format len (Some r) later are = go (format == FORMAT_1) later.0 are
+  where
+    go : (t : Bool) → t ≡ false → AreBytes (later_bytes (report_bytes format) t (Some r)) → All IsOfBytes (slot_objects (Some r))
+    go true e are = absurd (cc)
+    go false e are = report_out format r (right (big_bytes 1 1) (report_bytes format r) are)
+
+-- ---- a part that no node writes
 
 no_probe : (format : ℕ) → AreBytes (probes_bytes format None)
 unfolding probes_bytes
@@ -255,23 +278,23 @@ pub sections_in : (format : ℕ) (s : Contents) → IsPlain s → AreOfBytes s �
 unfolding sections_bytes_in plain_bytes weights_bytes prios_bytes
 sections_in format s plain of =
     let all = subst (All IsOfBytes) (objects_are s) of in
-    let ends = slot_objects s.slot ++ as_list s.epoch in
-    let rest = all_right s.weights (prio_objects s.prios ++ ends) all in
-    let last = all_right (prio_objects s.prios) ends rest in
+    let rest = all_right s.weights (prio_objects s.prios ++ end_objects s) all in
+    let ends = all_right (prio_objects s.prios) (end_objects s) rest in
+    let last = all_right (slot_objects s.slot) (slot_objects s.paths ++ as_list s.epoch) ends in
     let weights = weights_bytes format s.weights in
     let prios = prios_bytes format s.prios in
     let front = weights ++ big_bytes 8 s.prio_ack ++ prios ++ slot_bytes format s.slot in
     let paths = paths_bytes format s.paths in
     let probe = probes_bytes format s.probe in
     let front_are : AreBytes front = joined4 weights (big_bytes 8 s.prio_ack) prios (slot_bytes format s.slot)
-    (counted_in IsOfBytes (object_bytes format) (object_in format) s.weights (all_left s.weights (prio_objects s.prios ++ ends) all))
+    (counted_in IsOfBytes (object_bytes format) (object_in format) s.weights (all_left s.weights (prio_objects s.prios ++ end_objects s) all))
     (of_number 8 s.prio_ack)
     (counted_in IsNumberedOf (numbered_bytes format) (numbered_in format) s.prios
-    (prios_in s.prios (all_left (prio_objects s.prios) ends rest)))
-    (slot_in format s.slot (all_left (slot_objects s.slot) (as_list s.epoch) last)) in
-    let paths_are = subst (λ (o : Option Report). AreBytes (paths_bytes format o)) (sym plain.paths) (no_paths format) in
+    (prios_in s.prios (all_left (prio_objects s.prios) (end_objects s) rest)))
+    (slot_in format s.slot (all_left (slot_objects s.slot) (slot_objects s.paths ++ as_list s.epoch) ends)) in
+    let paths_are = paths_in format s.paths (all_left (slot_objects s.paths) (as_list s.epoch) last) in
     let probe_are = subst (λ (o : Option Probe). AreBytes (probes_bytes format o)) (sym plain.probe) (no_probe format) in
-    let epoch_are = epoch_in format s.epoch (all_right (slot_objects s.slot) (as_list s.epoch) last) in
+    let epoch_are = epoch_in format s.epoch (all_right (slot_objects s.paths) (as_list s.epoch) last) in
     subst (λ (d : Option (List ℕ)). AreBytes (control_bytes format s d)) (sym plain.document)
     (joined (front ++ paths ++ probe) (epoch_bytes format s.epoch) (joined (front ++ paths) probe (joined front paths front_are paths_are) probe_are) epoch_are)
 
@@ -284,16 +307,17 @@ plain_out format len s is are =
     let front = weights ++ big_bytes 8 s.prio_ack ++ prios ++ slot in
     let paths = paths_bytes format s.paths in
     let probe = probes_bytes format s.probe in
-    let ends = slot_objects s.slot ++ as_list s.epoch in
     let last = right (front ++ paths ++ probe) (epoch_bytes format s.epoch) are in
-    let parts = parts4 weights (big_bytes 8 s.prio_ack) prios slot
-    (left front paths (left (front ++ paths) probe (left (front ++ paths ++ probe) (epoch_bytes format s.epoch) are))) in
+    let with_paths = left (front ++ paths) probe (left (front ++ paths ++ probe) (epoch_bytes format s.epoch) are) in
+    let parts = parts4 weights (big_bytes 8 s.prio_ack) prios slot (left front paths with_paths) in
     subst (All IsOfBytes) (sym (objects_are s))
-    (All-append IsOfBytes s.weights (prio_objects s.prios ++ ends)
+    (All-append IsOfBytes s.weights (prio_objects s.prios ++ end_objects s)
     (counted_out IsOfBytes (object_bytes format) (object_out format) s.weights parts.0)
-    (All-append IsOfBytes (prio_objects s.prios) ends
+    (All-append IsOfBytes (prio_objects s.prios) (end_objects s)
     (prios_out s.prios (counted_out IsNumberedOf (numbered_bytes format) (numbered_out format) s.prios parts.2))
-    (All-append IsOfBytes (slot_objects s.slot) (as_list s.epoch) (slot_out format s.slot parts.3) (epoch_out format len s.epoch is.epoch last))))
+    (All-append IsOfBytes (slot_objects s.slot) (slot_objects s.paths ++ as_list s.epoch) (slot_out format s.slot parts.3)
+    (All-append IsOfBytes (slot_objects s.paths) (as_list s.epoch) (paths_out format len s.paths is.paths (right front paths with_paths))
+    (epoch_out format len s.epoch is.epoch last)))))
 
 -- a document comes alone
 pub sections_out : (format len : ℕ) (s : Contents) → IsContentsIn format len s → AreBytes (sections_bytes_in format s) → AreOfBytes s

@@ -34,7 +34,7 @@ all_claims : (x : Setting) (es : List Event) (js : List Entry) (w : World) → S
     → Clean (arts_of x) x es js w → Claims x es js w
 all_claims x es js w fits carries run = record {
   nodes = correct_nodes_are_there (arts_of x) x es js w fits carries run;
-  reliable = λ s d there correct apart. flows_are_kept (arts_of x) x es js w fits carries run s d there correct apart;
+  reliable = λ kind s d there correct apart. flows_are_kept kind (arts_of x) x es js w fits carries run s d there correct apart;
   priority = λ s d correct. priority_is_kept (arts_of x) x es js w fits carries run s d correct;
   bounded = λ u n at. buffers_stay_bounded (arts_of x) x es js w fits.fits carries run u n at;
   shares = λ u place. evictions_leave_shares (arts_of x) x es js w fits carries run u place;
@@ -64,7 +64,7 @@ lives_claims x es js w fits carries run = record {
   keys = key_files_stand (arts_of x) x es js w fits run;
   boots = held_boots_are_born (arts_of x) x es js w fits carries run;
   rise = λ u correct. keys_rise (arts_of x) x es js w fits carries run u correct;
-  reliable = λ s d there correct apart. flows_are_kept_over_lives (arts_of x) x es js w fits carries run s d there correct apart;
+  reliable = λ kind s d there correct apart. flows_are_kept_over_lives kind (arts_of x) x es js w fits carries run s d there correct apart;
   priority = λ s d correct. life_priority_is_kept (arts_of x) x es js w fits carries run s d correct;
   bounded = λ u n at. buffers_stay_bounded (arts_of x) x es js w fits carries run u n at;
   shares = λ u place. evictions_leave_shares_over_lives (arts_of x) x es js w fits carries run u place;

@@ -47,7 +47,7 @@ opens : (format len : ℕ) → len ≤ most_signature → (h : Head) (s : Conten
 opens format len small h s key range same plain is =
     let fits = subst (λ (f : ℕ). IsContentsIn f len s) (sym same) is in
     with_room format len h s key range same is
-    (sections_len h.format len small s (record { document = plain.document; paths = plain.paths; probe = plain.probe }) fits)
+    (sections_len h.format len small s (record { document = plain.document; probe = plain.probe }) fits)
 
 -- ---- its tag
 

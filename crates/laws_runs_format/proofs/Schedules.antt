@@ -1,6 +1,6 @@
 -- An event that its line allows after those before it is in its range in a run.
-use Rattle.std.proofs.Common.{◌≡◌, ◌<◌, ◌≤◌, ℕ, zero, suc, ◌+◌, ◌==◌, ◌-◌, ◌^◌, Bool, true, false, cond, nat_le, List, [], ◌∷◌, ◌++◌, length, length-append}
-use Rattle.std.proofs.Common.{map, refl, sym, ap, ap₂, subst, ◌∙◌, inl, inr, arith, append_assoc}
+use Rattle.std.proofs.Common.{◌≡◌, ◌<◌, ◌≤◌, ℕ, zero, suc, ◌+◌, ◌==◌, ◌-◌, ◌^◌, Bool, true, false, cond, not, nat_le, List, [], ◌∷◌, ◌++◌, length}
+use Rattle.std.proofs.Common.{length-append, map, refl, sym, ap, ap₂, subst, ◌∙◌, inl, inr, arith, append_assoc}
 use Rattle.std.specs.Prelude.{◌⊎◌, ◌&&◌, ◌||◌, Option, Some, None, count_by, nat_lt, if◌then◌else◌}
 use Rattle.std.specs.List.{All, list_any, range_with_len}
 use Rattle.std.proofs.lemmas.Bool.{cases_Bool, eqb-true, eq-eqb}
@@ -17,8 +17,12 @@ use Rattle.sp_base.specs.Formats.{by_format}
 use Rattle.sp_base.specs.declared.format.TheConstants.{FORMAT_1}
 use Rattle.sp_base.specs.declared.limits.TheConstants.{MAX_EDGES, MAX_EVENTS, MAX_WEIGHT}
 use Rattle.sp_hss.specs.KeyTree.{total}
-use Rattle.sp_msg.proofs.GoodFields.{GoodMask, ack_is_good, prio_is_good, rel_is_good, weight_is_good}
+use Rattle.sp_msg.proofs.GoodFields.{GoodKack, GoodKrel, GoodMask, ack_is_good, prio_is_good, rel_is_good, weight_is_good}
+use Rattle.sp_msg.specs.Bodies.{HasGoodFieldsIn}
 use Rattle.sp_msg.specs.Fields.{IsInRange, free, ranged}
+use Rattle.sp_msg.specs.declared.body.Body.TheVariants as bodies
+use Rattle.sp_msg.specs.declared.body.Kack.{Kack}
+use Rattle.sp_msg.specs.declared.body.Krel.{Krel}
 use Rattle.sp_msg.specs.declared.mask.Mask.{Mask}
 use Rattle.sp_msg.specs.declared.refused.Field.TheVariants as fields
 use Rattle.sp_schedule_crafts.specs.declared.object.CraftedObject.{CraftedObject}
@@ -27,7 +31,7 @@ use Rattle.sp_schedule_events.specs.EventLines as lines
 use Rattle.sp_schedule_events.specs.Events as lined
 use Rattle.sp_schedule_events.specs.Scenarios as scenarios
 use Rattle.sp_schedule_events.specs.Documents.{documents, has_index, has_weights, may_craft, may_publish, none_comes_back, published}
-use Rattle.sp_schedule_events.specs.Scenarios.{are_joined, differ, has_documents}
+use Rattle.sp_schedule_events.specs.Scenarios.{are_joined, differ, has_documents, has_paths}
 use Rattle.sp_sign.specs.Heights.{param_of}
 use Rattle.sp_schedule_events.specs.declared.event.Event.{Event}
 use Rattle.sp_schedule_events.specs.declared.event.Event.TheVariants as events
@@ -36,7 +40,7 @@ use Rattle.sp_runs.specs.Runs.{AreFields, InRange, IsMade, MayPublish, is_other,
 use Rattle.sp_runs.specs.Scenarios.{IsHeader, node_key, setting_of}
 use Rattle.sp_runs.specs.Settings.{is_correct, is_node}
 use Rattle.laws_runs.proofs.Counts.{poll_more}
-use Rattle.laws_runs.proofs.Crafts.{no_boot}
+use Rattle.laws_runs.proofs.CraftRanges.{no_boot}
 use Rattle.laws_runs.proofs.Lists.{both}
 use Rattle.laws_runs_format.specs.Schedules.{ScheduledEventsAreInRange}
 
@@ -89,6 +93,8 @@ same_poll a b (events.Publish u weights) = refl
 same_poll a b (events.CraftDocument u v k n weights) = refl
 same_poll a b (events.Start u) = refl
 same_poll a b (events.Stop u) = refl
+same_poll a b (events.Krel u v c p) = refl
+same_poll a b (events.KTake u v) = refl
 
 same_count : (a b : NodeId) (es : List Event) → count_by (lined.is_poll a.0 b.0) es ≡ polls es a b
 same_count a b [] = refl
@@ -126,6 +132,8 @@ poll_joins s es a b (events.Publish u weights) is t = absurd cc
 poll_joins s es a b (events.CraftDocument u v k n weights) is t = absurd cc
 poll_joins s es a b (events.Start u) is t = absurd cc
 poll_joins s es a b (events.Stop u) is t = absurd cc
+poll_joins s es a b (events.Krel u v c p) is t = absurd cc
+poll_joins s es a b (events.KTake u v) is t = absurd cc
 
 -- a frame was made between neighbours alone
 polled_joins : (s : Scenario) (es : List Event) → AreInRange s es → (a b : NodeId) → 1 ≤ polls es a b → are_joined s a.0 b.0 ≡ true
@@ -154,6 +162,21 @@ good_mask format mask high low = record { high = high_in (format == FORMAT_1) hi
         → IsInRange (if b then ranged fields.Mask 16 0 (2 ^ MAX_EDGES - 1) else free 16) mask.low
     low_in true small = (omega arith, omega (arith, small))
     low_in false small = small
+
+-- kinds of flows on paths are those of a later format
+has_later : (format : ℕ) → not (format == FORMAT_1) ≡ true → by_format format false true ≡ true
+has_later format later = go (format == FORMAT_1) later
+  where
+    go : (t : Bool) → not t ≡ true → (if t then false else true) ≡ true
+    go true e = absurd (let wrong : false ≡ true = e in cc)
+    go false e = refl
+
+krel_is_good : (format : ℕ) (r : Krel) → not (format == FORMAT_1) ≡ true → GoodKrel format r → HasGoodFieldsIn format (bodies.Krel r)
+krel_is_good format r later is =
+    (has_later format later, (is.src, (is.dst, (is.sboot, (is.dboot, (is.seq, (is.mask.high, (is.mask.low, ((omega arith, is.payload), tt)))))))))
+
+kack_is_good : (format : ℕ) (a : Kack) → not (format == FORMAT_1) ≡ true → GoodKack format a → HasGoodFieldsIn format (bodies.Kack a)
+kack_is_good format a later is = (has_later format later, (is.src, (is.dst, (is.sboot, (is.dboot, (is.seq, tt))))))
 
 crafted_in : (s : Scenario) (es : List Event) (c v key : NodeId) (object : CraftedObject) → Lined s es (events.Craft c v key object)
     → AreFields (setting_of s) es (events.Craft c v key object)
@@ -229,6 +252,43 @@ crafted_in s es c v key (crafted.Weight w) is =
       is.joined,
       node_is s key by.0 by.1,
       weight_is_good s.format w (record { origin = (origin.0, origin.1); edge = edge.1; seq = (seq.0, seq.1); weight = (weight.0, weight.1) }),
+      All-nil (λ (b : ℕ). b < 256),
+    )
+crafted_in s es c v key (crafted.Krel r) is =
+    let to = is.values.2 in
+    let by = to.3 in
+    let src = by.2 in
+    let dst = src.2 in
+    let seq = dst.2 in
+    let mask = seq.2 in
+    let payload = mask.1.0 in
+    let parts = both (lined.has_object s (crafted.Krel r)) (are_joined s c.0 v.0) is.joined in (
+      correct_is s v to.0 to.1 to.2,
+      parts.1,
+      node_is s key by.0 by.1,
+      krel_is_good s.format (record { src = r.src; dst = r.dst; sboot = 0; dboot = 0; seq = r.seq; mask = r.mask; payload = r.payload }) parts.0 (record {
+        src = (src.0, src.1);
+        dst = (dst.0, dst.1);
+        sboot = no_boot s.format;
+        dboot = no_boot s.format;
+        seq = (seq.0, seq.1);
+        mask = good_mask s.format r.mask mask.0.high mask.0.low;
+        payload = payload.1;
+      }),
+      payload.2,
+    )
+crafted_in s es c v key (crafted.Kack a) is =
+    let to = is.values.2 in
+    let by = to.3 in
+    let src = by.2 in
+    let dst = src.2 in
+    let seq = dst.2 in
+    let parts = both (lined.has_object s (crafted.Kack a)) (are_joined s c.0 v.0) is.joined in (
+      correct_is s v to.0 to.1 to.2,
+      parts.1,
+      node_is s key by.0 by.1,
+      kack_is_good s.format (record { src = a.src; dst = a.dst; sboot = 0; dboot = 0; seq = a.seq }) parts.0
+          (record { src = (src.0, src.1); dst = (dst.0, dst.1); sboot = no_boot s.format; dboot = no_boot s.format; seq = (seq.0, seq.1) }),
       All-nil (λ (b : ℕ). b < 256),
     )
 
@@ -313,6 +373,18 @@ fields_in s es (events.Prio a b prio expiry paths payload) are few is =
       bytes.1,
       bytes.2,
     )
+fields_in s es (events.Krel a b paths payload) are few is =
+    let from = is.values in
+    let to = from.3 in
+    let over = to.2 in
+    let bytes = over.2.0 in
+    let parts = both (has_paths s) (differ a.0 b.0) is.joined in
+    (parts.0, correct_is s a from.0 from.1 from.2, other_is s a b to.0 to.1 parts.1, over.0, over.1, bytes.1, bytes.2)
+fields_in s es (events.KTake a b) are few is =
+    let at = is.values in
+    let from = at.3 in
+    let parts = both (has_paths s) (differ a.0 b.0) is.joined in
+    (parts.0, correct_is s a at.0 at.1 at.2, other_is s a b from.0 from.1 parts.1)
 fields_in s es (events.Take a b) are few is =
     let at = is.values in
     let from = at.3 in

@@ -59,6 +59,8 @@ harmless s es js w (events.Publish u weights) what good plain range run none hos
 harmless s es js w (events.CraftDocument c v key version weights) what good plain range run none hostile at = absurd none
 harmless s es js w (events.Start u) what good plain range run none hostile at = absurd hostile
 harmless s es js w (events.Stop u) what good plain range run none hostile at = absurd hostile
+harmless s es js w (events.Krel a d paths payload) what good plain range run none hostile at = absurd hostile
+harmless s es js w (events.KTake d a) what good plain range run none hostile at = absurd hostile
 
 pub harmless_schedules_forge_nothing : HarmlessSchedulesForgeNothing
 harmless_schedules_forge_nothing s es schedule plain all before event after js w what is run at =

@@ -1,5 +1,5 @@
--- Counted delivery over this format, in every setting that a schedule's header makes: nothing is asked of what the format writes, and of the header its ranges
--- and room for a message.
+-- Counted delivery of both kinds of flows over this format, in every setting that a schedule's header makes: nothing is asked of what the format writes, and of the
+-- header its ranges and room for a message.
 use Rattle.std.specs.Prelude.{◌≡◌, ◌≤◌, false, true}
 use Rattle.sp_runs.specs.Scenarios.{IsHeader, setting_of}
 use Rattle.sp_schedule_events.specs.declared.scenario.Scenario.{Scenario}

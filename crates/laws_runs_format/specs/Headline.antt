@@ -4,6 +4,7 @@ use Rattle.sp_base.specs.declared.id.NodeId.{NodeId}
 use Rattle.sp_journal.specs.declared.entry.Entry.{Entry}
 use Rattle.sp_rules.specs.Node.{NodeState, topology_now}
 use Rattle.sp_rules.specs.Topologies.{succeeds}
+use Rattle.sp_rules.specs.declared.kflow.FlowKind.{FlowKind}
 use Rattle.sp_runs.specs.Bounds.{IsBounded}
 use Rattle.sp_runs.specs.Held.{AreShares}
 use Rattle.sp_runs.specs.Runs.{Clean}
@@ -37,9 +38,10 @@ use Rattle.laws_runs_format.specs.Arts.{arts_of}
 pub record Claims (x : Setting) (es : List Event) (js : List Entry) (w : World) : Type 0 where
   -- exactly the correct nodes have a state
   pub nodes : NodeClaims x w
-  -- Reliable messages from any node to a correct one. What was delivered of a correct source is a prefix of what it sent, under the numbers 1, 2, 3
-  -- and so on, and nothing counts as acknowledged that wasn't delivered
-  pub reliable : (s d : NodeId) → IsTrue (is_node x s) → IsTrue (is_correct x d) → (s ≡ d → ⊥) → FlowClaims (arts_of x) x s d es js w
+  -- Reliable messages from any node to a correct one, in plain flows and in those on paths. What was delivered of a correct source is a prefix of what it
+  -- sent, under the numbers 1, 2, 3 and so on, and nothing counts as acknowledged that wasn't delivered
+  pub reliable : (kind : FlowKind) (s d : NodeId) → IsTrue (is_node x s) → IsTrue (is_correct x d) → (s ≡ d → ⊥)
+      → FlowClaims kind (arts_of x) x s d es js w
   -- priority messages of any source at a correct node: each number at most once, and those of a correct source were sent
   pub priority : (s d : NodeId) → IsTrue (is_correct x d) → PrioClaims x s d es js
   -- no buffer of a correct node is above its bound
@@ -56,7 +58,8 @@ pub record RunClaims (x : Setting) (es : List Event) (js : List Entry) : Type 0 
   pub reached : (n : ℕ) → (w : World) × Clean (arts_of x) x (take n es) (take n js) w
   pub one : (n : ℕ) (w v : World) → Clean (arts_of x) x (take n es) (take n js) w → Clean (arts_of x) x (take n es) (take n js) v → w ≡ v
   pub claims : (n : ℕ) (w : World) → Clean (arts_of x) x (take n es) (take n js) w → Claims x (take n es) (take n js) w
-  -- Within a version: what was accepted is delivered, and what was acknowledged has returned, after so many complete rounds of a path of correct nodes
+  -- Within a version, of both kinds of flows: what was accepted is delivered, and what was acknowledged has returned, after so many complete rounds of a path
+  -- of correct nodes
   pub delivered : DeliversInRounds (arts_of x) x
   pub returned : ReturnsInRounds (arts_of x) x
 
@@ -87,11 +90,11 @@ pub record LivesClaims (x : Setting) (es : List Event) (js : List Entry) (w : Wo
   pub boots : BootClaims (arts_of x) x es js w
   -- no one-time index signs twice, whatever starts and stops are between, and boots rise
   pub rise : (u : NodeId) → IsTrue (is_correct x u) → KeyClaims u (past (arts_of x) x es js w run)
-  -- Reliable messages from any node to a correct one, of each pair of boots. What was delivered of a correct source, while the destination had its boot and
-  -- held that of the source, is a prefix of what the source sent while it had this boot and held that one, under the numbers 1, 2, 3 and so on; and nothing
-  -- counts as acknowledged under two boots that wasn't delivered under them
-  pub reliable : (s d : NodeId) → IsTrue (is_node x s) → IsTrue (is_correct x d) → (s ≡ d → ⊥)
-      → LifeFlowClaims (arts_of x) x s d es js (past (arts_of x) x es js w run) w
+  -- Reliable messages from any node to a correct one, of each pair of boots, in plain flows and in those on paths. What was delivered of a correct source,
+  -- while the destination had its boot and held that of the source, is a prefix of what the source sent while it had this boot and held that one, under the
+  -- numbers 1, 2, 3 and so on; and nothing counts as acknowledged under two boots that wasn't delivered under them
+  pub reliable : (kind : FlowKind) (s d : NodeId) → IsTrue (is_node x s) → IsTrue (is_correct x d) → (s ≡ d → ⊥)
+      → LifeFlowClaims kind (arts_of x) x s d es js (past (arts_of x) x es js w run) w
   -- priority messages of any source at a correct node, of each pair of boots: each number at most once, and those of a correct source were sent under that boot
   pub priority : (s d : NodeId) → IsTrue (is_correct x d) → LifePrioClaims x s d (past (arts_of x) x es js w run)
   -- no buffer of a correct node is above its bound
@@ -110,8 +113,8 @@ pub record RunLives (x : Setting) (es : List Event) (js : List Entry) : Type 0 w
   pub reached : (n : ℕ) → (w : World) × Clean (arts_of x) x (take n es) (take n js) w
   pub one : (n : ℕ) (w v : World) → Clean (arts_of x) x (take n es) (take n js) w → Clean (arts_of x) x (take n es) (take n js) v → w ≡ v
   pub claims : (n : ℕ) (w : World) → (run : Clean (arts_of x) x (take n es) (take n js) w) → LivesClaims x (take n es) (take n js) w run
-  -- Within a version, while the nodes of a path stay up: after so many rounds that tell starts each holds the boot of each other's life, and from
-  -- then on what is accepted is delivered, and what is acknowledged returns, after as many complete rounds as without epochs, whatever all other nodes do
+  -- Within a version, while the nodes of a path stay up: after so many rounds that tell starts each holds the boot of each other's life, and from then on what
+  -- flows of both kinds accept is delivered, and what is acknowledged returns, after as many complete rounds as without epochs, whatever all other nodes do
   pub told : x.epochs ≡ true → StartsAreTold (arts_of x) x
   pub delivered : DeliversInLives (arts_of x) x
   pub returned : ReturnsInLives (arts_of x) x

@@ -35,11 +35,11 @@ pub fn headers_fit()
     ensures signatures { SignaturesAreLong }
 {}
 
-/// The headline: of every run of a schedule without forgery, after each of its events, deliveries are a prefix of what was sent, priority messages are
-/// authentic and come once, buffers are bounded, evictions leave fair shares, weights are what their ends said, and what was accepted is delivered after a
-/// counted number of rounds of a correct path, within a version. So it is without epochs. Where nodes start and stop, the same holds of
-/// each pair of lives of two nodes, only correct nodes run, with the boots and bounds of their key files, no index signs twice, and each version of the
-/// topology that a correct node runs under was handed out.
+/// The headline: of every run of a schedule without forgery, after each of its events, deliveries are a prefix of what was sent, in plain flows and in those
+/// on paths, priority messages are authentic and come once, buffers are bounded, evictions leave fair shares, weights are what their ends said, and what
+/// either accepted is delivered after a counted number of rounds of a correct path, within a version. So it is without epochs. Where nodes start and
+/// stop, the same holds of each pair of lives of two nodes, only correct nodes run, with the boots and bounds of their key files, no index signs twice, and
+/// each version of the topology that a correct node runs under was handed out.
 pub fn every_run()
     ensures plain { EveryRun }
     ensures lives { EveryLife }
@@ -83,9 +83,9 @@ pub fn generated_forge_nothing()
     ensures { GeneratedForgeNothing }
 {}
 
-/// A law: in the setting of every header in its ranges, what a source accepted is delivered, and what a destination acknowledged has returned, after so many
-/// complete rounds of a path whose nodes run under one version meanwhile. Where nodes start and stop so it is in the lives of a path that stays up, once its
-/// nodes hold the boots of its ends: after so many rounds that tell starts they do.
+/// A law: in the setting of every header in its ranges, what a source accepted for a flow of either kind is delivered, and what a destination acknowledged has
+/// returned, after so many complete rounds of a path whose nodes run under one version meanwhile. Where nodes start and stop so it is in the lives of a path
+/// that stays up, once its nodes hold the boots of its ends: after so many rounds that tell starts they do.
 pub fn schedules_deliver_in_rounds()
     ensures delivered { SchedulesDeliver }
     ensures returned { SchedulesReturn }
@@ -101,7 +101,8 @@ pub fn versions_spread_over_schedules()
     ensures spread { SchedulesSpreadVersions }
 {}
 
-/// A law: whatever the weights are, a priority message has a choice of its edges; and so each event that may come in a run of a schedule has a turn.
+/// A law: whatever the weights are, a message of priority or on paths has a choice of its edges; and so each event that may come in a run of a schedule has a
+/// turn.
 pub fn events_have_turns()
     ensures choices { EachRequestHasAChoice }
     ensures turns { ScheduledEventsHaveTurns }

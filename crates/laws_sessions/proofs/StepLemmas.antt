@@ -95,6 +95,8 @@ open_goes (commands.Send to payload) is = absurd (cc)
 open_goes (commands.SendPrio to prio expiry paths payload) is = absurd (cc)
 open_goes (commands.Take from) is = absurd (cc)
 open_goes commands.TakePrio is = absurd (cc)
+open_goes (commands.SendKrel to paths payload) is = absurd (cc)
+open_goes (commands.TakeKrel from) is = absurd (cc)
 open_goes (commands.Weight peer weight) is = absurd (cc)
 open_goes commands.Close is = absurd (cc)
 
@@ -105,6 +107,8 @@ open_is_silent (commands.Send to payload) answer is = refl
 open_is_silent (commands.SendPrio to prio expiry paths payload) answer is = refl
 open_is_silent (commands.Take from) answer is = refl
 open_is_silent commands.TakePrio answer is = refl
+open_is_silent (commands.SendKrel to paths payload) answer is = refl
+open_is_silent (commands.TakeKrel from) answer is = refl
 open_is_silent (commands.Weight peer weight) answer is = refl
 open_is_silent commands.Close answer is = refl
 
@@ -125,5 +129,7 @@ takes_over steps holder p before after (commands.Send to payload) answer answere
 takes_over steps holder p before after (commands.SendPrio to prio expiry paths payload) answer answered on = absurd (cc)
 takes_over steps holder p before after (commands.Take from) answer answered on = absurd (cc)
 takes_over steps holder p before after commands.TakePrio answer answered on = absurd (cc)
+takes_over steps holder p before after (commands.SendKrel to paths payload) answer answered on = absurd (cc)
+takes_over steps holder p before after (commands.TakeKrel from) answer answered on = absurd (cc)
 takes_over steps holder p before after (commands.Weight peer weight) answer answered on = absurd (cc)
 takes_over steps holder p before after commands.Close answer answered on = absurd (cc)

@@ -29,6 +29,8 @@ section_is lives (crafted.Prio p) o = refl
 section_is lives (crafted.Rel r) o = refl
 section_is lives (crafted.Ack a) o = refl
 section_is lives (crafted.Weight w) o = refl
+section_is lives (crafted.Krel r) o = refl
+section_is lives (crafted.Kack a) o = refl
 
 -- a report
 pub slot_is : (lives : List Life) (flow : Flow) (base have : ℕ) (ack : Option Kept) (rels : List Kept)

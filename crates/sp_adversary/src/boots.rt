@@ -3,7 +3,7 @@ ghost use Rattle.std.specs.Prelude.{◌≡◌};
 ghost use Rattle.sp_adversary.specs.Boots.{dated_with, ends_of};
 
 use sp_base::{Flow, NodeId};
-use sp_msg::{Ack, Body, Prio, Rel};
+use sp_msg::{Ack, Body, Kack, Krel, Prio, Rel};
 
 /// The boots of the ends of a flow, as the receiver of a crafted frame holds them: 0 where it holds none.
 #[derive(Clone, Copy, Debug)]
@@ -20,6 +20,8 @@ pub fn ends_of(body: &Body) -> Flow
         Body::Prio(prio) => Flow::between(prio.src, prio.dst),
         Body::Rel(rel) => Flow::between(rel.src, rel.dst),
         Body::Ack(ack) => Flow::between(ack.src, ack.dst),
+        Body::Krel(rel) => Flow::between(rel.src, rel.dst),
+        Body::Kack(ack) => Flow::between(ack.src, ack.dst),
         _ => Flow::between(NodeId(0), NodeId(0)),
     }
 }
@@ -37,6 +39,16 @@ pub fn dated(body: Body, boots: EndBoots) -> Body
             ..rel
         }),
         Body::Ack(ack) => Body::Ack(Ack {
+            sboot,
+            dboot,
+            ..ack
+        }),
+        Body::Krel(rel) => Body::Krel(Krel {
+            sboot,
+            dboot,
+            ..rel
+        }),
+        Body::Kack(ack) => Body::Kack(Kack {
             sboot,
             dboot,
             ..ack

@@ -1,14 +1,14 @@
 // Frames that a compromised node crafts: fresh to their receiver, and under the right tag.
-ghost use Rattle.std.specs.Prelude.{◌≡◌, ◌≤◌, ◌++◌, [], All, IfOk, IfSome, None as Nothing, length, map, option_map, replicate};
+ghost use Rattle.std.specs.Prelude.{ℕ, ◌≡◌, ◌≤◌, ◌++◌, [], All, IfOk, IfSome, None as Nothing, length, map, option_map, replicate};
 ghost use Rattle.sp_frame.specs.Frames.{frame_bytes, tagged_part};
 ghost use Rattle.sp_frame.specs.Sections.{with_document};
 ghost use Rattle.sp_frame.specs.Views.{as_list};
-ghost use Rattle.sp_frame.specs.Writing.{IsWritable, IsWritableSlot, out_report};
+ghost use Rattle.sp_frame.specs.Writing.{IsWritable, IsWritableSlot, out_contents, out_report};
 ghost use Rattle.sp_frame.specs.declared.frame.TheConstants.{TAG_BYTES};
 ghost use Rattle.sp_frame.specs.declared.writing.TheConstants.{MAX_DOCUMENT_BYTES};
 ghost use Rattle.sp_hmac.specs.Hmac.{hmac};
 ghost use Rattle.sp_node_format.specs.Format.{format_in};
-ghost use Rattle.sp_adversary.specs.Boots.{object_with, slot_with};
+ghost use Rattle.sp_adversary.specs.Boots.{object_with, report_with, slot_said, slot_with};
 ghost use Rattle.sp_runs.specs.Inputs.{contents_with, counter_after, sealed_frame};
 
 use crate::boots::EndBoots;
@@ -81,7 +81,11 @@ pub fn status_frame(
         ack: None,
         rels: Four::new(),
     };
-    let mut frame = with_parts(alloc, head, None, Four::new(), Some(slot))?;
+    let sections = OutSections {
+        slot: Some(slot),
+        ..no_sections()
+    };
+    let mut frame = write(alloc, head, &sections)?;
     seal(key, &mut frame);
     Ok(frame)
 }
@@ -107,44 +111,97 @@ fn with_object(alloc: Global, head: &Head, object: &Kept) -> Result<Bytes, Memor
     requires { IsWritable head.now.format object.now }
     ensures { IfOk result (λ bytes. bytes ≡ frame_bytes head.now (object_with object.now.body object.now) (replicate 32 0)) }
 {
+    let none = no_sections();
+    let sections = match &object.body {
+        Body::Prio(_) => OutSections {
+            prios: Four::new().with((1, object)),
+            ..none
+        },
+        Body::Weight(_) => OutSections {
+            weight: Some(object),
+            ..none
+        },
+        Body::Ack(_) | Body::Rel(_) => OutSections {
+            slot: slot_of(object),
+            ..none
+        },
+        Body::Kack(_) | Body::Krel(_) => OutSections {
+            paths: slot_of(object),
+            ..none
+        },
+        _ => none,
+    };
+    write(alloc, head, &sections)
+}
+
+/// The slot of a message of a flow, or of an acknowledgement, with a report of the boots that it names.
+fn slot_of<'a>(object: &'a Kept) -> Option<OutSlot<'a>>
+    ensures slot { option_map out_report result ≡ slot_said object.now.body object.now }
+    ensures writable { (format : ℕ) → IsWritable format object.now → IfSome result (IsWritableSlot format) }
+{
     match &object.body {
-        Body::Prio(_) => with_parts(alloc, head, None, Four::new().with((1, object)), None),
-        Body::Weight(_) => with_parts(alloc, head, Some(object), Four::new(), None),
         Body::Ack(ack) => {
-            let flow = Flow::between(ack.src, ack.dst);
             let boots = EndBoots {
                 sboot: ack.sboot,
                 dboot: ack.dboot,
             };
-            in_slot(alloc, head, flow, boots, Some(object), Four::new())
+            Some(of_flow(
+                Flow::between(ack.src, ack.dst),
+                boots,
+                Some(object),
+                Four::new(),
+            ))
+        }
+        Body::Kack(ack) => {
+            let boots = EndBoots {
+                sboot: ack.sboot,
+                dboot: ack.dboot,
+            };
+            Some(of_flow(
+                Flow::between(ack.src, ack.dst),
+                boots,
+                Some(object),
+                Four::new(),
+            ))
         }
         Body::Rel(rel) => {
-            let flow = Flow::between(rel.src, rel.dst);
             let boots = EndBoots {
                 sboot: rel.sboot,
                 dboot: rel.dboot,
             };
-            in_slot(alloc, head, flow, boots, None, Four::new().with(object))
+            Some(of_flow(
+                Flow::between(rel.src, rel.dst),
+                boots,
+                None,
+                Four::new().with(object),
+            ))
         }
-        _ => with_parts(alloc, head, None, Four::new(), None),
+        Body::Krel(rel) => {
+            let boots = EndBoots {
+                sboot: rel.sboot,
+                dboot: rel.dboot,
+            };
+            Some(of_flow(
+                Flow::between(rel.src, rel.dst),
+                boots,
+                None,
+                Four::new().with(object),
+            ))
+        }
+        _ => None,
     }
 }
 
-/// The same of one in the slot of its flow, as the acknowledgement or as a message, with a report of these boots.
-fn in_slot<'a>(
-    alloc: Global,
-    head: &Head,
+/// A slot of a flow with a report of these boots, which says that nothing is there.
+fn of_flow<'a>(
     flow: Flow,
     boots: EndBoots,
     ack: Option<&'a Kept>,
     rels: Four<&'a Kept>,
-) -> Result<Bytes, Memory>
-    requires ack { IfSome ack (λ o. IsWritable head.now.format o.now) }
-    requires rels { All (λ o. IsWritable head.now.format o.now) rels }
-    ensures { IfOk result (λ bytes. bytes ≡ frame_bytes head.now
-        (slot_with boots flow 0 0 (option_map (λ o. o.now) ack.entry) (map (λ o. o.now) rels.entry)) (replicate 32 0)) }
+) -> OutSlot<'a>
+    ensures { out_report result ≡ report_with boots flow 0 0 (option_map (λ o. o.now) ack.entry) (map (λ o. o.now) rels.entry) }
 {
-    let slot = OutSlot {
+    OutSlot {
         flow,
         sboot: boots.sboot,
         dboot: boots.dboot,
@@ -152,34 +209,22 @@ fn in_slot<'a>(
         have: 0,
         ack,
         rels,
-    };
-    with_parts(alloc, head, None, Four::new(), Some(slot))
+    }
 }
 
-/// The bytes of a frame with an update, priority messages and a report, and nothing else.
-fn with_parts<'a>(
-    alloc: Global,
-    head: &Head,
-    weight: Option<&'a Kept>,
-    prios: Four<(u64, &'a Kept)>,
-    slot: Option<OutSlot<'a>>,
-) -> Result<Bytes, Memory>
-    requires weight { IfSome weight (λ o. IsWritable head.now.format o.now) }
-    requires prios { All (λ p. IsWritable head.now.format p.1.now) prios }
-    requires slot { IfSome slot (IsWritableSlot head.now.format) }
-    ensures { IfOk result (λ bytes. bytes ≡ frame_bytes head.now (contents_with (as_list (option_map (λ o. o.now) weight.entry))
-        (map (λ p. (p.0, p.1.now)) prios.entry) (option_map out_report slot.entry)) (replicate 32 0)) }
+/// Sections with nothing in them.
+fn no_sections<'a>() -> OutSections<'a>
+    ensures { out_contents result ≡ contents_with [] [] Nothing }
 {
-    let sections = OutSections {
-        weight,
+    OutSections {
+        weight: None,
         prio_ack: 0,
-        prios,
-        slot,
+        prios: Four::new(),
+        slot: None,
         paths: None,
         probe: None,
         epoch: None,
-    };
-    write(alloc, head, &sections)
+    }
 }
 
 /// Writes the tag of all bytes before it into the last 32 bytes (RFC 2104, section 2).

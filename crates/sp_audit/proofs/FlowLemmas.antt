@@ -10,6 +10,7 @@ use Rattle.sp_base.specs.declared.id.Flow.{Flow}
 use Rattle.sp_base.specs.declared.id.NodeId.{NodeId}
 use Rattle.sp_rules.specs.Parts.{nodes_of}
 use Rattle.sp_rules.specs.Rel.{flows_from}
+use Rattle.sp_rules.specs.declared.kflow.FlowKind.TheVariants.{Plain}
 use Rattle.sp_runs.specs.Rounds.{has_correct_ends, is_send}
 use Rattle.sp_runs.specs.Scenarios.{node_key, numbered, topology_of}
 use Rattle.sp_runs.specs.Settings.{Setting}
@@ -67,14 +68,14 @@ all_more p f us u =
     ap (count_by p) (flat_map-append f us (u ∷ []) ∙ ap (λ (fs : List Flow). flat_map f us ++ fs) (append-nil (f u))) ∙ count_append p (flat_map f us) (f u)
 
 pub in_two : (x : Setting) (es : List Event) (fs : List Flow)
-    → count_by (may_wait x es) fs ≡ count_by (λ flow. has_correct_ends x flow && list_any (is_send flow) es) fs
+    → count_by (may_wait x es) fs ≡ count_by (λ flow. has_correct_ends x flow && list_any (is_send Plain flow) es) fs
     + count_by (λ flow. not (has_correct_ends x flow)) fs
 in_two x es [] = refl
 in_two x es (f ∷ fs) =
     let all = sum_by-cons (λ y. cond (may_wait x es y) 1 0) f fs in
-    let sent = sum_by-cons (λ y. cond (has_correct_ends x y && list_any (is_send y) es) 1 0) f fs in
+    let sent = sum_by-cons (λ y. cond (has_correct_ends x y && list_any (is_send Plain y) es) 1 0) f fs in
     let bad = sum_by-cons (λ y. cond (not (has_correct_ends x y)) 1 0) f fs in
-    let here = one (has_correct_ends x f) (list_any (is_send f) es) in
+    let here = one (has_correct_ends x f) (list_any (is_send Plain f) es) in
     let rest = in_two x es fs in
     omega (arith, all, sent, bad, here, rest)
   where

@@ -8,6 +8,7 @@ use Rattle.std.proofs.lemmas.List.Folds.{list_any-append}
 use Rattle.std.proofs.lemmas.List.Elements.{All-cons, All-head, All-nil, All-push, All-tail}
 use Rattle.sp_graph.specs.Walks.{steps}
 use Rattle.sp_base.specs.declared.id.NodeId.{NodeId}
+use Rattle.sp_rules.specs.declared.kflow.FlowKind.TheVariants.{Plain}
 use Rattle.sp_runs.specs.Rounds.{IsHopServed, IsSweep, is_take}
 use Rattle.sp_schedule_events.specs.declared.event.Event.{Event}
 use Rattle.sp_audit.specs.Ends.{HasSweep, IsFirstEnd, IsReady}
@@ -62,8 +63,8 @@ same_first P Q es n to from p = record {
 pub any_longer : (p : Event → Bool) → IsKept (λ xs. IsTrue (list_any p xs))
 any_longer p xs more has = list_any-append p xs more ∙ ap (λ (t : Bool). t || list_any p more) has
 
-pub hop_wider : (least : ℕ) (s d u v : NodeId) (before gap during more : List Event) → IsHopServed least s d u v (before ++ gap) during
-    → IsHopServed least s d u v before (gap ++ (during ++ more))
+pub hop_wider : (least : ℕ) (s d u v : NodeId) (before gap during more : List Event) → IsHopServed Plain least s d u v (before ++ gap) during
+    → IsHopServed Plain least s d u v before (gap ++ (during ++ more))
 hop_wider least s d u v before gap during more h = record {
   early = gap ++ h.early;
   back = h.back;
@@ -80,14 +81,14 @@ hop_wider least s d u v before gap during more h = record {
   is_forth = subst (λ (xs : List Event). IsSweep least u v xs h.forth)
       (append_assoc before gap (h.early ++ (h.back ++ h.between))
       ∙ ap (λ (xs : List Event). before ++ xs) (sym (append_assoc gap h.early (h.back ++ h.between)))) h.is_forth;
-  take = λ same. subst (λ (xs : List Event). IsTrue (list_any (is_take d s) xs)) (sym (append_assoc gap h.early (h.back ++ h.between)))
-      (list_any-append (is_take d s) gap (h.early ++ (h.back ++ h.between))
-      ∙ or_second (list_any (is_take d s) gap) (list_any (is_take d s) (h.early ++ (h.back ++ h.between))) (h.take same));
+  take = λ same. subst (λ (xs : List Event). IsTrue (list_any (is_take Plain d s) xs)) (sym (append_assoc gap h.early (h.back ++ h.between)))
+      (list_any-append (is_take Plain d s) gap (h.early ++ (h.back ++ h.between))
+      ∙ or_second (list_any (is_take Plain d s) gap) (list_any (is_take Plain d s) (h.early ++ (h.back ++ h.between))) (h.take same));
 }
 
-pub hop_longer : (least : ℕ) (s d u v : NodeId) (before : List Event) → IsKept (IsHopServed least s d u v before)
+pub hop_longer : (least : ℕ) (s d u v : NodeId) (before : List Event) → IsKept (IsHopServed Plain least s d u v before)
 hop_longer least s d u v before xs more h =
-    hop_wider least s d u v before [] xs more (subst (λ (ys : List Event). IsHopServed least s d u v ys xs) (sym (append-nil before)) h)
+    hop_wider least s d u v before [] xs more (subst (λ (ys : List Event). IsHopServed Plain least s d u v ys xs) (sym (append-nil before)) h)
 
 -- where a test first passes
 pub first_found : (p : Event → Bool) (es : List Event) (i : ℕ) (e : Event) → i < length es → e ≡ get_or es i e → list_any p (take i es) ≡ false → p e ≡ true
@@ -118,12 +119,13 @@ never_found p es not_there = record {
 -- ---- a hop is ready, then it is served
 
 pub ready_last : (least : ℕ) (s d u v : NodeId) (before es : List Event) (n m : ℕ) → IsFirstEnd (HasSweep least v u before) es n
-    → IsFirstEnd (λ xs. IsTrue (list_any (is_take d s) xs)) es m
+    → IsFirstEnd (λ xs. IsTrue (list_any (is_take Plain d s) xs)) es m
     → v ≡ d → IsFirstEnd (IsReady least s d u v before) es (max n m)
 ready_last least s d u v before es n m back take same =
-    same_first (λ xs. HasSweep least v u before xs × IsTrue (list_any (is_take d s) xs)) (IsReady least s d u v before) es (max n m)
+    same_first (λ xs. HasSweep least v u before xs × IsTrue (list_any (is_take Plain d s) xs)) (IsReady least s d u v before) es (max n m)
     (λ xs p. record { back = p.0; take = λ _. p.1 }) (λ xs r. (r.back, r.take same))
-    (both_first (HasSweep least v u before) (λ xs. IsTrue (list_any (is_take d s) xs)) es n m (longer least v u before) (any_longer (is_take d s)) back take)
+    (both_first (HasSweep least v u before) (λ xs. IsTrue (list_any (is_take Plain d s) xs)) es n m (longer least v u before)
+    (any_longer (is_take Plain d s)) back take)
 
 pub ready_inner : (least : ℕ) (s d u v : NodeId) (before es : List Event) (n : ℕ) → IsFirstEnd (HasSweep least v u before) es n → (v ≡ d → ⊥)
     → IsFirstEnd (IsReady least s d u v before) es n
@@ -158,16 +160,16 @@ length_taken (suc m) [] = omega arith
 length_taken (suc m) (x ∷ xs) = let rest = length_taken m xs in omega (arith, rest)
 
 pub hop_first : (least : ℕ) (s d u v : NodeId) (before es : List Event) (m n : ℕ) → m ≤ length es → IsFirstEnd (IsReady least s d u v before) es m
-    → IsFirstEnd (HasSweep least u v (before ++ take m es)) (drop m es) n → IsFirstEnd (IsHopServed least s d u v before) es (m + n)
+    → IsFirstEnd (HasSweep least u v (before ++ take m es)) (drop m es) n → IsFirstEnd (IsHopServed Plain least s d u v before) es (m + n)
 hop_first least s d u v before es m n within ready forth = record {
   most = (let rest = length-drop m es in omega (arith, within, rest, forth.most));
   has = λ ends. (let rest = length-drop m es in
-      subst (IsHopServed least s d u v before) (sym (take-add m n es))
+      subst (IsHopServed Plain least s d u v before) (sym (take-add m n es))
       (served (take m es) (take n (drop m es)) (ready.has within) (forth.has (omega (arith, within, rest, ends)))));
   none = λ j less h. not_before j less h;
 }
   where
-    served : (xs ys : List Event) → IsReady least s d u v before xs → HasSweep least u v (before ++ xs) ys → IsHopServed least s d u v before (xs ++ ys)
+    served : (xs ys : List Event) → IsReady least s d u v before xs → HasSweep least u v (before ++ xs) ys → IsHopServed Plain least s d u v before (xs ++ ys)
     served xs ys r h =
         let inner : xs ++ h.early ≡ r.back.early ++ (r.back.middle ++ (r.back.late ++ h.early)) =
         ap (λ (zs : List Event). zs ++ h.early) r.back.parts ∙ append_assoc r.back.early (r.back.middle ++ r.back.late) h.early
@@ -185,10 +187,10 @@ hop_first least s d u v before es m n within ready forth = record {
           is_back = r.back.is;
           is_forth = subst (λ (zs : List Event). IsSweep least u v zs h.middle) (append_assoc before xs h.early ∙ ap (λ (zs : List Event). before ++ zs) inner)
               h.is;
-          take = λ same. subst (λ (zs : List Event). IsTrue (list_any (is_take d s) zs)) inner (any_longer (is_take d s) xs h.early (r.take same));
+          take = λ same. subst (λ (zs : List Event). IsTrue (list_any (is_take Plain d s) zs)) inner (any_longer (is_take Plain d s) xs h.early (r.take same));
         }
 
-    not_before : (j : ℕ) → j < m + n → IsHopServed least s d u v before (take j es) → ⊥
+    not_before : (j : ℕ) → j < m + n → IsHopServed Plain least s d u v before (take j es) → ⊥
     not_before j less h = elim (cases_below m (length first)) [
       | inl most ↦ swept most
       | inr more ↦ ready.none (length first) more (subst (IsReady least s d u v before) (sym front_is) is_ready)
@@ -231,14 +233,14 @@ hop_first least s d u v before es m n within ready forth = record {
 
 -- where it is never ready
 pub hop_never : (least : ℕ) (s d u v : NodeId) (before es : List Event) (m : ℕ) → length es < m → IsFirstEnd (IsReady least s d u v before) es m
-    → IsFirstEnd (IsHopServed least s d u v before) es m
+    → IsFirstEnd (IsHopServed Plain least s d u v before) es m
 hop_never least s d u v before es m more ready = record {
   most = ready.most;
   has = λ within. absurd (omega (arith, within, more));
   none = λ j less h. ready.none j less (whole (take j es) h);
 }
   where
-    whole : (xs : List Event) → IsHopServed least s d u v before xs → IsReady least s d u v before xs
+    whole : (xs : List Event) → IsHopServed Plain least s d u v before xs → IsReady least s d u v before xs
     whole xs h = record {
       back = record {
         early = h.early;
@@ -247,15 +249,16 @@ hop_never least s d u v before es m more ready = record {
         parts = h.parts;
         is = h.is_back;
       };
-      take = λ same. subst (λ (zs : List Event). IsTrue (list_any (is_take d s) zs)) (append_assoc h.early (h.back ++ h.between) (h.forth ++ h.late)
+      take = λ same. subst (λ (zs : List Event). IsTrue (list_any (is_take Plain d s) zs)) (append_assoc h.early (h.back ++ h.between) (h.forth ++ h.late)
           ∙ ap (λ (zs : List Event). h.early ++ zs) (append_assoc h.back h.between (h.forth ++ h.late)) ∙ sym h.parts)
-          (any_longer (is_take d s) (h.early ++ (h.back ++ h.between)) (h.forth ++ h.late) (h.take same));
+          (any_longer (is_take Plain d s) (h.early ++ (h.back ++ h.between)) (h.forth ++ h.late) (h.take same));
     }
 
 -- where the ready part ends within, and beyond
 pub hop_end_first : (least : ℕ) (s d u v : NodeId) (es : List Event) (from m n : ℕ) → m ≤ length (drop from es)
     → IsFirstEnd (IsReady least s d u v (take from es)) (drop from es) m
-    → IsFirstEnd (HasSweep least u v (take (from + m) es)) (drop (from + m) es) n → IsFirstEnd (IsHopServed least s d u v (take from es)) (drop from es) (m + n)
+    → IsFirstEnd (HasSweep least u v (take (from + m) es)) (drop (from + m) es) n
+    → IsFirstEnd (IsHopServed Plain least s d u v (take from es)) (drop from es) (m + n)
 hop_end_first least s d u v es from m n within ready forth =
     hop_first least s d u v (take from es) (drop from es) m n within ready
     (subst (λ (xs : List Event). IsFirstEnd (HasSweep least u v xs) (drop m (drop from es)) n) (take-add from m es)
@@ -286,30 +289,30 @@ all_longer P hops keeps xs more all = λ i x within. keeps _ xs more (all i x wi
 
 one_hop_more : (least : ℕ) (s d : NodeId) (before es : List Event) (path : List NodeId) (i n m : ℕ) (u v o : NodeId) → suc i < length path → u ≡ get_or path i o
     → v ≡ get_or path (suc i) o
-    → IsFirstEnd (λ xs. All (λ hop. IsHopServed least s d hop.0 hop.1 before xs) (take i (steps path))) es n
-    → IsFirstEnd (IsHopServed least s d u v before) es m
-    → IsFirstEnd (λ xs. All (λ hop. IsHopServed least s d hop.0 hop.1 before xs) (take (suc i) (steps path))) es (max n m)
+    → IsFirstEnd (λ xs. All (λ hop. IsHopServed Plain least s d hop.0 hop.1 before xs) (take i (steps path))) es n
+    → IsFirstEnd (IsHopServed Plain least s d u v before) es m
+    → IsFirstEnd (λ xs. All (λ hop. IsHopServed Plain least s d hop.0 hop.1 before xs) (take (suc i) (steps path))) es (max n m)
 one_hop_more least s d before es path i n m u v o below is_u is_v earlier last =
     let more = steps_more path i u v o below is_u is_v in
-    same_first (λ xs. All (λ hop. IsHopServed least s d hop.0 hop.1 before xs) (take i (steps path)) × IsHopServed least s d u v before xs)
-    (λ xs. All (λ hop. IsHopServed least s d hop.0 hop.1 before xs) (take (suc i) (steps path))) es (max n m)
-    (λ xs both. subst (λ (hs : List (NodeId × NodeId)). All (λ hop. IsHopServed least s d hop.0 hop.1 before xs) hs) (sym more)
-    (All-push (λ hop. IsHopServed least s d hop.0 hop.1 before xs) (take i (steps path)) (u, v) both.0 both.1))
-    (λ xs all. split_last (λ hop. IsHopServed least s d hop.0 hop.1 before xs) (take i (steps path)) (u, v)
-    (subst (λ (hs : List (NodeId × NodeId)). All (λ hop. IsHopServed least s d hop.0 hop.1 before xs) hs) more all))
-    (both_first (λ xs. All (λ hop. IsHopServed least s d hop.0 hop.1 before xs) (take i (steps path))) (IsHopServed least s d u v before) es n m
-    (all_longer (λ (hop : NodeId × NodeId) xs. IsHopServed least s d hop.0 hop.1 before xs) (take i (steps path))
+    same_first (λ xs. All (λ hop. IsHopServed Plain least s d hop.0 hop.1 before xs) (take i (steps path)) × IsHopServed Plain least s d u v before xs)
+    (λ xs. All (λ hop. IsHopServed Plain least s d hop.0 hop.1 before xs) (take (suc i) (steps path))) es (max n m)
+    (λ xs both. subst (λ (hs : List (NodeId × NodeId)). All (λ hop. IsHopServed Plain least s d hop.0 hop.1 before xs) hs) (sym more)
+    (All-push (λ hop. IsHopServed Plain least s d hop.0 hop.1 before xs) (take i (steps path)) (u, v) both.0 both.1))
+    (λ xs all. split_last (λ hop. IsHopServed Plain least s d hop.0 hop.1 before xs) (take i (steps path)) (u, v)
+    (subst (λ (hs : List (NodeId × NodeId)). All (λ hop. IsHopServed Plain least s d hop.0 hop.1 before xs) hs) more all))
+    (both_first (λ xs. All (λ hop. IsHopServed Plain least s d hop.0 hop.1 before xs) (take i (steps path))) (IsHopServed Plain least s d u v before) es n m
+    (all_longer (λ (hop : NodeId × NodeId) xs. IsHopServed Plain least s d hop.0 hop.1 before xs) (take i (steps path))
     (λ hop. hop_longer least s d hop.0 hop.1 before)) (hop_longer least s d u v before) earlier last)
 
 pub hops_more : (least : ℕ) (s d : NodeId) (before es : List Event) (path : List NodeId) (place n m : ℕ) (u v o : NodeId) → 1 ≤ place → place < length path
     → u ≡ get_or path (place - 1) o → v ≡ get_or path place o
-    → IsFirstEnd (λ xs. All (λ hop. IsHopServed least s d hop.0 hop.1 before xs) (take (place - 1) (steps path))) es n
-    → IsFirstEnd (IsHopServed least s d u v before) es m
-    → IsFirstEnd (λ xs. All (λ hop. IsHopServed least s d hop.0 hop.1 before xs) (take (place + 1 - 1) (steps path))) es (max n m)
+    → IsFirstEnd (λ xs. All (λ hop. IsHopServed Plain least s d hop.0 hop.1 before xs) (take (place - 1) (steps path))) es n
+    → IsFirstEnd (IsHopServed Plain least s d u v before) es m
+    → IsFirstEnd (λ xs. All (λ hop. IsHopServed Plain least s d hop.0 hop.1 before xs) (take (place + 1 - 1) (steps path))) es (max n m)
 hops_more least s d before es path zero n m u v o some below is_u is_v earlier last = absurd (omega (arith, some))
 hops_more least s d before es path (suc i) n m u v o some below is_u is_v earlier last =
     let at : suc i - 1 ≡ i = omega arith in
     let next : suc i ≡ suc i + 1 - 1 = omega arith in
-    subst (λ (k : ℕ). IsFirstEnd (λ xs. All (λ hop. IsHopServed least s d hop.0 hop.1 before xs) (take k (steps path))) es (max n m)) next
+    subst (λ (k : ℕ). IsFirstEnd (λ xs. All (λ hop. IsHopServed Plain least s d hop.0 hop.1 before xs) (take k (steps path))) es (max n m)) next
     (one_hop_more least s d before es path i n m u v o below (subst (λ (k : ℕ). u ≡ get_or path k o) at is_u) is_v
-    (subst (λ (k : ℕ). IsFirstEnd (λ xs. All (λ hop. IsHopServed least s d hop.0 hop.1 before xs) (take k (steps path))) es n) at earlier) last)
+    (subst (λ (k : ℕ). IsFirstEnd (λ xs. All (λ hop. IsHopServed Plain least s d hop.0 hop.1 before xs) (take k (steps path))) es n) at earlier) last)

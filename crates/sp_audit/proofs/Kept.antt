@@ -14,12 +14,14 @@ use Rattle.sp_journal.specs.declared.entry.Entry.{Entry}
 use Rattle.sp_msg.specs.declared.effect.Effect.{Effect}
 use Rattle.sp_msg.specs.declared.effect.Effect.TheVariants as effects
 use Rattle.sp_msg.specs.declared.effect.Why.TheVariants.{Acked, Evicted, Expired, Taken, Withdrawn}
+use Rattle.sp_rules.specs.declared.kflow.FlowKind.{FlowKind}
+use Rattle.sp_rules.specs.declared.kflow.FlowKind.TheVariants as kinds
 use Rattle.sp_runs.specs.Held.{AreShares, Held, ShareIf, goes_from, held_in, stored_in}
 use Rattle.sp_runs.specs.Inputs.{acting}
 use Rattle.sp_runs.specs.Settings.{Setting, is_correct}
 use Rattle.sp_runs.specs.Told.{delivered_by, effects_at, prio_by, sent, told_at}
 use Rattle.sp_schedule_events.specs.declared.event.Event.{Event}
-use Rattle.sp_audit.specs.Firsts.{ComesOnce, IsFirst, KeepsAt, KeepsOrder, KeepsPlace, effects_to, id}
+use Rattle.sp_audit.specs.Firsts.{ComesOnce, IsFirst, KeepsAt, KeepsOrder, KeepsOrders, KeepsPlace, effects_to, id}
 use Rattle.sp_audit.specs.Tops.{IsTop, names}
 use Rattle.sp_audit.specs.Refusals.{IsFirstBroken}
 use Rattle.sp_audit.proofs.Firsts.{first_both, first_same}
@@ -29,8 +31,8 @@ use Rattle.sp_audit.proofs.Walks.{take_all, told_of_effects}
 
 pub good_from : (x : Setting) (es : List Event) (js : List Entry) (m : ℕ) → ((a b : ℕ) → KeepsAt x es js a b m) → IsGood x (take m es) (take m js)
 good_from x es js m keeps = record {
-  prefix = λ s d a b. subst (λ (xs : List _). IsPrefix xs (sent (take m es) (take m js) s d)) (sym (told_of_effects (delivered_by s) d (take m es) (take m js)))
-      ((keeps s.0 d.0).order a b);
+  prefix = λ kind s d a b. subst (λ (xs : List _). IsPrefix xs (sent kind (take m es) (take m js) s d))
+      (sym (told_of_effects (delivered_by kind s) d (take m es) (take m js))) ((keeps s.0 d.0).order a b kind);
   once = λ s d b. subst (λ (xs : List _). AreOnce (map (λ k. k.0) xs)) (sym (told_of_effects (prio_by s) d (take m es) (take m js))) ((keeps s.0 d.0).once b);
   bounded = λ u place. (keeps u.0 place).place.0;
   shares = λ u place. (keeps u.0 place).place.1;
@@ -38,8 +40,8 @@ good_from x es js m keeps = record {
 
 pub keeps_from : (x : Setting) (es : List Event) (js : List Entry) (m : ℕ) → IsGood x (take m es) (take m js) → (a b : ℕ) → KeepsAt x es js a b m
 keeps_from x es js m good a b = record {
-  order = λ s d. subst (λ (xs : List _). IsPrefix xs (sent (take m es) (take m js) (id a) (id b)))
-      (told_of_effects (delivered_by (id a)) (id b) (take m es) (take m js)) (good.prefix (id a) (id b) s d);
+  order = λ s d kind. subst (λ (xs : List _). IsPrefix xs (sent kind (take m es) (take m js) (id a) (id b)))
+      (told_of_effects (delivered_by kind (id a)) (id b) (take m es) (take m js)) (good.prefix kind (id a) (id b) s d);
   once = λ d. subst (λ (xs : List _). AreOnce (map (λ k. k.0) xs)) (told_of_effects (prio_by (id a)) (id b) (take m es) (take m js))
       (good.once (id a) (id b) d);
   place = (good.bounded (id a) b, good.shares (id a) b);
@@ -83,34 +85,50 @@ none_told top s above tells none (e ∷ fs) low =
 apart : (n top s : ℕ) → n ≤ top → top < s → (n == s) ≡ false
 apart n top s low above = ne_eqb n s (λ same. absurd (omega arith))
 
-no_delivery : (top s : ℕ) → top < s → (e : Effect) → names e ≤ top → delivered_by (id s) e ≡ []
-no_delivery top s above (effects.Delivered src seq payload) low = rw (apart src.0 top s low above) refl
-no_delivery top s above (effects.DeliveredPrio src seq payload) low = refl
-no_delivery top s above (effects.Stored place i src seq prio) low = refl
-no_delivery top s above (effects.Gone place i why) low = refl
-no_delivery top s above (effects.Signed bytes) low = refl
-no_delivery top s above (effects.WeightHeld origin edge seq weight) low = refl
-no_delivery top s above (effects.Ended flow) low = refl
-no_delivery top s above (effects.Version version) low = refl
+no_delivery : (kind : FlowKind) (top s : ℕ) → top < s → (e : Effect) → names e ≤ top → delivered_by kind (id s) e ≡ []
+no_delivery kinds.Plain top s above (effects.Delivered src seq payload) low = rw (apart src.0 top s low above) refl
+no_delivery kinds.Plain top s above (effects.DeliveredPrio src seq payload) low = refl
+no_delivery kinds.Plain top s above (effects.DeliveredKrel src seq payload) low = refl
+no_delivery kinds.Plain top s above (effects.Stored place i src seq prio) low = refl
+no_delivery kinds.Plain top s above (effects.Gone place i why) low = refl
+no_delivery kinds.Plain top s above (effects.Signed bytes) low = refl
+no_delivery kinds.Plain top s above (effects.WeightHeld origin edge seq weight) low = refl
+no_delivery kinds.Plain top s above (effects.Ended flow) low = refl
+no_delivery kinds.Plain top s above (effects.Kended flow) low = refl
+no_delivery kinds.Plain top s above (effects.Version version) low = refl
+no_delivery kinds.Paths top s above (effects.Delivered src seq payload) low = refl
+no_delivery kinds.Paths top s above (effects.DeliveredPrio src seq payload) low = refl
+no_delivery kinds.Paths top s above (effects.DeliveredKrel src seq payload) low = rw (apart src.0 top s low above) refl
+no_delivery kinds.Paths top s above (effects.Stored place i src seq prio) low = refl
+no_delivery kinds.Paths top s above (effects.Gone place i why) low = refl
+no_delivery kinds.Paths top s above (effects.Signed bytes) low = refl
+no_delivery kinds.Paths top s above (effects.WeightHeld origin edge seq weight) low = refl
+no_delivery kinds.Paths top s above (effects.Ended flow) low = refl
+no_delivery kinds.Paths top s above (effects.Kended flow) low = refl
+no_delivery kinds.Paths top s above (effects.Version version) low = refl
 
 no_prio : (top s : ℕ) → top < s → (e : Effect) → names e ≤ top → prio_by (id s) e ≡ []
 no_prio top s above (effects.DeliveredPrio src seq payload) low = rw (apart src.0 top s low above) refl
 no_prio top s above (effects.Delivered src seq payload) low = refl
+no_prio top s above (effects.DeliveredKrel src seq payload) low = refl
 no_prio top s above (effects.Stored place i src seq prio) low = refl
 no_prio top s above (effects.Gone place i why) low = refl
 no_prio top s above (effects.Signed bytes) low = refl
 no_prio top s above (effects.WeightHeld origin edge seq weight) low = refl
 no_prio top s above (effects.Ended flow) low = refl
+no_prio top s above (effects.Kended flow) low = refl
 no_prio top s above (effects.Version version) low = refl
 
 no_entry : (top p : ℕ) → top < p → (e : Effect) → names e ≤ top → stored_in p e ≡ []
 no_entry top p above (effects.Stored place i src seq prio) low = rw (apart place top p low above) refl
 no_entry top p above (effects.Delivered src seq payload) low = refl
+no_entry top p above (effects.DeliveredKrel src seq payload) low = refl
 no_entry top p above (effects.DeliveredPrio src seq payload) low = refl
 no_entry top p above (effects.Gone place i why) low = refl
 no_entry top p above (effects.Signed bytes) low = refl
 no_entry top p above (effects.WeightHeld origin edge seq weight) low = refl
 no_entry top p above (effects.Ended flow) low = refl
+no_entry top p above (effects.Kended flow) low = refl
 no_entry top p above (effects.Version version) low = refl
 
 no_eviction : (capacity top p : ℕ) → top < p → (before fs : List Effect) → Low top fs → AreShares capacity p before fs
@@ -129,14 +147,16 @@ no_eviction capacity top p above before (e ∷ fs) low = (
     one (effects.Stored place i src seq prio) here = tt
     one (effects.Delivered src seq payload) here = tt
     one (effects.DeliveredPrio src seq payload) here = tt
+    one (effects.DeliveredKrel src seq payload) here = tt
     one (effects.Signed bytes) here = tt
     one (effects.WeightHeld origin edge seq weight) here = tt
     one (effects.Ended flow) here = tt
+    one (effects.Kended flow) here = tt
     one (effects.Version version) here = tt
 
 -- what is kept where no effect tells otherwise
 record IsMute (x : Setting) (es : List Event) (js : List Entry) (a b m : ℕ) : Type 0 where
-  deliveries : flat_map (delivered_by (id a)) (effects_to es js (id b) m) ≡ []
+  deliveries : (kind : FlowKind) → flat_map (delivered_by kind (id a)) (effects_to es js (id b) m) ≡ []
   prios : flat_map (prio_by (id a)) (effects_to es js (id b) m) ≡ []
   entries : flat_map (stored_in b) (effects_to es js (id a) m) ≡ []
   shares : AreShares x.store b [] (effects_to es js (id a) m)
@@ -147,8 +167,8 @@ none_held capacity p fs none =
 
 mute_keeps : (x : Setting) (es : List Event) (js : List Entry) (a b m : ℕ) → IsMute x es js a b m → KeepsAt x es js a b m
 mute_keeps x es js a b m mute = record {
-  order = λ s d. subst (λ (xs : List _). IsPrefix xs (sent (take m es) (take m js) (id a) (id b))) (sym mute.deliveries)
-      (sent (take m es) (take m js) (id a) (id b), refl);
+  order = λ s d kind. subst (λ (xs : List _). IsPrefix xs (sent kind (take m es) (take m js) (id a) (id b))) (sym (mute.deliveries kind))
+      (sent kind (take m es) (take m js) (id a) (id b), refl);
   once = λ d. subst (λ (xs : List _). AreOnce (map (λ k. k.0) xs)) (sym mute.prios) (λ i j e less inside. absurd (omega (arith, inside)));
   place = (none_held x.store b (effects_to es js (id a) m) mute.entries, mute.shares);
 }
@@ -161,7 +181,7 @@ mute x es js top is a b m (inl above) =
     let low = all_low top (id b) (take m es) (take m js) told in
     let none = none_acts top (id a) above (take m es) (take m js) acts in
     record {
-      deliveries = none_told top a above (delivered_by (id a)) (no_delivery top a above) (effects_to es js (id b) m) low;
+      deliveries = λ kind. none_told top a above (delivered_by kind (id a)) (no_delivery kind top a above) (effects_to es js (id b) m) low;
       prios = none_told top a above (prio_by (id a)) (no_prio top a above) (effects_to es js (id b) m) low;
       entries = ap (flat_map (stored_in b)) none;
       shares = subst (AreShares x.store b []) (sym none) tt;
@@ -172,7 +192,7 @@ mute x es js top is a b m (inr above) =
     let low = all_low top (id a) (take m es) (take m js) told in
     let none = none_acts top (id b) above (take m es) (take m js) acts in
     record {
-      deliveries = ap (flat_map (delivered_by (id a))) none;
+      deliveries = λ kind. ap (flat_map (delivered_by kind (id a))) none;
       prios = ap (flat_map (prio_by (id a))) none;
       entries = none_told top b above (stored_in b) (no_entry top b above) (effects_to es js (id a) m) low;
       shares = no_eviction x.store top b above [] (effects_to es js (id a) m) low;
@@ -185,7 +205,7 @@ above_keeps x es js top is a b m above = mute_keeps x es js a b m (mute x es js 
 
 good_start : (x : Setting) → IsGood x [] []
 good_start x = record {
-  prefix = λ s d a b. ([], refl);
+  prefix = λ kind s d a b. ([], refl);
   once = λ s d b i j none less inside. absurd (omega (arith, inside));
   bounded = λ u place. omega arith;
   shares = λ u place. tt;
@@ -231,16 +251,28 @@ none_broken x es js n even past first m = elim (cases_lt (length es) m) [
 
 -- ---- one pair of numbers
 
+-- what is kept in flows of each of the two kinds is kept in those of any
+pub first_of_kinds : (es : List Event) (js : List Entry) (s d : NodeId) (last i j : ℕ) → IsFirst (KeepsOrder kinds.Plain es js s d) last i
+    → IsFirst (KeepsOrder kinds.Paths es js s d) last j → IsFirst (KeepsOrders es js s d) last (min i j)
+first_of_kinds es js s d last i j plain paths =
+    first_same (λ m. KeepsOrder kinds.Plain es js s d m × KeepsOrder kinds.Paths es js s d m) (KeepsOrders es js s d) last
+    (min i j) (λ m both kind. each m both kind) (λ m all. (all kinds.Plain, all kinds.Paths))
+    (first_both (KeepsOrder kinds.Plain es js s d) (KeepsOrder kinds.Paths es js s d) last i j plain paths)
+  where
+    each : (m : ℕ) → KeepsOrder kinds.Plain es js s d m × KeepsOrder kinds.Paths es js s d m → (kind : FlowKind) → KeepsOrder kind es js s d m
+    each m both kinds.Plain = both.0
+    each m both kinds.Paths = both.1
+
 -- of two correct nodes
 pub first_of_both : (x : Setting) (es : List Event) (js : List Entry) (a b last i j k : ℕ) → IsTrue (is_correct x (id b)) → IsTrue (is_correct x (id a))
-    → IsFirst (KeepsPlace x.store es js (id a) b) last i → IsFirst (ComesOnce es js (id a) (id b)) last j → IsFirst (KeepsOrder es js (id a) (id b)) last k
+    → IsFirst (KeepsPlace x.store es js (id a) b) last i → IsFirst (ComesOnce es js (id a) (id b)) last j → IsFirst (KeepsOrders es js (id a) (id b)) last k
     → IsFirst (KeepsAt x es js a b) last (min (min i j) k)
 first_of_both x es js a b last i j k to from place once order =
-    first_same (λ m. (KeepsPlace x.store es js (id a) b m × ComesOnce es js (id a) (id b) m) × KeepsOrder es js (id a) (id b) m) (KeepsAt x es js a b) last
+    first_same (λ m. (KeepsPlace x.store es js (id a) b m × ComesOnce es js (id a) (id b) m) × KeepsOrders es js (id a) (id b) m) (KeepsAt x es js a b) last
     (min (min i j) k)
     (λ m all. record { order = λ s d. all.1; once = λ d. all.0.1; place = all.0.0 })
     (λ m keeps. ((keeps.place, keeps.once to), keeps.order from to))
-    (first_both (λ m. KeepsPlace x.store es js (id a) b m × ComesOnce es js (id a) (id b) m) (KeepsOrder es js (id a) (id b)) last (min i j) k
+    (first_both (λ m. KeepsPlace x.store es js (id a) b m × ComesOnce es js (id a) (id b) m) (KeepsOrders es js (id a) (id b)) last (min i j) k
     (first_both (KeepsPlace x.store es js (id a) b) (ComesOnce es js (id a) (id b)) last i j place once) order)
 
 -- of a second node that alone is correct

@@ -33,9 +33,11 @@ went_by p id (effects.Gone place gone why) = elim (cases_Bool (place == p)) [
 went_by p id (effects.Stored place i src seq prio) = refl
 went_by p id (effects.Delivered src seq payload) = refl
 went_by p id (effects.DeliveredPrio src seq payload) = refl
+went_by p id (effects.DeliveredKrel src seq payload) = refl
 went_by p id (effects.Signed bytes) = refl
 went_by p id (effects.WeightHeld origin edge seq weight) = refl
 went_by p id (effects.Ended flow) = refl
+went_by p id (effects.Kended flow) = refl
 went_by p id (effects.Version version) = refl
 
 went : (p id : ℕ) (es : List Effect) → is_in id (flat_map (gone_from p) es) ≡ list_any (goes_from p id) es
@@ -156,9 +158,11 @@ shelf_more p es (effects.Gone place id why) = elim (cases_Bool (place == p)) [
 ]
 shelf_more p es (effects.Delivered src seq payload) = quiet p es (effects.Delivered src seq payload) (λ i. refl) refl refl
 shelf_more p es (effects.DeliveredPrio src seq payload) = quiet p es (effects.DeliveredPrio src seq payload) (λ i. refl) refl refl
+shelf_more p es (effects.DeliveredKrel src seq payload) = quiet p es (effects.DeliveredKrel src seq payload) (λ i. refl) refl refl
 shelf_more p es (effects.Signed bytes) = quiet p es (effects.Signed bytes) (λ i. refl) refl refl
 shelf_more p es (effects.WeightHeld origin edge seq weight) = quiet p es (effects.WeightHeld origin edge seq weight) (λ i. refl) refl refl
 shelf_more p es (effects.Ended flow) = quiet p es (effects.Ended flow) (λ i. refl) refl refl
+shelf_more p es (effects.Kended flow) = quiet p es (effects.Kended flow) (λ i. refl) refl refl
 shelf_more p es (effects.Version version) = quiet p es (effects.Version version) (λ i. refl) refl refl
 
 -- ---- effects that come one after another

@@ -31,6 +31,8 @@ no_pass u v n (events.Publish _ _) is = absurd cc
 no_pass u v n (events.CraftDocument _ _ _ _ _) is = absurd cc
 no_pass u v n (events.Start _) is = absurd cc
 no_pass u v n (events.Stop _) is = absurd cc
+no_pass u v n (events.Krel _ _ _ _) is = absurd cc
+no_pass u v n (events.KTake _ _) is = absurd cc
 
 -- ---- a step of each walk
 

@@ -11,6 +11,7 @@ use Rattle.sp_base.specs.Lists.{IsPrefix}
 use Rattle.sp_base.specs.declared.id.NodeId.{NodeId}
 use Rattle.sp_journal.specs.declared.entry.Entry.{Entry}
 use Rattle.sp_msg.specs.declared.effect.Effect.{Effect}
+use Rattle.sp_rules.specs.declared.kflow.FlowKind.{FlowKind}
 use Rattle.sp_runs.specs.Held.{AreShares}
 use Rattle.sp_runs.specs.Inputs.{acting}
 use Rattle.sp_runs.specs.Told.{Message, accepted_in, delivered_by, prio_by, sent}
@@ -45,56 +46,60 @@ tells_next tells es js place e j u turn =
 
 -- ---- the order of messages
 
-pub sent_next : (es : List Event) (js : List Entry) (place : ℕ) (e : Event) (j : Entry) (s d : NodeId) → IsTurn es js place e j
-    → sent (take (place + 1) es) (take (place + 1) js) s d ≡ sent (take place es) (take place js) s d ++ accepted_in s d e j.reply
-sent_next es js place e j s d turn = told_step (λ p. accepted_in s d p.0 p.1.reply) es js place e j turn.even turn.there turn.event turn.entry
+pub sent_next : (kind : FlowKind) (es : List Event) (js : List Entry) (place : ℕ) (e : Event) (j : Entry) (s d : NodeId) → IsTurn es js place e j
+    → sent kind (take (place + 1) es) (take (place + 1) js) s d ≡ sent kind (take place es) (take place js) s d ++ accepted_in kind s d e j.reply
+sent_next kind es js place e j s d turn = told_step (λ p. accepted_in kind s d p.0 p.1.reply) es js place e j turn.even turn.there turn.event turn.entry
 
 longer : {X : Type 0} (xs ys more : List X) → IsPrefix xs ys → IsPrefix xs (ys ++ more)
 longer xs ys more is = (is.0 ++ more, ap (λ (zs : List _). zs ++ more) is.1 ∙ append_assoc xs is.0 more)
 
 -- what was delivered before is a front of what is sent now
-front_now : (es : List Event) (js : List Entry) (place : ℕ) (e : Event) (j : Entry) (s d : NodeId) (now : List Message) → IsTurn es js place e j
-    → now ≡ sent (take place es) (take place js) s d ++ accepted_in s d e j.reply → KeepsOrder es js s d place
-    → IsPrefix (flat_map (delivered_by s) (effects_to es js d place)) now
-front_now es js place e j s d now turn is kept =
-    subst (λ (ys : List Message). IsPrefix (flat_map (delivered_by s) (effects_to es js d place)) ys) (sym is)
-    (longer (flat_map (delivered_by s) (effects_to es js d place)) (sent (take place es) (take place js) s d) (accepted_in s d e j.reply) kept)
+front_now : (kind : FlowKind) (es : List Event) (js : List Entry) (place : ℕ) (e : Event) (j : Entry) (s d : NodeId) (now : List Message)
+    → IsTurn es js place e j
+    → now ≡ sent kind (take place es) (take place js) s d ++ accepted_in kind s d e j.reply → KeepsOrder kind es js s d place
+    → IsPrefix (flat_map (delivered_by kind s) (effects_to es js d place)) now
+front_now kind es js place e j s d now turn is kept =
+    subst (λ (ys : List Message). IsPrefix (flat_map (delivered_by kind s) (effects_to es js d place)) ys) (sym is)
+    (longer (flat_map (delivered_by kind s) (effects_to es js d place)) (sent kind (take place es) (take place js) s d) (accepted_in kind s d e j.reply) kept)
 
 -- no more was delivered than is sent
-pub fewer : (es : List Event) (js : List Entry) (place : ℕ) (e : Event) (j : Entry) (s d : NodeId) (now : List Message) → IsTurn es js place e j
-    → now ≡ sent (take place es) (take place js) s d ++ accepted_in s d e j.reply → KeepsOrder es js s d place
-    → length (flat_map (delivered_by s) (effects_to es js d place)) ≤ length now
-fewer es js place e j s d now turn is kept =
-    let front = front_now es js place e j s d now turn is kept in
-    let all = ap length front.1 ∙ length-append (flat_map (delivered_by s) (effects_to es js d place)) front.0 in
+pub fewer : (kind : FlowKind) (es : List Event) (js : List Entry) (place : ℕ) (e : Event) (j : Entry) (s d : NodeId) (now : List Message)
+    → IsTurn es js place e j
+    → now ≡ sent kind (take place es) (take place js) s d ++ accepted_in kind s d e j.reply → KeepsOrder kind es js s d place
+    → length (flat_map (delivered_by kind s) (effects_to es js d place)) ≤ length now
+fewer kind es js place e j s d now turn is kept =
+    let front = front_now kind es js place e j s d now turn is kept in
+    let all = ap length front.1 ∙ length-append (flat_map (delivered_by kind s) (effects_to es js d place)) front.0 in
     omega (arith, all)
 
-pub order_next : (es : List Event) (js : List Entry) (place : ℕ) (e : Event) (j : Entry) (s d : NodeId) (now : List Message) (count n : ℕ)
+pub order_next : (kind : FlowKind) (es : List Event) (js : List Entry) (place : ℕ) (e : Event) (j : Entry) (s d : NodeId) (now : List Message) (count n : ℕ)
     → IsTurn es js place e j
-    → now ≡ sent (take place es) (take place js) s d ++ accepted_in s d e j.reply → count ≡ length (flat_map (delivered_by s) (effects_to es js d place))
-    → KeepsOrder es js s d place → Agrees now count (flat_map (delivered_by s) (Here e j d)) n
-    → KeepsOrder es js s d (place + 1) × (n ≡ length (flat_map (delivered_by s) (effects_to es js d (place + 1))))
-order_next es js place e j s d now count n turn is counted kept agrees =
-    let before = flat_map (delivered_by s) (effects_to es js d place) in
-    let these = flat_map (delivered_by s) (Here e j d) in
-    let all : flat_map (delivered_by s) (effects_to es js d (place + 1)) ≡ before ++ these = tells_next (delivered_by s) es js place e j d turn in
-    let front : IsPrefix (before ++ these) now = agrees.goes_on before (sym counted) (front_now es js place e j s d now turn is kept) in (
-      subst (λ (xs : List Message). IsPrefix xs (sent (take (place + 1) es) (take (place + 1) js) s d)) (sym all)
-          (subst (λ (ys : List Message). IsPrefix (before ++ these) ys) (is ∙ sym (sent_next es js place e j s d turn)) front),
+    → now ≡ sent kind (take place es) (take place js) s d ++ accepted_in kind s d e j.reply
+    → count ≡ length (flat_map (delivered_by kind s) (effects_to es js d place))
+    → KeepsOrder kind es js s d place → Agrees now count (flat_map (delivered_by kind s) (Here e j d)) n
+    → KeepsOrder kind es js s d (place + 1) × (n ≡ length (flat_map (delivered_by kind s) (effects_to es js d (place + 1))))
+order_next kind es js place e j s d now count n turn is counted kept agrees =
+    let before = flat_map (delivered_by kind s) (effects_to es js d place) in
+    let these = flat_map (delivered_by kind s) (Here e j d) in
+    let all : flat_map (delivered_by kind s) (effects_to es js d (place + 1)) ≡ before ++ these = tells_next (delivered_by kind s) es js place e j d turn in
+    let front : IsPrefix (before ++ these) now = agrees.goes_on before (sym counted) (front_now kind es js place e j s d now turn is kept) in (
+      subst (λ (xs : List Message). IsPrefix xs (sent kind (take (place + 1) es) (take (place + 1) js) s d)) (sym all)
+          (subst (λ (ys : List Message). IsPrefix (before ++ these) ys) (is ∙ sym (sent_next kind es js place e j s d turn)) front),
       agrees.counted ∙ ap (λ (k : ℕ). k + length these) counted ∙ sym (ap length all ∙ length-append before these),
     )
 
-pub order_breaks : (es : List Event) (js : List Entry) (place : ℕ) (e : Event) (j : Entry) (s d : NodeId) (now : List Message) (count : ℕ)
+pub order_breaks : (kind : FlowKind) (es : List Event) (js : List Entry) (place : ℕ) (e : Event) (j : Entry) (s d : NodeId) (now : List Message) (count : ℕ)
     → IsTurn es js place e j
-    → now ≡ sent (take place es) (take place js) s d ++ accepted_in s d e j.reply → count ≡ length (flat_map (delivered_by s) (effects_to es js d place))
-    → KeepsOrder es js s d place → Differs now count (flat_map (delivered_by s) (Here e j d)) → KeepsOrder es js s d (place + 1) → ⊥
-order_breaks es js place e j s d now count turn is counted kept differs next =
-    let before = flat_map (delivered_by s) (effects_to es js d place) in
-    let these = flat_map (delivered_by s) (Here e j d) in
-    let all : flat_map (delivered_by s) (effects_to es js d (place + 1)) ≡ before ++ these = tells_next (delivered_by s) es js place e j d turn in
-    differs before (sym counted) (front_now es js place e j s d now turn is kept)
-    (subst (λ (ys : List Message). IsPrefix (before ++ these) ys) (sent_next es js place e j s d turn ∙ sym is)
-    (subst (λ (xs : List Message). IsPrefix xs (sent (take (place + 1) es) (take (place + 1) js) s d)) all next))
+    → now ≡ sent kind (take place es) (take place js) s d ++ accepted_in kind s d e j.reply
+    → count ≡ length (flat_map (delivered_by kind s) (effects_to es js d place))
+    → KeepsOrder kind es js s d place → Differs now count (flat_map (delivered_by kind s) (Here e j d)) → KeepsOrder kind es js s d (place + 1) → ⊥
+order_breaks kind es js place e j s d now count turn is counted kept differs next =
+    let before = flat_map (delivered_by kind s) (effects_to es js d place) in
+    let these = flat_map (delivered_by kind s) (Here e j d) in
+    let all : flat_map (delivered_by kind s) (effects_to es js d (place + 1)) ≡ before ++ these = tells_next (delivered_by kind s) es js place e j d turn in
+    differs before (sym counted) (front_now kind es js place e j s d now turn is kept)
+    (subst (λ (ys : List Message). IsPrefix (before ++ these) ys) (sent_next kind es js place e j s d turn ∙ sym is)
+    (subst (λ (xs : List Message). IsPrefix xs (sent kind (take (place + 1) es) (take (place + 1) js) s d)) all next))
 
 -- ---- the numbers of priority messages
 

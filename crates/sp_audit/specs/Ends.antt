@@ -3,6 +3,7 @@ use Rattle.std.specs.Prelude.{ℕ, suc, ◌≡◌, ◌+◌, ◌-◌, ◌<◌, �
 use Rattle.std.specs.Prelude.{slice_index_or, if◌then◌else◌}
 use Rattle.std.specs.List.{list_any}
 use Rattle.sp_base.specs.declared.id.NodeId.{NodeId}
+use Rattle.sp_rules.specs.declared.kflow.FlowKind.TheVariants.{Plain}
 use Rattle.sp_runs.specs.Rounds.{IsSweep, is_pass, is_take}
 use Rattle.sp_runs.specs.Runs.{is_poll, polls}
 use Rattle.sp_schedule_events.specs.declared.event.Event.{Event}
@@ -24,7 +25,7 @@ pub record HasSweep (least : ℕ) (u v : NodeId) (before during : List Event) : 
 -- what must stand before the sweep forth: a sweep back, and on the hop to d a take
 pub record IsReady (least : ℕ) (s d u v : NodeId) (before during : List Event) : Type 0 where
   pub back : HasSweep least v u before during
-  pub take : v ≡ d → IsTrue (list_any (is_take d s) during)
+  pub take : v ≡ d → IsTrue (list_any (is_take Plain d s) during)
 
 -- ---- how many frames were made before
 

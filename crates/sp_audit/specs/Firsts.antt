@@ -6,6 +6,7 @@ use Rattle.sp_base.specs.Lists.{IsPrefix}
 use Rattle.sp_base.specs.declared.id.NodeId.{NodeId}
 use Rattle.sp_journal.specs.declared.entry.Entry.{Entry}
 use Rattle.sp_msg.specs.declared.effect.Effect.{Effect}
+use Rattle.sp_rules.specs.declared.kflow.FlowKind.{FlowKind}
 use Rattle.sp_runs.specs.Held.{AreShares, held_in}
 use Rattle.sp_runs.specs.Settings.{Setting, is_correct}
 use Rattle.sp_runs.specs.Told.{delivered_by, effects_at, sent}
@@ -22,9 +23,13 @@ pub record IsFirst (P : ℕ → Type 0) (last n : ℕ) : Type 0 where
 abbrev pub effects_to : List Event → List Entry → NodeId → ℕ → List Effect
 effects_to es js u m = effects_at (take m es) (take m js) u
 
--- after so many events what came from s to u is a prefix of what was sent
-abbrev pub KeepsOrder : List Event → List Entry → (s u : NodeId) → ℕ → Type 0
-KeepsOrder es js s u m = IsPrefix (flat_map (delivered_by s) (effects_to es js u m)) (sent (take m es) (take m js) s u)
+-- after so many events what came from s to u in flows of a kind is a prefix of what was sent in them
+abbrev pub KeepsOrder : FlowKind → List Event → List Entry → (s u : NodeId) → ℕ → Type 0
+KeepsOrder kind es js s u m = IsPrefix (flat_map (delivered_by kind s) (effects_to es js u m)) (sent kind (take m es) (take m js) s u)
+
+-- so it is in flows of either kind
+abbrev pub KeepsOrders : List Event → List Entry → (s u : NodeId) → ℕ → Type 0
+KeepsOrders es js s u m = (kind : FlowKind) → KeepsOrder kind es js s u m
 
 -- no priority message from s came twice to u
 abbrev pub ComesOnce : List Event → List Entry → (s u : NodeId) → ℕ → Type 0
@@ -40,6 +45,6 @@ id n = record { 0 = n }
 
 -- what is kept from the first node to the second, and at the place of the second number of the first node
 pub record KeepsAt (x : Setting) (es : List Event) (js : List Entry) (a b m : ℕ) : Type 0 where
-  pub order : IsTrue (is_correct x (id a)) → IsTrue (is_correct x (id b)) → KeepsOrder es js (id a) (id b) m
+  pub order : IsTrue (is_correct x (id a)) → IsTrue (is_correct x (id b)) → KeepsOrders es js (id a) (id b) m
   pub once : IsTrue (is_correct x (id b)) → ComesOnce es js (id a) (id b) m
   pub place : KeepsPlace x.store es js (id a) b m

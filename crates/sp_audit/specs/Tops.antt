@@ -13,6 +13,7 @@ names (effects.Stored place id src seq prio) = place
 names (effects.Gone place id why) = place
 names (effects.Delivered src seq payload) = src.0
 names (effects.DeliveredPrio src seq payload) = src.0
+names (effects.DeliveredKrel src seq payload) = src.0
 names _ = 0
 
 -- no event is of a node above it, and no effect names a number above it

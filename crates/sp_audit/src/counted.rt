@@ -2,6 +2,7 @@
 ghost use Rattle.std.specs.Prelude.{◌≡◌, ◌+◌, ◌≤◌, false, IfErr, IfOk, drop, length, take};
 ghost use Rattle.sp_audit.specs.Ends.{AreMade, IsFirstEnd};
 ghost use Rattle.sp_audit.specs.Counted.{IsCount, IsNoPath};
+ghost use Rattle.sp_rules.specs.declared.kflow.FlowKind.TheVariants.{Plain};
 ghost use Rattle.sp_runs.specs.Scenarios.{setting_of};
 ghost use Rattle.sp_base.specs.declared.limits.TheConstants.{MAX_EVENTS};
 ghost use Rattle.sp_rules.specs.declared.store.TheConstants.{IDS};
@@ -17,7 +18,7 @@ use sp_base::{Flow, NodeId};
 use sp_schedule_events::{Event, Scenario};
 
 /// How many complete rounds of the path follow one after another among the events from this number on, counted from 1: so many do and one more don't.
-/// It is asked of headers without epochs alone: of others no delivery is counted.
+/// Rounds are those of the plain flow between its ends. It is asked of headers without epochs alone: of others no delivery is counted.
 /// It refuses with `NotPath` exactly where the nodes aren't a path of correct nodes, each joined to the next, at least two. It takes no memory.
 pub fn rounds(
     scenario: &Scenario,
@@ -51,8 +52,8 @@ fn count_rounds(events: &[Event], from: usize, least: usize, flow: Flow, path: &
     requires there { from ≤ length events.now }
     requires hops { 2 ≤ length path.now }
     requires short { length path.now ≤ IDS }
-    ensures counted { CompleteRounds least flow.src flow.dst path.now result (take from events.now) (drop from events.now) }
-    ensures no_more { CompleteRounds least flow.src flow.dst path.now (result + 1) (take from events.now) (drop from events.now) → ⊥ }
+    ensures counted { CompleteRounds Plain least flow.src flow.dst path.now result (take from events.now) (drop from events.now) }
+    ensures no_more { CompleteRounds Plain least flow.src flow.dst path.now (result + 1) (take from events.now) (drop from events.now) → ⊥ }
 {
     let mut made = Made::none();
     made.count(&events[..from], path);
@@ -83,7 +84,7 @@ fn round_end(
     requires there { from ≤ length events.now }
     requires short { length path.now ≤ IDS }
     requires made { AreMade made.now.forth made.now.back path.now (take from events.now) }
-    ensures { IsFirstEnd (IsCompleteRound least flow.src flow.dst path.now (take from events.now)) (drop from events.now) result }
+    ensures { IsFirstEnd (IsCompleteRound Plain least flow.src flow.dst path.now (take from events.now)) (drop from events.now) result }
 {
     let mut end = 0usize;
     'hops: for place in 1..path.len() {
@@ -117,7 +118,7 @@ fn hop_end(
     requires there { from ≤ length events.now }
     requires forth { made.0 ≡ polls (take from events.now) u v }
     requires back { made.1 ≡ polls (take from events.now) v u }
-    ensures { IsFirstEnd (IsHopServed least flow.src flow.dst u v (take from events.now)) (drop from events.now) result }
+    ensures { IsFirstEnd (IsHopServed Plain least flow.src flow.dst u v (take from events.now)) (drop from events.now) result }
 {
     let during = &events[from..];
     let ready = ready_end(during, made.1, least, flow, u, v);

@@ -1,9 +1,10 @@
-// How many flows may wait for their turn at a node.
+// How many plain flows may wait for their turn at a node.
 ghost use Rattle.std.specs.Prelude.{◌≡◌, ◌≤◌, ◌&&◌, ◌==◌, false, not, if◌then◌else◌};
 ghost use Rattle.std.specs.List.{count_by, list_any};
 ghost use Rattle.sp_audit.specs.Counted.{may_wait};
 ghost use Rattle.sp_rules.specs.Parts.{nodes_of};
 ghost use Rattle.sp_rules.specs.Rel.{flows_from};
+ghost use Rattle.sp_rules.specs.declared.kflow.FlowKind.TheVariants.{Plain};
 ghost use Rattle.sp_runs.specs.Rounds.{flow_count, has_correct_ends, is_send};
 ghost use Rattle.sp_runs.specs.Scenarios.{setting_of};
 
@@ -11,12 +12,12 @@ use crate::correct::is_correct;
 use sp_base::{Flow, NodeId};
 use sp_schedule_events::{Event, Scenario};
 
-/// How many flows may ever wait for their turn at a node, at least 1: those between correct nodes that a client sends to among these events, and each
+/// How many plain flows may ever wait for their turn at a node, at least 1: those between correct nodes that a client sends to among these events, and each
 /// that has a compromised end. It is asked of headers without epochs alone.
 pub fn flow_count(scenario: &Scenario, events: &[Event]) -> usize
     requires { scenario.now.epochs ≡ false }
     ensures some { 1 ≤ result }
-    ensures counted { result ≡ flow_count (setting_of scenario.now) events.now }
+    ensures counted { result ≡ flow_count Plain (setting_of scenario.now) events.now }
 {
     let mut count = 0usize;
     'ids: for id in 0..scenario.graph.nodes {
@@ -68,13 +69,13 @@ fn has_correct_ends(scenario: &Scenario, flow: Flow) -> bool
 }
 
 fn is_sent(events: &[Event], flow: Flow) -> bool
-    ensures { result ≡ list_any (is_send flow) events.now }
+    ensures { result ≡ list_any (is_send Plain flow) events.now }
 {
     events.iter().any(|e| is_send(flow, e))
 }
 
 fn is_send(flow: Flow, event: &Event) -> bool
-    ensures { result ≡ is_send flow event.now }
+    ensures { result ≡ is_send Plain flow event.now }
 {
     match event {
         Event::Rel { s, d, .. } => *s == flow.src && *d == flow.dst,

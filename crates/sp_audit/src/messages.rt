@@ -2,13 +2,14 @@
 ghost use Rattle.std.specs.Prelude.{◌≡◌, ◌≤◌, ◌↔◌, ◌∷◌, ◌++◌, [], IfNone, IfOk, IfSome, IsTrue, OnOk, length};
 ghost use Rattle.std.specs.List.{flat_map};
 ghost use Rattle.sp_audit.specs.Agreed.{Agrees, Differs};
-ghost use Rattle.sp_audit.specs.Firsts.{IsFirst, KeepsOrder};
+ghost use Rattle.sp_audit.specs.Firsts.{IsFirst, KeepsOrder, KeepsOrders};
 ghost use Rattle.sp_runs.specs.Told.{accepted_in, delivered_by};
 
 use crate::acts::effects_when;
 use sp_base::{Memory, NodeId, push};
 use sp_journal::{Entry, Reply};
 use sp_msg::Effect;
+use sp_rules::FlowKind;
 use sp_schedule_events::Event;
 use std::alloc::Global;
 use std::marker::Model;
@@ -36,8 +37,8 @@ impl<'a> Message<'a> {
     }
 }
 
-/// The number of the first event after which what came from `s` to `d` isn't a prefix of what was sent, counted from 1: one more than there are where there
-/// is none. Each event and each effect is looked at once.
+/// The number of the first event after which what came from `s` to `d` in flows of one kind isn't a prefix of what was sent in them, counted from 1: one more
+/// than there are where there is none. Each event and each effect is looked at once for each kind.
 pub fn order_first(
     alloc: Global,
     events: &[Event],
@@ -46,14 +47,37 @@ pub fn order_first(
     d: NodeId,
 ) -> Result<usize, Memory>
     requires { length events.now ≡ length journal.now }
-    ensures { IfOk result (IsFirst (KeepsOrder events.now journal.now s d) (length events.now)) }
+    ensures { IfOk result (IsFirst (KeepsOrders events.now journal.now s d) (length events.now)) }
+{
+    let plain = first_of_kind(alloc, FlowKind::Plain, events, journal, s, d)?;
+    let paths = first_of_kind(alloc, FlowKind::Paths, events, journal, s, d)?;
+    Ok(plain.min(paths))
+}
+
+/// The same of one kind.
+fn first_of_kind(
+    alloc: Global,
+    kind: FlowKind,
+    events: &[Event],
+    journal: &[Entry],
+    s: NodeId,
+    d: NodeId,
+) -> Result<usize, Memory>
+    requires { length events.now ≡ length journal.now }
+    ensures { IfOk result (IsFirst (KeepsOrder kind events.now journal.now s d) (length events.now)) }
 {
     let mut sent = Vec::new(alloc);
     let mut count = 0usize;
     'events: for place in 0..events.len() {
         let (event, entry) = (&events[place], &journal[place]);
-        push_sent(&mut sent, event, entry, s, d)?;
-        match agreed(effects_when(event, entry, d), s, sent.as_slice(), count) {
+        push_sent(&mut sent, kind, event, entry, s, d)?;
+        match agreed(
+            kind,
+            effects_when(event, entry, d),
+            s,
+            sent.as_slice(),
+            count,
+        ) {
             Some(more) => count = more,
             None => return Ok(place + 1),
         }
@@ -63,41 +87,60 @@ pub fn order_first(
 
 fn push_sent<'a>(
     found: &mut Vec<Message<'a>>,
+    kind: FlowKind,
     event: &'a Event,
     entry: &Entry,
     s: NodeId,
     d: NodeId,
 ) -> Result<(), Memory>
-    ensures { OnOk result (found.new.items ≡ found.old.items ++ accepted_in s d event.now entry.now.reply) }
+    ensures { OnOk result (found.new.items ≡ found.old.items ++ accepted_in kind s d event.now entry.now.reply) }
 {
-    if let Event::Rel {
-        s: from,
-        d: to,
-        payload,
-    } = event
-        && let Reply::Accepted { seq } = &entry.reply
-        && *from == s
-        && *to == d
-    {
-        let message = Message {
-            seq: *seq,
-            payload: payload.as_slice(),
-        };
-        push(found, message)?;
+    match (kind, event, &entry.reply) {
+        (
+            FlowKind::Plain,
+            Event::Rel {
+                s: from,
+                d: to,
+                payload,
+            },
+            Reply::Accepted { seq },
+        )
+        | (
+            FlowKind::Paths,
+            Event::Krel {
+                s: from,
+                d: to,
+                payload,
+                ..
+            },
+            Reply::Accepted { seq },
+        ) if *from == s && *to == d => {
+            let message = Message {
+                seq: *seq,
+                payload: payload.as_slice(),
+            };
+            push(found, message)
+        }
+        _ => Ok(()),
     }
-    Ok(())
 }
 
-/// How many messages are delivered after these effects, where so many of those that were sent were delivered before. None where one that came from `s` isn't
-/// the next one.
-fn agreed(effects: &[Effect], s: NodeId, sent: &[Message], count: usize) -> Option<usize>
+/// How many messages of a kind are delivered after these effects, where so many of those that were sent were delivered before. None where one that came from
+/// `s` isn't the next one.
+fn agreed(
+    kind: FlowKind,
+    effects: &[Effect],
+    s: NodeId,
+    sent: &[Message],
+    count: usize,
+) -> Option<usize>
     requires { count ≤ length sent.now }
-    ensures agrees { IfSome result (Agrees sent.now count (flat_map (delivered_by s) effects.now)) }
-    ensures differs { IfNone result (Differs sent.now count (flat_map (delivered_by s) effects.now)) }
+    ensures agrees { IfSome result (Agrees sent.now count (flat_map (delivered_by kind s) effects.now)) }
+    ensures differs { IfNone result (Differs sent.now count (flat_map (delivered_by kind s) effects.now)) }
 {
     let mut delivered = count;
     'effects: for place in 0..effects.len() {
-        match next(&effects[place], s, sent, delivered) {
+        match next(kind, &effects[place], s, sent, delivered) {
             Some(more) => delivered = more,
             None => return None,
         }
@@ -106,15 +149,15 @@ fn agreed(effects: &[Effect], s: NodeId, sent: &[Message], count: usize) -> Opti
 }
 
 /// The same of one effect.
-fn next(effect: &Effect, s: NodeId, sent: &[Message], count: usize) -> Option<usize>
+fn next(kind: FlowKind, effect: &Effect, s: NodeId, sent: &[Message], count: usize) -> Option<usize>
     requires { count ≤ length sent.now }
-    ensures agrees { IfSome result (Agrees sent.now count (delivered_by s effect.now)) }
-    ensures differs { IfNone result (Differs sent.now count (delivered_by s effect.now)) }
+    ensures agrees { IfSome result (Agrees sent.now count (delivered_by kind s effect.now)) }
+    ensures differs { IfNone result (Differs sent.now count (delivered_by kind s effect.now)) }
 {
-    match effect {
-        Effect::Delivered { src, seq, payload } if *src == s => {
-            after(sent, count, *seq, payload.as_slice())
-        }
+    match (kind, effect) {
+        (FlowKind::Plain, Effect::Delivered { src, seq, payload })
+        | (FlowKind::Paths, Effect::DeliveredKrel { src, seq, payload })
+            if *src == s => { after(sent, count, *seq, payload.as_slice()) }
         _ => Some(count),
     }
 }

@@ -3,6 +3,7 @@ ghost use Rattle.std.specs.Prelude.{◌≡◌, ◌+◌, ◌<◌, ◌≤◌, ◌�
 ghost use Rattle.std.specs.List.{list_any};
 ghost use Rattle.sp_audit.specs.Ends.{HasSweep, IsFirstEnd, IsReady, sweep_end};
 ghost use Rattle.sp_base.specs.declared.limits.TheConstants.{MAX_EVENTS};
+ghost use Rattle.sp_rules.specs.declared.kflow.FlowKind.TheVariants.{Plain};
 ghost use Rattle.sp_runs.specs.Rounds.{is_pass, is_take};
 ghost use Rattle.sp_runs.specs.Runs.{is_poll, polls};
 ghost use Rattle.sp_schedule_events.specs.declared.event.Event.{Event};
@@ -89,7 +90,7 @@ pub fn ready_end(
 /// The same of a take.
 fn take_end(during: &[Event], flow: Flow) -> usize
     requires { length during.now ≤ MAX_EVENTS }
-    ensures { IsFirstEnd (λ xs. IsTrue (list_any (is_take flow.dst flow.src) xs)) during.now result }
+    ensures { IsFirstEnd (λ xs. IsTrue (list_any (is_take Plain flow.dst flow.src) xs)) during.now result }
 {
     'events: for place in 0..during.len() {
         if is_take(&during[place], flow) {
@@ -131,7 +132,7 @@ fn is_pass(event: &Event, u: NodeId, v: NodeId, number: usize) -> bool
 }
 
 fn is_take(event: &Event, flow: Flow) -> bool
-    ensures { result ≡ is_take flow.dst flow.src event.now }
+    ensures { result ≡ is_take Plain flow.dst flow.src event.now }
 {
     match event {
         Event::Take { d, s } => *d == flow.dst && *s == flow.src,

@@ -37,7 +37,9 @@ fn names(effect: &Effect) -> u8
 {
     match effect {
         Effect::Stored { place, .. } | Effect::Gone { place, .. } => *place,
-        Effect::Delivered { src, .. } | Effect::DeliveredPrio { src, .. } => src.0,
+        Effect::Delivered { src, .. }
+        | Effect::DeliveredPrio { src, .. }
+        | Effect::DeliveredKrel { src, .. } => src.0,
         _ => 0,
     }
 }

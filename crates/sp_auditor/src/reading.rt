@@ -45,8 +45,10 @@ pub fn answered<S: Source, J: Source>(
 ) -> Result<Answer, Unread>
     requires { IsInRange line.now }
     ensures answers { IfOk result (λ a. Answers line.now (S.left schedule.old) (J.left journal.old) (string_bytes a.text) a.status) }
-    ensures schedule { IsErrOf result Unread.Schedule → (reads_schedule line.now ≡ true) × Rose (S.faults schedule.old) (S.faults schedule.new) }
-    ensures journal { IsErrOf result Unread.Journal → (reads_journal line.now ≡ true) × Rose (J.faults journal.old) (J.faults journal.new) }
+    ensures schedule { IsErrOf result Unread.Schedule
+        → (reads_schedule line.now ≡ true) × Rose (S.faults schedule.old) (S.faults schedule.new) × (J.faults journal.new ≡ J.faults journal.old) }
+    ensures journal { IsErrOf result Unread.Journal
+        → (reads_journal line.now ≡ true) × (S.faults schedule.new ≡ S.faults schedule.old) × Rose (J.faults journal.old) (J.faults journal.new) }
     ensures fine { OnOk result ((S.faults schedule.new ≡ S.faults schedule.old) × (J.faults journal.new ≡ J.faults journal.old)) }
     ensures memory { IsErrOf result Unread.Memory → (S.faults schedule.new ≡ S.faults schedule.old) × (J.faults journal.new ≡ J.faults journal.old) }
     ensures no_schedule { reads_schedule line.now ≡ false → schedule.new ≡ schedule.old }

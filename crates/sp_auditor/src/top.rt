@@ -25,8 +25,10 @@ pub fn run<S: Source, J: Source, K: Sink>(
     sink: &mut K,
 ) -> AuditStatus
     requires { IfOk said.now IsInRange }
-    // What is written, and the status, are the answer to what the words say about what the files hold.
-    ensures ends { Ends said.now (S.left schedule.old) (J.left journal.old) result (K.contents sink.old) (K.contents sink.new) }
+    // What is written, and the status, are the answer to what the words say about what the files hold, or tell which file couldn't be read.
+    ensures ends { Ends said.now (record { left = S.left schedule.old; before = S.faults schedule.old; after = S.faults schedule.new })
+        (record { left = J.left journal.old; before = J.faults journal.old; after = J.faults journal.new })
+        result (K.contents sink.old) (K.contents sink.new) }
 
     // A file that the words don't name isn't read.
     ensures no_schedule { IfOk said.now (λ line. reads_schedule line ≡ false → schedule.new ≡ schedule.old) }

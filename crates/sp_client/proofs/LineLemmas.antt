@@ -25,6 +25,8 @@ name_is_word (commands.Send to payload) = IsOneWord-from_test (codes "send") ref
 name_is_word (commands.SendPrio to prio expiry paths payload) = IsOneWord-from_test (codes "sendprio") refl
 name_is_word (commands.Take from) = IsOneWord-from_test (codes "take") refl
 name_is_word commands.TakePrio = IsOneWord-from_test (codes "takeprio") refl
+name_is_word (commands.SendKrel to paths payload) = IsOneWord-from_test (codes "ksend") refl
+name_is_word (commands.TakeKrel from) = IsOneWord-from_test (codes "ktake") refl
 name_is_word (commands.Weight peer weight) = IsOneWord-from_test (codes "weight") refl
 name_is_word commands.Close = IsOneWord-from_test (codes "close") refl
 
@@ -51,6 +53,9 @@ fields_are_words (commands.SendPrio to prio expiry paths payload) is = (
   ),
 )
 fields_are_words (commands.Take from) is = (IsOneWord-decimal from.0 (omega (arith, is)), tt)
+fields_are_words (commands.SendKrel to paths payload) is =
+    (IsOneWord-decimal to.0 (omega (arith, is.0)), (IsOneWord-decimal paths (omega (arith, is.1.1)), (IsOneWord-hex_word payload, tt)))
+fields_are_words (commands.TakeKrel from) is = (IsOneWord-decimal from.0 (omega (arith, is)), tt)
 fields_are_words commands.TakePrio is = tt
 fields_are_words (commands.Weight peer weight) is = (IsOneWord-decimal peer.0 (omega (arith, is.0)), (IsOneWord-decimal weight (omega (arith, is.1.1)), tt))
 fields_are_words commands.Close is = tt
@@ -101,6 +106,9 @@ fields_total (commands.SendPrio to prio expiry paths payload) is =
       payload_word payload is.4.short,
     )
 fields_total (commands.Take from) is = omega (arith, number_length from.0 (omega (arith, is)))
+fields_total (commands.SendKrel to paths payload) is =
+    omega (arith, number_length to.0 (omega (arith, is.0)), number_length paths (omega (arith, is.1.1)), payload_word payload is.2.short)
+fields_total (commands.TakeKrel from) is = omega (arith, number_length from.0 (omega (arith, is)))
 fields_total commands.TakePrio is = omega arith
 fields_total (commands.Weight peer weight) is = omega (arith, number_length peer.0 (omega (arith, is.0)), number_length weight (omega (arith, is.1.1)))
 fields_total commands.Close is = omega arith

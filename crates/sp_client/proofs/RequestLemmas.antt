@@ -50,8 +50,10 @@ said w rest =
     commands.SendPrio (node (word rest 0)) (value (word rest 1)) (value (word rest 2)) (value (word rest 3)) (bytes_of (word rest 4))
     else (if is w (codes "take") then commands.Take (node (word rest 0))
     else (if is w (codes "takeprio") then commands.TakePrio
+    else (if is w (codes "ksend") then commands.SendKrel (node (word rest 0)) (value (word rest 1)) (bytes_of (word rest 2))
+    else (if is w (codes "ktake") then commands.TakeKrel (node (word rest 0))
     else (if is w (codes "weight") then commands.Weight (node (word rest 0)) (value (word rest 1))
-    else commands.Close))))))
+    else commands.Close))))))))
 
 value_back : (n : ℕ) → n < 2 ^ 64 → value (decimal n) ≡ n
 value_back n small = (decimal_is_IsNumeral n small).1
@@ -79,6 +81,11 @@ said_back (commands.SendPrio to prio expiry paths payload) range =
     ∙ ap (λ (bs : List ℕ). commands.SendPrio to prio expiry paths bs) (bytes_back payload range.4.bytes)
 said_back (commands.Take from) range = ap (λ (n : ℕ). commands.Take (record { 0 = n })) (value_back from.0 (omega (arith, range)))
 said_back commands.TakePrio range = refl
+said_back (commands.SendKrel to paths payload) range =
+    ap (λ (n : ℕ). commands.SendKrel (record { 0 = n }) (value (decimal paths)) (bytes_of (hex_word payload))) (value_back to.0 (omega (arith, range.0)))
+    ∙ ap (λ (n : ℕ). commands.SendKrel to n (bytes_of (hex_word payload))) (value_back paths (omega (arith, range.1.1)))
+    ∙ ap (λ (bs : List ℕ). commands.SendKrel to paths bs) (bytes_back payload range.2.bytes)
+said_back (commands.TakeKrel from) range = ap (λ (n : ℕ). commands.TakeKrel (record { 0 = n })) (value_back from.0 (omega (arith, range)))
 said_back (commands.Weight peer weight) range =
     ap (λ (n : ℕ). commands.Weight (record { 0 = n }) (value (decimal weight))) (value_back peer.0 (omega (arith, range.0)))
     ∙ ap (λ (n : ℕ). commands.Weight peer n) (value_back weight (omega (arith, range.1.1)))

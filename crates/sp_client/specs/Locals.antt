@@ -7,6 +7,7 @@ use Rattle.sp_rules.specs.declared.store.Entry.{Entry}
 use Rattle.sp_client.specs.declared.request.Command.{Command}
 use Rattle.sp_client.specs.declared.request.Command.TheVariants as commands
 use Rattle.sp_rules.specs.declared.sends.PrioSend as lent
+use Rattle.sp_rules.specs.declared.kflow.KSend as lent_paths
 use Rattle.sp_client.specs.declared.answer.Answer.{Answer}
 use Rattle.sp_client.specs.declared.answer.Answer.TheVariants as answers
 use Rattle.sp_client.specs.Sessions.{Steps}
@@ -18,6 +19,10 @@ use Rattle.sp_msg.specs.declared.refused.SendRefused.TheVariants as refusals
 abbrev pub command_of : lent.PrioSend → Command
 command_of m = commands.SendPrio m.dst m.prio m.expiry m.paths m.payload.now
 
+-- and the one that sends a reliable message on paths
+abbrev pub krel_command : lent_paths.KSend → Command
+krel_command m = commands.SendKrel m.dst m.paths m.payload.now
+
 -- ---- answers
 
 -- what a client is told of a send or a weight. None where memory was wanting
@@ -25,6 +30,7 @@ abbrev pub sent : Result ℕ SendRefused → Option Answer
 sent (Ok seq) = Some (answers.Accepted seq)
 sent (Err refusals.BadEnd) = Some answers.BadEnd
 sent (Err (refusals.Full base have)) = Some (answers.Full base have)
+sent (Err (refusals.Busy paths)) = Some (answers.BusyPaths paths)
 sent (Err (refusals.Expired now)) = Some (answers.Expired now)
 sent (Err (refusals.NoPaths found)) = Some (answers.NoPaths found)
 sent (Err (refusals.Low min)) = Some (answers.Low min)
@@ -32,7 +38,7 @@ sent (Err (refusals.Spent index)) = Some (answers.Spent index)
 sent (Err (refusals.NotReserved bound)) = Some (answers.NotReserved bound)
 sent (Err refusals.Memory) = None
 
--- what a client is told of the oldest reliable message of a node
+-- what a client is told of the oldest reliable message of a node, of either kind
 abbrev pub took : Result (Option (List ℕ)) BadEnd → Answer
 took (Ok (Some payload)) = answers.Payload payload
 took (Ok None) = answers.Empty
@@ -75,6 +81,17 @@ may_refuse_prio (refusals.NotReserved bound) = true
 may_refuse_prio (refusals.NoPaths found) = true
 may_refuse_prio refusals.Memory = true
 may_refuse_prio _ = false
+
+-- a reliable send on paths
+abbrev pub may_refuse_krel : SendRefused → Bool
+may_refuse_krel refusals.BadEnd = true
+may_refuse_krel (refusals.Full base have) = true
+may_refuse_krel (refusals.Busy paths) = true
+may_refuse_krel (refusals.Spent index) = true
+may_refuse_krel (refusals.NotReserved bound) = true
+may_refuse_krel (refusals.NoPaths found) = true
+may_refuse_krel refusals.Memory = true
+may_refuse_krel _ = false
 
 -- a weight
 abbrev pub may_refuse_weight : SendRefused → Bool

@@ -5,6 +5,7 @@
 --     K accepted SEQ      K badend           K full BASE HAVE  K expired NOW        K nopaths FOUND
 --     K low MIN           K spent INDEX      K notreserved BOUND
 --     K payload HEX       K payload S SEQ HEX                  K empty              K closed
+--     K busy N            to a ksend: messages on N paths wait
 use Rattle.std.specs.Prelude.{ℕ, ◌≤◌, List, [], ◌∷◌, ◌++◌, length, map, codes, ⊤}
 use Rattle.std.specs.List.{flat_map, join_with_byte}
 use Rattle.std.specs.Fmt.{decimal}
@@ -21,6 +22,7 @@ answer_name answers.NoSession = codes "nosession"
 answer_name (answers.BadNumber last) = codes "badnumber"
 answer_name answers.Listening = codes "listening"
 answer_name (answers.Busy port) = codes "busy"
+answer_name (answers.BusyPaths paths) = codes "busy"
 answer_name answers.NotListening = codes "notlistening"
 answer_name (answers.Accepted seq) = codes "accepted"
 answer_name answers.BadEnd = codes "badend"
@@ -39,6 +41,7 @@ answer_name answers.Closed = codes "closed"
 abbrev pub numbers : Answer → List ℕ
 numbers (answers.BadNumber last) = last ∷ []
 numbers (answers.Busy port) = port ∷ []
+numbers (answers.BusyPaths paths) = paths ∷ []
 numbers (answers.Accepted seq) = seq ∷ []
 numbers (answers.Full base have) = base ∷ have ∷ []
 numbers (answers.Expired now) = now ∷ []

@@ -6,6 +6,8 @@
 --     K sendprio D P EXPIRY N HEX       P       1 to 10; EXPIRY 0 to 2^64 - 1; N 0 to 8
 --     K take S                          S       0 to 255: a node
 --     K takeprio
+--     K ksend D N HEX                   N       1 to 8
+--     K ktake S
 --     K weight V W                      V       0 to 255: a node; W 1 to 1,000,000
 --     K close                           HEX     at most 1,024 bytes, two digits each, in lower case, and a dash for none
 use Rattle.std.specs.Prelude.{ℕ, ◌≡◌, ◌≤◌, ◌<◌, ◌^◌, List, [], ◌∷◌, length, codes, ⊤}
@@ -28,6 +30,8 @@ name (commands.Send to payload) = codes "send"
 name (commands.SendPrio to prio expiry paths payload) = codes "sendprio"
 name (commands.Take from) = codes "take"
 name commands.TakePrio = codes "takeprio"
+name (commands.SendKrel to paths payload) = codes "ksend"
+name (commands.TakeKrel from) = codes "ktake"
 name (commands.Weight peer weight) = codes "weight"
 name commands.Close = codes "close"
 
@@ -36,6 +40,8 @@ abbrev pub fields : Command → List Word
 fields (commands.Send to payload) = decimal to.0 ∷ hex_word payload ∷ []
 fields (commands.SendPrio to prio expiry paths payload) = decimal to.0 ∷ decimal prio ∷ decimal expiry ∷ decimal paths ∷ hex_word payload ∷ []
 fields (commands.Take from) = decimal from.0 ∷ []
+fields (commands.SendKrel to paths payload) = decimal to.0 ∷ decimal paths ∷ hex_word payload ∷ []
+fields (commands.TakeKrel from) = decimal from.0 ∷ []
 fields (commands.Weight peer weight) = decimal peer.0 ∷ decimal weight ∷ []
 fields _ = []
 
@@ -72,6 +78,8 @@ IsCommand (commands.SendPrio to prio expiry paths payload) =
     × (paths ≤ MAX_PATHS)
     × IsPayload payload
 IsCommand (commands.Take from) = IsNode from.0
+IsCommand (commands.SendKrel to paths payload) = IsNode to.0 × IsIn 1 MAX_PATHS paths × IsPayload payload
+IsCommand (commands.TakeKrel from) = IsNode from.0
 IsCommand (commands.Weight peer weight) = IsNode peer.0 × IsIn 1 MAX_WEIGHT weight
 IsCommand _ = ⊤
 

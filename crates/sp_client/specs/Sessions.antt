@@ -125,6 +125,7 @@ own_answer holder port commands.Close = Some answers.Closed
 own_answer holder port commands.Listen = Some (listen_answer holder port)
 own_answer holder port (commands.Take from) = take_answer holder port
 own_answer holder port commands.TakePrio = take_answer holder port
+own_answer holder port (commands.TakeKrel from) = take_answer holder port
 own_answer holder port _ = None
 
 -- the answer that the sessions give by themselves, if the node isn't asked

@@ -39,6 +39,10 @@ pub enum Answer {
     Expired {
         now: u64,
     },
+    /// Messages on this many paths wait, which isn't the number that was asked for. Normal.
+    BusyPaths {
+        paths: u8,
+    },
     /// There are only so many paths. Normal.
     NoPaths {
         found: u8,

@@ -9,7 +9,7 @@ ghost use Rattle.sp_client.specs.Sessions.{is_local};
 use crate::{Answer, BadEnd, Command, Local, SendRefused};
 use sp_base::{Bytes, Memory};
 use sp_msg::Body;
-use sp_rules::{Entry, PrioSend};
+use sp_rules::{Entry, KSend, PrioSend};
 use std::alloc::Global;
 
 /// Has the local do a command, by one call. After `Memory` it is as before.
@@ -23,6 +23,7 @@ pub fn ask<L: Local>(local: &mut L, alloc: Global, command: &Command) -> Result<
     match command {
         Command::Take { from } => Ok(took(local.take_rel(*from))),
         Command::TakePrio => Ok(took_prio(local.take_prio())),
+        Command::TakeKrel { from } => Ok(took(local.take_krel(*from))),
         Command::Send { to, payload } => sent(local.send_rel(alloc, *to, payload.as_slice())),
         Command::SendPrio {
             to,
@@ -40,6 +41,14 @@ pub fn ask<L: Local>(local: &mut L, alloc: Global, command: &Command) -> Result<
             };
             sent(local.send_prio(alloc, &message))
         }
+        Command::SendKrel { to, paths, payload } => {
+            let message = KSend {
+                dst: *to,
+                paths: *paths,
+                payload: payload.as_slice(),
+            };
+            sent(local.send_krel(alloc, &message))
+        }
         Command::Weight { peer, weight } => sent(local.set_weight(alloc, *peer, *weight)),
         _ => unreachable!(),
     }
@@ -54,6 +63,7 @@ fn sent(call: Result<u64, SendRefused>) -> Result<Answer, Memory>
         Ok(seq) => Ok(Answer::Accepted { seq }),
         Err(SendRefused::BadEnd) => Ok(Answer::BadEnd),
         Err(SendRefused::Full { base, have }) => Ok(Answer::Full { base, have }),
+        Err(SendRefused::Busy { paths }) => Ok(Answer::BusyPaths { paths }),
         Err(SendRefused::Expired { now }) => Ok(Answer::Expired { now }),
         Err(SendRefused::NoPaths { found }) => Ok(Answer::NoPaths { found }),
         Err(SendRefused::Low { min }) => Ok(Answer::Low { min }),
@@ -63,7 +73,7 @@ fn sent(call: Result<u64, SendRefused>) -> Result<Answer, Memory>
     }
 }
 
-/// What a client is told of the oldest reliable message.
+/// What a client is told of the oldest reliable message of either kind.
 fn took(taken: Result<Option<Bytes>, BadEnd>) -> Answer
     ensures { result ≡ took taken }
 {

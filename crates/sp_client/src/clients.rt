@@ -240,7 +240,9 @@ fn own_answer(holder: Option<u16>, port: u16, command: &Command) -> Option<Answe
         Command::Open => Some(Answer::Opened),
         Command::Close => Some(Answer::Closed),
         Command::Listen => Some(listen_answer(holder, port)),
-        Command::Take { .. } | Command::TakePrio => take_answer(holder, port),
+        Command::Take { .. } | Command::TakePrio | Command::TakeKrel { .. } => {
+            take_answer(holder, port)
+        }
         _ => None,
     }
 }

@@ -9,7 +9,7 @@ pub const MAX_REQUEST_BYTES: usize = 4_096;
 /// The greatest number of a request. Numbers begin at 1.
 pub const MAX_REQUEST_NUMBER: u64 = 0x7fff_ffff_ffff_ffff;
 
-/// The greatest number of paths that a priority message may ask for.
+/// The greatest number of paths that a message may ask for.
 pub const MAX_PATHS: u8 = 8;
 
 /// No reply has more bytes: a number, a word, two numbers, and a payload in hexadecimal.

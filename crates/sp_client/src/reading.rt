@@ -46,6 +46,7 @@ fn command(alloc: Global, name: &[u8], fields: &[&[u8]]) -> Result<Option<Comman
         [from] => Ok(take(name, from)),
         [node, value] if is_word(name, b"send") => send(alloc, name, node, value),
         [node, value] => Ok(weight(name, node, value)),
+        [to, paths, payload] => send_krel(alloc, name, to, paths, payload),
         [to, prio, expiry, paths, payload] => {
             send_prio(alloc, name, to, prio, expiry, paths, payload)
         }
@@ -72,15 +73,19 @@ fn bare(name: &[u8]) -> Option<Command>
     None
 }
 
-/// `take S`.
+/// `take S` or `ktake S`.
 fn take(name: &[u8], from: &[u8]) -> Option<Command>
     ensures { Finds (IsNamed name.now (from.now ∷ [])) result }
 {
-    if !is_word(name, b"take") {
-        return None;
+    if is_word(name, b"take") {
+        let from = node_in(from, 0, u8::MAX)?;
+        return Some(Command::Take { from });
     }
-    let from = node_in(from, 0, u8::MAX)?;
-    Some(Command::Take { from })
+    if is_word(name, b"ktake") {
+        let from = node_in(from, 0, u8::MAX)?;
+        return Some(Command::TakeKrel { from });
+    }
+    None
 }
 
 /// `weight V W`.
@@ -141,6 +146,35 @@ fn send_prio(
             to,
             prio: prio as u8,
             expiry,
+            paths: paths as u8,
+            payload,
+        })),
+        None => Ok(None),
+    }
+}
+
+/// `ksend D K HEX`.
+fn send_krel(
+    alloc: Global,
+    name: &[u8],
+    to: &[u8],
+    paths: &[u8],
+    payload: &[u8],
+) -> Result<Option<Command>, Memory>
+    ensures { IfOk result (Finds (IsNamed name.now (to.now ∷ paths.now ∷ payload.now ∷ []))) }
+{
+    if !is_word(name, b"ksend") {
+        return Ok(None);
+    }
+    let Some(to) = node_in(to, 0, u8::MAX) else {
+        return Ok(None);
+    };
+    let Some(paths) = number_in(paths, 1, u64::from(MAX_PATHS)) else {
+        return Ok(None);
+    };
+    match payload_of(alloc, payload)? {
+        Some(payload) => Ok(Some(Command::SendKrel {
+            to,
             paths: paths as u8,
             payload,
         })),

@@ -35,6 +35,16 @@ pub enum Command {
     },
     /// Take the oldest priority message.
     TakePrio,
+    /// Send a reliable message of at most 1,024 bytes on this many paths that share no node: 1 to 8.
+    SendKrel {
+        to: NodeId,
+        paths: u8,
+        payload: Bytes,
+    },
+    /// Take the oldest reliable message on paths from this node.
+    TakeKrel {
+        from: NodeId,
+    },
     /// Set the weight of the link to this neighbour.
     Weight {
         peer: NodeId,

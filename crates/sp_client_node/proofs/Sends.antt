@@ -45,6 +45,8 @@ send_steps old new input command refusal (Err refusals.BadEnd) answer hands is w
     refused_is old new input command answer refusals.BadEnd _ hands is refl keeps.0 keeps.1
 send_steps old new input command refusal (Err (refusals.Full base have)) answer hands is work keeps =
     refused_is old new input command answer (refusals.Full base have) _ hands is refl keeps.0 keeps.1
+send_steps old new input command refusal (Err (refusals.Busy paths)) answer hands is work keeps =
+    refused_is old new input command answer (refusals.Busy paths) _ hands is refl keeps.0 keeps.1
 send_steps old new input command refusal (Err (refusals.Expired now)) answer hands is work keeps =
     refused_is old new input command answer (refusals.Expired now) _ hands is refl keeps.0 keeps.1
 send_steps old new input command refusal (Err (refusals.NoPaths found)) answer hands is work keeps =

@@ -1,6 +1,6 @@
 // The messages base + 1 to have of a flow, in order, whatever a message is. All memory is taken at the start.
 ghost use Rattle.std.specs.Prelude.{◌≡◌, ◌==◌, ◌+◌, ◌-◌, ◌^◌, ◌<◌, ◌≤◌};
-ghost use Rattle.std.specs.Prelude.{◌↔◌, IfOk, OnOk, OnErr, IfErr, IsErr, drop, length, map, take};
+ghost use Rattle.std.specs.Prelude.{◌↔◌, IfOk, OnOk, OnErr, IfErr, IsErr, drop, length, map, option_copied, slice_get, take};
 ghost use Rattle.sp_base.specs.Position.{IsPosition, kept, acknowledged, empty_buffer};
 ghost use Rattle.sp_base.specs.declared.limits.TheConstants.{MAX_MESSAGES};
 
@@ -106,6 +106,13 @@ impl<T: Drop> FlowBuffer<T> {
         let left = self.items.len() - count as usize;
         self.items.truncate_front(left);
         self.base = seq;
+    }
+
+    /// The first message that isn't acknowledged.
+    pub fn first(&self) -> Option<&T>
+        ensures { option_copied result ≡ slice_get self.now.at.list 0 }
+    {
+        self.items.get(0)
     }
 
     /// The first messages after this number, at most four.

@@ -90,7 +90,11 @@ fn first_in<'a>(known: &Known<'_>, sections: &Sections<'a>, items: &[Item]) -> O
     if slot.found.is_some() {
         return slot.found;
     }
-    in_epoch(known, &sections.epoch, slot.rest)
+    let paths = look_in(known, &sections.paths, slot.rest);
+    if paths.found.is_some() {
+        return paths.found;
+    }
+    in_epoch(known, &sections.epoch, paths.rest)
 }
 
 /// The same of the Epoch object, which is looked at where nodes run with epochs.
@@ -248,6 +252,8 @@ fn is_new(item: Item) -> bool
             | Item::Prio(PrioAnswer::New)
             | Item::Ack(AckAnswer::New)
             | Item::Rel(RelAnswer::New)
+            | Item::Kack(AckAnswer::New)
+            | Item::Krel(RelAnswer::New)
             | Item::Epoch(EpochAnswer::New)
     )
 }

@@ -3,7 +3,7 @@ ghost use Rattle.std.specs.Prelude.{◌≡◌, ◌≤◌, All, IfOk, IfSome, len
 ghost use Rattle.sp_base.specs.Refusals.{Gives};
 ghost use Rattle.sp_base.specs.declared.limits.TheConstants.{MAX_MESSAGES};
 ghost use Rattle.sp_frame.specs.Grammar.{flagged, number, times};
-ghost use Rattle.sp_frame.specs.Objects.{object};
+ghost use Rattle.sp_frame.specs.Objects.{most, object};
 ghost use Rattle.sp_frame.specs.OfFormat.{IsOf, IsSlotOf};
 ghost use Rattle.sp_frame.specs.Reliable.{boot_bytes, paths, rels, report, slot};
 ghost use Rattle.sp_frame.specs.Views.{as_object, as_report};
@@ -36,6 +36,7 @@ pub(crate) fn paths_at<'a>(
 ) -> Result<Option<Slot<'a>>, SectionRefused>
     ensures read { Gives (λ s. (option_map as_report s, reader.new)) result (paths format signature_len reader.old) }
     ensures of_format { IfOk result (λ s. IfSome s (IsSlotOf format)) }
+    ensures one { IfOk result (λ s. IfSome s (λ p. length p.rels ≤ 1)) }
 {
     if format == FORMAT_1 {
         return Ok(None);
@@ -53,6 +54,7 @@ fn flagged_report_at<'a>(
 ) -> Result<Option<Slot<'a>>, SectionRefused>
     ensures read { Gives (λ s. (option_map as_report s, reader.new)) result (flagged (report format acks messages signature_len) reader.old) }
     ensures of_format { IfOk result (λ s. IfSome s (IsSlotOf format)) }
+    ensures few { IfOk result (λ s. IfSome s (λ r. length r.rels ≤ most format messages)) }
 {
     if !has_one(reader)? {
         return Ok(None);
@@ -72,6 +74,7 @@ fn report_at<'a>(
 ) -> Result<Slot<'a>, SectionRefused>
     ensures read { Gives (λ s. (as_report s, reader.new)) result (report format acks messages signature_len reader.old) }
     ensures of_format { IfOk result (IsSlotOf format) }
+    ensures few { IfOk result (λ s. length s.rels ≤ most format messages) }
 {
     let src = NodeId(reader.u8()?);
     let dst = NodeId(reader.u8()?);
@@ -111,6 +114,7 @@ fn rels_at<'a>(
     signature_len: usize,
 ) -> Result<Four<ObjectRef<'a>>, SectionRefused>
     ensures read { Gives (λ o. (map as_object o, reader.new)) result (rels format kind signature_len reader.old) }
+    ensures few { IfOk result (λ o. length o ≤ most format kind) }
     ensures of_format { IfOk result (All (IsOf format)) }
 {
     let count = limited_at(reader, most(format, kind))?;

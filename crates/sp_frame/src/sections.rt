@@ -19,9 +19,9 @@ use crate::reports::{paths_at, slot_at};
 use crate::{ObjectRef, Probe, SectionRefused};
 use sp_base::{FORMAT_1, Flow, Four, MAX_MESSAGES, Reader};
 
-/// How many signed objects a node handles of one frame at most: an update of a weight, the priority messages, an acknowledgement with reliable messages,
-/// and an Epoch object.
-pub const MOST_OBJECTS: usize = 1 + MAX_MESSAGES + (1 + MAX_MESSAGES) + 1;
+/// How many signed objects a node handles of one frame at most: an update of a weight, the priority messages, an acknowledgement with plain reliable messages,
+/// an acknowledgement with one message on paths, and an Epoch object.
+pub const MOST_OBJECTS: usize = 1 + MAX_MESSAGES + (1 + MAX_MESSAGES) + (1 + 1) + 1;
 
 /// The sections of a frame, borrowed from its datagram. Where it has a document it has nothing else.
 #[derive(Debug, Drop)]

@@ -4,16 +4,17 @@
 --     full BASE HAVE         tickspent INDEX               short NEED LEFT      topology THEIRS
 --     spent INDEX            ticknotreserved BOUND         magic                section cut | count | object | tail
 --     expired NOW            low MIN                       version              withdrawn
---     nopaths FOUND          frame NUMBER LENGTH DIGEST    notforme             fresh, and a word for each object: weight: prio: ack: rel: epoch:
---     payload HEX            payload SRC SEQ HEX           badtag                 with new badend epoch foreign low old expired seen ahead gap full
+--     nopaths FOUND          frame NUMBER LENGTH DIGEST    notforme             fresh, and a word for each object: weight: prio: ack: rel: kack: krel: epoch:
+--     payload HEX            payload SRC SEQ HEX           badtag                 with new badend epoch offmask foreign low old expired seen ahead gap full
 --     empty                  badend                        learned BOOT           inboxfull badsig; or document: with new bad old badsig strange
 --     started BOOT INDEX     exhausted BOUND               stopped              down
---     adopted VERSION        document old
+--     adopted VERSION        document old                  busy K
 --
 --     + signed HEX                        + delivered rel SRC SEQ HEX
 --     + stored PLACE ID SRC SEQ PRIO      + delivered prio SRC SEQ HEX
 --     + gone PLACE ID WHY                 + weight ORIGIN EDGE SEQ WEIGHT
 --     + version VERSION                   + ended S D
+--     + delivered krel SRC SEQ HEX        + kended S D
 use Rattle.std.specs.Prelude.{List, [], ◌∷◌, ◌++◌, map, codes}
 use Rattle.std.specs.Fmt.{decimal}
 use Rattle.sp_text.specs.Spelling.{Word, hex_word}
@@ -38,6 +39,7 @@ abbrev pub answer_word : AnswerWord → Word
 answer_word answers.New = codes "new"
 answer_word answers.BadEnd = codes "badend"
 answer_word answers.Epoch = codes "epoch"
+answer_word answers.OffMask = codes "offmask"
 answer_word answers.Foreign = codes "foreign"
 answer_word answers.Low = codes "low"
 answer_word answers.Old = codes "old"
@@ -57,6 +59,8 @@ item_word (items.Weight answer) = codes "weight:" ++ answer_word answer
 item_word (items.Prio answer) = codes "prio:" ++ answer_word answer
 item_word (items.Ack answer) = codes "ack:" ++ answer_word answer
 item_word (items.Rel answer) = codes "rel:" ++ answer_word answer
+item_word (items.Kack answer) = codes "kack:" ++ answer_word answer
+item_word (items.Krel answer) = codes "krel:" ++ answer_word answer
 item_word (items.Epoch answer) = codes "epoch:" ++ answer_word answer
 item_word (items.Document answer) = codes "document:" ++ answer_word answer
 
@@ -98,6 +102,7 @@ reply_name (replies.Full base have) = codes "full"
 reply_name (replies.Spent index) = codes "spent"
 reply_name (replies.Expired now) = codes "expired"
 reply_name (replies.NoPaths found) = codes "nopaths"
+reply_name (replies.Busy paths) = codes "busy"
 reply_name (replies.Payload payload) = codes "payload"
 reply_name (replies.PayloadPrio src seq payload) = codes "payload"
 reply_name replies.Empty = codes "empty"
@@ -122,6 +127,7 @@ reply_fields (replies.Full base have) = decimal base ∷ decimal have ∷ []
 reply_fields (replies.Spent index) = decimal index ∷ []
 reply_fields (replies.Expired now) = decimal now ∷ []
 reply_fields (replies.NoPaths found) = decimal found ∷ []
+reply_fields (replies.Busy paths) = decimal paths ∷ []
 reply_fields (replies.Payload payload) = hex_word payload ∷ []
 reply_fields (replies.PayloadPrio src seq payload) = decimal src.0 ∷ decimal seq ∷ hex_word payload ∷ []
 reply_fields replies.Empty = []
@@ -160,8 +166,10 @@ effect_fields (effects.Stored place id src seq prio) = codes "stored" ∷ decima
 effect_fields (effects.Gone place id why) = codes "gone" ∷ decimal place ∷ decimal id ∷ why_word why ∷ []
 effect_fields (effects.Delivered src seq payload) = codes "delivered" ∷ codes "rel" ∷ decimal src.0 ∷ decimal seq ∷ hex_word payload ∷ []
 effect_fields (effects.DeliveredPrio src seq payload) = codes "delivered" ∷ codes "prio" ∷ decimal src.0 ∷ decimal seq ∷ hex_word payload ∷ []
+effect_fields (effects.DeliveredKrel src seq payload) = codes "delivered" ∷ codes "krel" ∷ decimal src.0 ∷ decimal seq ∷ hex_word payload ∷ []
 effect_fields (effects.WeightHeld origin edge seq weight) = codes "weight" ∷ decimal origin.0 ∷ decimal edge.0 ∷ decimal seq ∷ decimal weight ∷ []
 effect_fields (effects.Ended flow) = codes "ended" ∷ decimal flow.src.0 ∷ decimal flow.dst.0 ∷ []
+effect_fields (effects.Kended flow) = codes "kended" ∷ decimal flow.src.0 ∷ decimal flow.dst.0 ∷ []
 effect_fields (effects.Version version) = codes "version" ∷ decimal version ∷ []
 
 -- the words of an effect

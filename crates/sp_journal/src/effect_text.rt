@@ -7,7 +7,7 @@ ghost use Rattle.sp_text.specs.Spelling.{hex_word};
 ghost use Rattle.sp_journal.specs.JournalText.{effect_lines};
 ghost use Rattle.sp_journal.specs.Words.{effect_fields, effect_words, why_word};
 
-use sp_base::{Memory, NodeId};
+use sp_base::{Flow, Memory, NodeId};
 use sp_lines::{push_field, push_hex_field, push_name_field};
 use sp_msg::{Effect, Why};
 
@@ -53,14 +53,13 @@ fn push_fields(out: &mut String, effect: &Effect) -> Result<(), Memory>
             push_name_field(out, why_word(*why))
         }
         Effect::Delivered { src, seq, payload } => {
-            push_name_field(out, "delivered")?;
-            push_name_field(out, "rel")?;
-            push_message(out, *src, *seq, payload.as_slice())
+            push_delivered(out, "rel", *src, *seq, payload.as_slice())
         }
         Effect::DeliveredPrio { src, seq, payload } => {
-            push_name_field(out, "delivered")?;
-            push_name_field(out, "prio")?;
-            push_message(out, *src, *seq, payload.as_slice())
+            push_delivered(out, "prio", *src, *seq, payload.as_slice())
+        }
+        Effect::DeliveredKrel { src, seq, payload } => {
+            push_delivered(out, "krel", *src, *seq, payload.as_slice())
         }
         Effect::WeightHeld {
             origin,
@@ -74,11 +73,8 @@ fn push_fields(out: &mut String, effect: &Effect) -> Result<(), Memory>
             push_field(out, *seq)?;
             push_field(out, u64::from(*weight))
         }
-        Effect::Ended(flow) => {
-            push_name_field(out, "ended")?;
-            push_field(out, u64::from(flow.src.0))?;
-            push_field(out, u64::from(flow.dst.0))
-        }
+        Effect::Ended(flow) => push_ended(out, "ended", *flow),
+        Effect::Kended(flow) => push_ended(out, "kended", *flow),
         Effect::Version { version } => {
             push_name_field(out, "version")?;
             push_field(out, u64::from(*version))
@@ -105,13 +101,32 @@ fn push_stored(
     push_field(out, u64::from(prio))
 }
 
-/// Appends the source, the number and the payload of a message.
-fn push_message(out: &mut String, src: NodeId, seq: u64, payload: &[u8]) -> Result<(), Memory>
-    ensures { OnOk result (string_bytes out.new ≡ string_bytes out.old ++ after_spaces (decimal src.0 ∷ decimal seq ∷ hex_word payload.now ∷ [])) }
+/// Appends that a message of a kind was delivered: its source, its number and its payload.
+fn push_delivered(
+    out: &mut String,
+    kind: &str,
+    src: NodeId,
+    seq: u64,
+    payload: &[u8],
+) -> Result<(), Memory>
+    ensures { OnOk result (string_bytes out.new ≡ string_bytes out.old
+        ++ after_spaces (codes "delivered" ∷ kind.now ∷ decimal src.0 ∷ decimal seq ∷ hex_word payload.now ∷ [])) }
 {
+    push_name_field(out, "delivered")?;
+    push_name_field(out, kind)?;
     push_field(out, u64::from(src.0))?;
     push_field(out, seq)?;
     push_hex_field(out, payload)
+}
+
+/// Appends that a flow ended, by the word of its kind.
+fn push_ended(out: &mut String, word: &str, flow: Flow) -> Result<(), Memory>
+    ensures { OnOk result (string_bytes out.new ≡ string_bytes out.old
+        ++ after_spaces (word.now ∷ decimal flow.src.0 ∷ decimal flow.dst.0 ∷ [])) }
+{
+    push_name_field(out, word)?;
+    push_field(out, u64::from(flow.src.0))?;
+    push_field(out, u64::from(flow.dst.0))
 }
 
 fn why_word(why: Why) -> &'static str

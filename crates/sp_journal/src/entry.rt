@@ -33,6 +33,10 @@ pub enum Reply {
     NoPaths {
         found: u8,
     },
+    /// Messages of the flow wait that went on this number of paths, which isn't the one that was asked for.
+    Busy {
+        paths: u8,
+    },
     /// A reliable message was taken from the inbox.
     Payload(Bytes),
     /// A priority message was taken from the inbox.
@@ -122,6 +126,8 @@ pub enum ItemWord {
     Prio(AnswerWord),
     Ack(AnswerWord),
     Rel(AnswerWord),
+    Kack(AnswerWord),
+    Krel(AnswerWord),
     Epoch(AnswerWord),
     Document(AnswerWord),
 }
@@ -133,6 +139,7 @@ pub enum AnswerWord {
     Bad,
     BadEnd,
     Epoch,
+    OffMask,
     Foreign,
     Low,
     Old,

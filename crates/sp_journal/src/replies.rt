@@ -65,6 +65,7 @@ fn reply_name(reply: &Reply) -> &'static str
         Reply::Spent { .. } => "spent",
         Reply::Expired { .. } => "expired",
         Reply::NoPaths { .. } => "nopaths",
+        Reply::Busy { .. } => "busy",
         Reply::Payload(_) | Reply::PayloadPrio { .. } => "payload",
         Reply::Empty => "empty",
         Reply::Ticked => "ticked",
@@ -117,7 +118,7 @@ fn push_fields(out: &mut String, reply: &Reply) -> Result<(), Memory>
         Reply::Full { base: a, have: b } | Reply::Started { boot: a, index: b } => {
             push_two(out, *a, *b)
         }
-        Reply::NoPaths { found } => push_field(out, u64::from(*found)),
+        Reply::NoPaths { found: n } | Reply::Busy { paths: n } => push_field(out, u64::from(*n)),
         Reply::Payload(payload) => push_hex_field(out, payload.as_slice()),
         Reply::PayloadPrio { src, seq, payload } => {
             push_two(out, u64::from(src.0), *seq)?;
@@ -202,6 +203,8 @@ fn push_item(out: &mut String, item: ItemWord) -> Result<(), Memory>
         ItemWord::Prio(answer) => (" prio:", answer),
         ItemWord::Ack(answer) => (" ack:", answer),
         ItemWord::Rel(answer) => (" rel:", answer),
+        ItemWord::Kack(answer) => (" kack:", answer),
+        ItemWord::Krel(answer) => (" krel:", answer),
         ItemWord::Epoch(answer) => (" epoch:", answer),
         ItemWord::Document(answer) => (" document:", answer),
     };
@@ -217,6 +220,7 @@ fn answer_word(answer: AnswerWord) -> &'static str
         AnswerWord::New => "new",
         AnswerWord::BadEnd => "badend",
         AnswerWord::Epoch => "epoch",
+        AnswerWord::OffMask => "offmask",
         AnswerWord::Foreign => "foreign",
         AnswerWord::Low => "low",
         AnswerWord::Old => "old",

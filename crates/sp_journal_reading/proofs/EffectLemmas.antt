@@ -28,8 +28,10 @@ effect_back (effects.Gone at key whys.Taken) = refl
 effect_back (effects.Gone at key whys.Withdrawn) = refl
 effect_back (effects.Delivered src number bytes) = refl
 effect_back (effects.DeliveredPrio src number bytes) = refl
+effect_back (effects.DeliveredKrel src number bytes) = refl
 effect_back (effects.WeightHeld origin edge number weight) = refl
 effect_back (effects.Ended flow) = refl
+effect_back (effects.Kended flow) = refl
 effect_back (effects.Version version) = refl
 
 -- its words are those of its row
@@ -43,8 +45,10 @@ row_words (effects.Gone at key whys.Taken) = refl
 row_words (effects.Gone at key whys.Withdrawn) = refl
 row_words (effects.Delivered src number bytes) = refl
 row_words (effects.DeliveredPrio src number bytes) = refl
+row_words (effects.DeliveredKrel src number bytes) = refl
 row_words (effects.WeightHeld origin edge number weight) = refl
 row_words (effects.Ended flow) = refl
+row_words (effects.Kended flow) = refl
 row_words (effects.Version version) = refl
 
 -- and they fit that row, and none before it
@@ -58,8 +62,10 @@ form_again (effects.Gone at key whys.Taken) = refl
 form_again (effects.Gone at key whys.Withdrawn) = refl
 form_again (effects.Delivered src number bytes) = refl
 form_again (effects.DeliveredPrio src number bytes) = refl
+form_again (effects.DeliveredKrel src number bytes) = refl
 form_again (effects.WeightHeld origin edge number weight) = refl
 form_again (effects.Ended flow) = refl
+form_again (effects.Kended flow) = refl
 form_again (effects.Version version) = refl
 
 -- the words of a row's values are those of its effect, which are in the same ranges
@@ -77,8 +83,10 @@ of_form (forms.Gone whys.Taken) xs = record { words = refl; ranges = λ are. are
 of_form (forms.Gone whys.Withdrawn) xs = record { words = refl; ranges = λ are. are }
 of_form (forms.Delivered kinds.Rel) xs = record { words = refl; ranges = λ are. are }
 of_form (forms.Delivered kinds.Prio) xs = record { words = refl; ranges = λ are. are }
+of_form (forms.Delivered kinds.Krel) xs = record { words = refl; ranges = λ are. are }
 of_form forms.Weight xs = record { words = refl; ranges = λ are. are }
 of_form forms.Ended xs = record { words = refl; ranges = λ are. are }
+of_form forms.Kended xs = record { words = refl; ranges = λ are. are }
 of_form forms.Version xs = record { words = refl; ranges = λ are. are }
 
 good_form : (form : Form) → is_good_row (cells form) ≡ true
@@ -91,8 +99,10 @@ good_form (forms.Gone whys.Taken) = refl
 good_form (forms.Gone whys.Withdrawn) = refl
 good_form (forms.Delivered kinds.Rel) = refl
 good_form (forms.Delivered kinds.Prio) = refl
+good_form (forms.Delivered kinds.Krel) = refl
 good_form forms.Weight = refl
 good_form forms.Ended = refl
+good_form forms.Kended = refl
 good_form forms.Version = refl
 
 -- the row that was found is fitted

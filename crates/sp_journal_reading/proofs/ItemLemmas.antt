@@ -1,5 +1,5 @@
 -- The table of items, whose words are those of its items.
-use Rattle.std.proofs.Common.{◌≡◌, List, [], ◌∷◌, map, Bor, refl, ap, inl, inr}
+use Rattle.std.proofs.Common.{◌≡◌, List, [], ◌∷◌, map, Bor, refl, inl, inr}
 use Rattle.std.specs.Prelude.{find, option_map}
 use Rattle.std.proofs.lemmas.Bool.{cases_Bool}
 use Rattle.sp_text.specs.Spelling.{Word}

@@ -43,6 +43,7 @@ of_form forms.Full xs = record { words = refl; reads = refl }
 of_form forms.Spent xs = record { words = refl; reads = refl }
 of_form forms.Expired xs = record { words = refl; reads = refl }
 of_form forms.NoPaths xs = record { words = refl; reads = refl }
+of_form forms.Busy xs = record { words = refl; reads = refl }
 of_form forms.Payload xs = record { words = refl; reads = refl }
 of_form forms.PayloadPrio xs = record { words = refl; reads = refl }
 of_form forms.Empty xs = record { words = refl; reads = refl }
@@ -79,6 +80,7 @@ good_form forms.Full = refl
 good_form forms.Spent = refl
 good_form forms.Expired = refl
 good_form forms.NoPaths = refl
+good_form forms.Busy = refl
 good_form forms.Payload = refl
 good_form forms.PayloadPrio = refl
 good_form forms.Empty = refl

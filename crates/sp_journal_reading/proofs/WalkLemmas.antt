@@ -7,7 +7,7 @@ use Rattle.std.specs.List.{list_all}
 use Rattle.std.specs.Str.Parse.{AllDigits}
 use Rattle.std.proofs.lemmas.Fmt.{decimal_is_IsNumeral}
 use Rattle.std.proofs.lemmas.Str.Parse.{digit_from_value}
-use Rattle.std.proofs.lemmas.Bool.{and_from, cases_Bool}
+use Rattle.std.proofs.lemmas.Bool.{and_from, and_parts, cases_Bool}
 use Rattle.std.proofs.lemmas.Bool.Decides.{nat_tests}
 use Rattle.std.proofs.lemmas.List.Elements.{All-append, All-cons, All-head, All-nil, All-tail}
 use Rattle.sp_base.proofs.RefusalLemmas.{then_ok}
@@ -32,6 +32,7 @@ use Rattle.sp_journal_reading.specs.ReplyTable as forms
 use Rattle.sp_journal_reading.specs.ReplyTable.{Form, IsGoodReply, MAX_ENTRIES, Of_items, Of_row, cells}
 use Rattle.sp_journal.specs.Words.{effect_fields, effect_words, item_word, reply_words}
 use Rattle.sp_journal_reading.specs.declared.item_words.TheConstants.{MAX_ITEMS}
+use Rattle.sp_journal.specs.declared.entry.AnswerWord.{AnswerWord}
 use Rattle.sp_journal.specs.declared.entry.AnswerWord.TheVariants as answers
 use Rattle.sp_journal.specs.declared.entry.ItemWord.{ItemWord}
 use Rattle.sp_journal.specs.declared.entry.ItemWord.TheVariants as items
@@ -85,8 +86,10 @@ good_plus (effect_forms.Gone whys.Taken) = refl
 good_plus (effect_forms.Gone whys.Withdrawn) = refl
 good_plus (effect_forms.Delivered kinds.Rel) = refl
 good_plus (effect_forms.Delivered kinds.Prio) = refl
+good_plus (effect_forms.Delivered kinds.Krel) = refl
 good_plus effect_forms.Weight = refl
 good_plus effect_forms.Ended = refl
+good_plus effect_forms.Kended = refl
 good_plus effect_forms.Version = refl
 
 effect_line : (effect : Effect) → IsInRange effect → IsGoodLine (effect_words effect)
@@ -132,6 +135,7 @@ good_numbered forms.Full = refl
 good_numbered forms.Spent = refl
 good_numbered forms.Expired = refl
 good_numbered forms.NoPaths = refl
+good_numbered forms.Busy = refl
 good_numbered forms.Payload = refl
 good_numbered forms.PayloadPrio = refl
 good_numbered forms.Empty = refl
@@ -164,101 +168,51 @@ good_numbered forms.Withdrawn = refl
 
 -- ---- items as places of a row
 
-record IsShort (item : ItemWord) : Type 0 where
-  good : is_good_cell (Name (item_word item)) ≡ true
-  short : nat_le (width (Name (item_word item))) 20 ≡ true
+-- the word of an item is a good place, and short
+abbrev is_short : ItemWord → Bool
+is_short item = is_good_cell (Name (item_word item)) && nat_le (width (Name (item_word item))) 20
 
-short_item : (item : ItemWord) → IsShort item
-short_item (items.Weight answers.New) = record { good = refl; short = refl }
-short_item (items.Weight answers.BadEnd) = record { good = refl; short = refl }
-short_item (items.Weight answers.Epoch) = record { good = refl; short = refl }
-short_item (items.Weight answers.Foreign) = record { good = refl; short = refl }
-short_item (items.Weight answers.Low) = record { good = refl; short = refl }
-short_item (items.Weight answers.Old) = record { good = refl; short = refl }
-short_item (items.Weight answers.Expired) = record { good = refl; short = refl }
-short_item (items.Weight answers.Seen) = record { good = refl; short = refl }
-short_item (items.Weight answers.Ahead) = record { good = refl; short = refl }
-short_item (items.Weight answers.Gap) = record { good = refl; short = refl }
-short_item (items.Weight answers.Full) = record { good = refl; short = refl }
-short_item (items.Weight answers.InboxFull) = record { good = refl; short = refl }
-short_item (items.Weight answers.BadSig) = record { good = refl; short = refl }
-short_item (items.Weight answers.Bad) = record { good = refl; short = refl }
-short_item (items.Weight answers.Strange) = record { good = refl; short = refl }
-short_item (items.Prio answers.New) = record { good = refl; short = refl }
-short_item (items.Prio answers.BadEnd) = record { good = refl; short = refl }
-short_item (items.Prio answers.Epoch) = record { good = refl; short = refl }
-short_item (items.Prio answers.Foreign) = record { good = refl; short = refl }
-short_item (items.Prio answers.Low) = record { good = refl; short = refl }
-short_item (items.Prio answers.Old) = record { good = refl; short = refl }
-short_item (items.Prio answers.Expired) = record { good = refl; short = refl }
-short_item (items.Prio answers.Seen) = record { good = refl; short = refl }
-short_item (items.Prio answers.Ahead) = record { good = refl; short = refl }
-short_item (items.Prio answers.Gap) = record { good = refl; short = refl }
-short_item (items.Prio answers.Full) = record { good = refl; short = refl }
-short_item (items.Prio answers.InboxFull) = record { good = refl; short = refl }
-short_item (items.Prio answers.BadSig) = record { good = refl; short = refl }
-short_item (items.Prio answers.Bad) = record { good = refl; short = refl }
-short_item (items.Prio answers.Strange) = record { good = refl; short = refl }
-short_item (items.Ack answers.New) = record { good = refl; short = refl }
-short_item (items.Ack answers.BadEnd) = record { good = refl; short = refl }
-short_item (items.Ack answers.Epoch) = record { good = refl; short = refl }
-short_item (items.Ack answers.Foreign) = record { good = refl; short = refl }
-short_item (items.Ack answers.Low) = record { good = refl; short = refl }
-short_item (items.Ack answers.Old) = record { good = refl; short = refl }
-short_item (items.Ack answers.Expired) = record { good = refl; short = refl }
-short_item (items.Ack answers.Seen) = record { good = refl; short = refl }
-short_item (items.Ack answers.Ahead) = record { good = refl; short = refl }
-short_item (items.Ack answers.Gap) = record { good = refl; short = refl }
-short_item (items.Ack answers.Full) = record { good = refl; short = refl }
-short_item (items.Ack answers.InboxFull) = record { good = refl; short = refl }
-short_item (items.Ack answers.BadSig) = record { good = refl; short = refl }
-short_item (items.Ack answers.Bad) = record { good = refl; short = refl }
-short_item (items.Ack answers.Strange) = record { good = refl; short = refl }
-short_item (items.Rel answers.New) = record { good = refl; short = refl }
-short_item (items.Rel answers.BadEnd) = record { good = refl; short = refl }
-short_item (items.Rel answers.Epoch) = record { good = refl; short = refl }
-short_item (items.Rel answers.Foreign) = record { good = refl; short = refl }
-short_item (items.Rel answers.Low) = record { good = refl; short = refl }
-short_item (items.Rel answers.Old) = record { good = refl; short = refl }
-short_item (items.Rel answers.Expired) = record { good = refl; short = refl }
-short_item (items.Rel answers.Seen) = record { good = refl; short = refl }
-short_item (items.Rel answers.Ahead) = record { good = refl; short = refl }
-short_item (items.Rel answers.Gap) = record { good = refl; short = refl }
-short_item (items.Rel answers.Full) = record { good = refl; short = refl }
-short_item (items.Rel answers.InboxFull) = record { good = refl; short = refl }
-short_item (items.Rel answers.BadSig) = record { good = refl; short = refl }
-short_item (items.Rel answers.Bad) = record { good = refl; short = refl }
-short_item (items.Rel answers.Strange) = record { good = refl; short = refl }
-short_item (items.Epoch answers.New) = record { good = refl; short = refl }
-short_item (items.Epoch answers.BadEnd) = record { good = refl; short = refl }
-short_item (items.Epoch answers.Epoch) = record { good = refl; short = refl }
-short_item (items.Epoch answers.Foreign) = record { good = refl; short = refl }
-short_item (items.Epoch answers.Low) = record { good = refl; short = refl }
-short_item (items.Epoch answers.Old) = record { good = refl; short = refl }
-short_item (items.Epoch answers.Expired) = record { good = refl; short = refl }
-short_item (items.Epoch answers.Seen) = record { good = refl; short = refl }
-short_item (items.Epoch answers.Ahead) = record { good = refl; short = refl }
-short_item (items.Epoch answers.Gap) = record { good = refl; short = refl }
-short_item (items.Epoch answers.Full) = record { good = refl; short = refl }
-short_item (items.Epoch answers.InboxFull) = record { good = refl; short = refl }
-short_item (items.Epoch answers.BadSig) = record { good = refl; short = refl }
-short_item (items.Epoch answers.Bad) = record { good = refl; short = refl }
-short_item (items.Epoch answers.Strange) = record { good = refl; short = refl }
-short_item (items.Document answers.New) = record { good = refl; short = refl }
-short_item (items.Document answers.Bad) = record { good = refl; short = refl }
-short_item (items.Document answers.BadEnd) = record { good = refl; short = refl }
-short_item (items.Document answers.Epoch) = record { good = refl; short = refl }
-short_item (items.Document answers.Foreign) = record { good = refl; short = refl }
-short_item (items.Document answers.Low) = record { good = refl; short = refl }
-short_item (items.Document answers.Old) = record { good = refl; short = refl }
-short_item (items.Document answers.Expired) = record { good = refl; short = refl }
-short_item (items.Document answers.Seen) = record { good = refl; short = refl }
-short_item (items.Document answers.Ahead) = record { good = refl; short = refl }
-short_item (items.Document answers.Gap) = record { good = refl; short = refl }
-short_item (items.Document answers.Full) = record { good = refl; short = refl }
-short_item (items.Document answers.InboxFull) = record { good = refl; short = refl }
-short_item (items.Document answers.BadSig) = record { good = refl; short = refl }
-short_item (items.Document answers.Strange) = record { good = refl; short = refl }
+-- an answer's words, whatever object has it
+record IsShortOf (answer : AnswerWord) : Type 0 where
+  weight : is_short (items.Weight answer) ≡ true
+  prio : is_short (items.Prio answer) ≡ true
+  ack : is_short (items.Ack answer) ≡ true
+  rel : is_short (items.Rel answer) ≡ true
+  kack : is_short (items.Kack answer) ≡ true
+  krel : is_short (items.Krel answer) ≡ true
+  epoch : is_short (items.Epoch answer) ≡ true
+  document : is_short (items.Document answer) ≡ true
+
+short_answer : (answer : AnswerWord) → IsShortOf answer
+short_answer answers.New = record { weight = refl; prio = refl; ack = refl; rel = refl; kack = refl; krel = refl; epoch = refl; document = refl }
+short_answer answers.BadEnd = record { weight = refl; prio = refl; ack = refl; rel = refl; kack = refl; krel = refl; epoch = refl; document = refl }
+short_answer answers.Epoch = record { weight = refl; prio = refl; ack = refl; rel = refl; kack = refl; krel = refl; epoch = refl; document = refl }
+short_answer answers.OffMask = record { weight = refl; prio = refl; ack = refl; rel = refl; kack = refl; krel = refl; epoch = refl; document = refl }
+short_answer answers.Foreign = record { weight = refl; prio = refl; ack = refl; rel = refl; kack = refl; krel = refl; epoch = refl; document = refl }
+short_answer answers.Low = record { weight = refl; prio = refl; ack = refl; rel = refl; kack = refl; krel = refl; epoch = refl; document = refl }
+short_answer answers.Old = record { weight = refl; prio = refl; ack = refl; rel = refl; kack = refl; krel = refl; epoch = refl; document = refl }
+short_answer answers.Expired = record { weight = refl; prio = refl; ack = refl; rel = refl; kack = refl; krel = refl; epoch = refl; document = refl }
+short_answer answers.Seen = record { weight = refl; prio = refl; ack = refl; rel = refl; kack = refl; krel = refl; epoch = refl; document = refl }
+short_answer answers.Ahead = record { weight = refl; prio = refl; ack = refl; rel = refl; kack = refl; krel = refl; epoch = refl; document = refl }
+short_answer answers.Gap = record { weight = refl; prio = refl; ack = refl; rel = refl; kack = refl; krel = refl; epoch = refl; document = refl }
+short_answer answers.Full = record { weight = refl; prio = refl; ack = refl; rel = refl; kack = refl; krel = refl; epoch = refl; document = refl }
+short_answer answers.InboxFull = record { weight = refl; prio = refl; ack = refl; rel = refl; kack = refl; krel = refl; epoch = refl; document = refl }
+short_answer answers.BadSig = record { weight = refl; prio = refl; ack = refl; rel = refl; kack = refl; krel = refl; epoch = refl; document = refl }
+short_answer answers.Bad = record { weight = refl; prio = refl; ack = refl; rel = refl; kack = refl; krel = refl; epoch = refl; document = refl }
+short_answer answers.Strange = record { weight = refl; prio = refl; ack = refl; rel = refl; kack = refl; krel = refl; epoch = refl; document = refl }
+
+short_item : (item : ItemWord) → is_short item ≡ true
+short_item (items.Weight answer) = (short_answer answer).weight
+short_item (items.Prio answer) = (short_answer answer).prio
+short_item (items.Ack answer) = (short_answer answer).ack
+short_item (items.Rel answer) = (short_answer answer).rel
+short_item (items.Kack answer) = (short_answer answer).kack
+short_item (items.Krel answer) = (short_answer answer).krel
+short_item (items.Epoch answer) = (short_answer answer).epoch
+short_item (items.Document answer) = (short_answer answer).document
+
+item_parts : (item : ItemWord) → (is_good_cell (Name (item_word item)) ≡ true) × (nat_le (width (Name (item_word item))) 20 ≡ true)
+item_parts item = and_parts (is_good_cell (Name (item_word item))) (nat_le (width (Name (item_word item))) 20) (short_item item)
 
 abbrev item_cells : List ItemWord → List Cell
 item_cells [] = []
@@ -278,12 +232,12 @@ nothing_spelled (item ∷ each) xs = ap (λ (ws : List Word). item_word item ∷
 
 good_items : (each : List ItemWord) → list_all is_good_cell (item_cells each) ≡ true
 good_items [] = refl
-good_items (item ∷ each) = and_from (is_good_cell (Name (item_word item))) (list_all is_good_cell (item_cells each)) (short_item item).good (good_items each)
+good_items (item ∷ each) = and_from (is_good_cell (Name (item_word item))) (list_all is_good_cell (item_cells each)) (item_parts item).0 (good_items each)
 
 short_items : (each : List ItemWord) → widths (item_cells each) ≤ length each * 20
 short_items [] = omega arith
 short_items (item ∷ each) =
-    let one : width (Name (item_word item)) ≤ 20 = at_most (short_item item).short in
+    let one : width (Name (item_word item)) ≤ 20 = at_most (item_parts item).1 in
     omega (arith, one, short_items each)
   where
     at_most : {n : ℕ} → nat_le n 20 ≡ true → n ≤ 20

@@ -4,6 +4,7 @@
 --     stored PLACE ID SRC SEQ PRIO      delivered prio SRC SEQ HEX
 --     gone PLACE ID WHY                 weight ORIGIN EDGE SEQ WEIGHT
 --     version VERSION                   ended S D
+--     delivered krel SRC SEQ HEX        kended S D
 use Rattle.std.specs.Prelude.{ℕ, ◌+◌, ◌-◌, ◌^◌, List, [], ◌∷◌, Option, Some, None, Result, Ok, Err, codes}
 use Rattle.sp_base.specs.Refusals.{◌>>=◌}
 use Rattle.sp_base.specs.declared.limits.TheConstants.{MAX_EDGES_2, MAX_NODES_2, MAX_PAYLOAD_BYTES, MAX_PRIORITY, MAX_SEQ, MAX_WEIGHT}
@@ -30,6 +31,7 @@ pub data Form : Type 0 where
   Delivered : Kind → Form
   Weight : Form
   Ended : Form
+  Kended : Form
   Version : Form
 
 -- ---- places
@@ -62,6 +64,7 @@ payload = Bytes 0 MAX_PAYLOAD_BYTES
 abbrev pub kind_word : Kind → Word
 kind_word kinds.Rel = codes "rel"
 kind_word kinds.Prio = codes "prio"
+kind_word kinds.Krel = codes "krel"
 
 -- ---- rows
 
@@ -73,13 +76,14 @@ cells (Gone why) = Name (codes "gone") ∷ place ∷ any_number ∷ Name (why_wo
 cells (Delivered kind) = Name (codes "delivered") ∷ Name (kind_word kind) ∷ node ∷ seq ∷ payload ∷ []
 cells Weight = Name (codes "weight") ∷ node ∷ Number 0 (MAX_EDGES_2 - 1) ∷ seq ∷ Number 1 MAX_WEIGHT ∷ []
 cells Ended = Name (codes "ended") ∷ node ∷ node ∷ []
+cells Kended = Name (codes "kended") ∷ node ∷ node ∷ []
 cells Version = Name (codes "version") ∷ small_number ∷ []
 
 -- all forms
 abbrev pub forms : List Form
 forms =
     Signed ∷ Stored ∷ Gone whys.Evicted ∷ Gone whys.Expired ∷ Gone whys.Acked ∷ Gone whys.Taken ∷ Gone whys.Withdrawn
-    ∷ Delivered kinds.Rel ∷ Delivered kinds.Prio ∷ Weight ∷ Ended ∷ Version ∷ []
+    ∷ Delivered kinds.Rel ∷ Delivered kinds.Prio ∷ Delivered kinds.Krel ∷ Weight ∷ Ended ∷ Kended ∷ Version ∷ []
 
 -- ---- effects
 
@@ -98,8 +102,10 @@ effect_of Stored x = effects.Stored x.0 x.1.0 (id x.1.1.0) x.1.1.1.0 x.1.1.1.1.0
 effect_of (Gone why) x = effects.Gone x.0 x.1.0 why
 effect_of (Delivered kinds.Rel) x = effects.Delivered (id x.0) x.1.0 x.1.1.0
 effect_of (Delivered kinds.Prio) x = effects.DeliveredPrio (id x.0) x.1.0 x.1.1.0
+effect_of (Delivered kinds.Krel) x = effects.DeliveredKrel (id x.0) x.1.0 x.1.1.0
 effect_of Weight x = effects.WeightHeld (id x.0) (record { 0 = x.1.0 }) x.1.1.0 x.1.1.1.0
 effect_of Ended x = effects.Ended (flow x.0 x.1.0)
+effect_of Kended x = effects.Kended (flow x.0 x.1.0)
 effect_of Version x = effects.Version x.0
 
 -- the row of an effect
@@ -109,8 +115,10 @@ form_of (effects.Stored at key src number prio) = Stored
 form_of (effects.Gone at key why) = Gone why
 form_of (effects.Delivered src number bytes) = Delivered kinds.Rel
 form_of (effects.DeliveredPrio src number bytes) = Delivered kinds.Prio
+form_of (effects.DeliveredKrel src number bytes) = Delivered kinds.Krel
 form_of (effects.WeightHeld origin edge number weight) = Weight
 form_of (effects.Ended of) = Ended
+form_of (effects.Kended of) = Kended
 form_of (effects.Version version) = Version
 
 -- its values in that row
@@ -120,8 +128,10 @@ values_of (effects.Stored at key src number prio) = (at, (key, (src.0, (number, 
 values_of (effects.Gone at key why) = (at, (key, tt))
 values_of (effects.Delivered src number bytes) = (src.0, (number, (bytes, tt)))
 values_of (effects.DeliveredPrio src number bytes) = (src.0, (number, (bytes, tt)))
+values_of (effects.DeliveredKrel src number bytes) = (src.0, (number, (bytes, tt)))
 values_of (effects.WeightHeld origin edge number weight) = (origin.0, (edge.0, (number, (weight, tt))))
 values_of (effects.Ended of) = (of.src.0, (of.dst.0, tt))
+values_of (effects.Kended of) = (of.src.0, (of.dst.0, tt))
 values_of (effects.Version version) = (version, tt)
 
 -- an effect in its ranges

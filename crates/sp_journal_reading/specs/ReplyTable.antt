@@ -8,10 +8,11 @@
 --     empty               ticknotreserved BOUND                        badtag
 --     frame NUMBER LENGTH DIGEST                                       learned BOOT
 --     badend              started BOOT INDEX                           exhausted BOUND   stopped   down
---     adopted VERSION     document old                                 withdrawn
+--     adopted VERSION     document old                                 withdrawn         busy K
 --
 --     weight:  new foreign low old badsig                  ack:  new badend epoch old ahead badsig
 --     prio:    new badend epoch expired seen badsig        rel:  new badend epoch old ahead gap full inboxfull badsig
+--     kack:    as ack:                                     krel: as rel:, and offmask
 --     epoch:   new badend old badsig                       document:  new bad old badsig strange
 use Rattle.std.specs.Prelude.{ℕ, ◌≡◌, ◌≤◌, ◌-◌, ◌^◌, nat_le, List, [], ◌∷◌, ◌++◌, All}
 use Rattle.std.specs.Prelude.{find, length, map, Option, Some, None, Result, Ok, Err, codes, if◌then◌else◌}
@@ -42,6 +43,7 @@ pub data Form : Type 0 where
   Spent : Form
   Expired : Form
   NoPaths : Form
+  Busy : Form
   Payload : Form
   PayloadPrio : Form
   Empty : Form
@@ -78,6 +80,7 @@ cells Full = Name (codes "full") ∷ any_number ∷ any_number ∷ []
 cells Spent = Name (codes "spent") ∷ any_number ∷ []
 cells Expired = Name (codes "expired") ∷ any_number ∷ []
 cells NoPaths = Name (codes "nopaths") ∷ Number 0 255 ∷ []
+cells Busy = Name (codes "busy") ∷ Number 0 255 ∷ []
 cells Payload = Name (codes "payload") ∷ payload ∷ []
 cells PayloadPrio = Name (codes "payload") ∷ node ∷ seq ∷ payload ∷ []
 cells Empty = Name (codes "empty") ∷ []
@@ -111,7 +114,7 @@ cells Withdrawn = Name (codes "withdrawn") ∷ []
 -- all forms
 abbrev pub forms : List Form
 forms =
-    Accepted ∷ Full ∷ Spent ∷ Expired ∷ NoPaths ∷ Payload ∷ PayloadPrio ∷ Empty ∷ Ticked ∷ TickSpent ∷ TickNotReserved
+    Accepted ∷ Full ∷ Spent ∷ Expired ∷ NoPaths ∷ Busy ∷ Payload ∷ PayloadPrio ∷ Empty ∷ Ticked ∷ TickSpent ∷ TickNotReserved
     ∷ Low ∷ BadEnd ∷ Frame ∷ TooLong ∷ Short ∷ Magic ∷ Version ∷ NotForMe ∷ BadTag
     ∷ Learned ∷ Stale ∷ Topology ∷ Section sections.Cut ∷ Section sections.Count ∷ Section sections.Object ∷ Section sections.Tail
     ∷ Started ∷ Exhausted ∷ Stopped ∷ Down ∷ Adopted ∷ DocumentOld ∷ Withdrawn ∷ []
@@ -129,6 +132,7 @@ reply_of Full x = replies.Full x.0 x.1.0
 reply_of Spent x = replies.Spent x.0
 reply_of Expired x = replies.Expired x.0
 reply_of NoPaths x = replies.NoPaths x.0
+reply_of Busy x = replies.Busy x.0
 reply_of Payload x = replies.Payload x.0
 reply_of PayloadPrio x = replies.PayloadPrio (id x.0) x.1.0 x.1.1.0
 reply_of Empty x = replies.Empty
@@ -177,6 +181,12 @@ ack_answers = answers.New ∷ answers.BadEnd ∷ answers.Epoch ∷ answers.Old �
 abbrev pub rel_answers : List AnswerWord
 rel_answers = answers.New ∷ answers.BadEnd ∷ answers.Epoch ∷ answers.Old ∷ answers.Ahead ∷ answers.Gap ∷ answers.Full ∷ answers.InboxFull ∷ answers.BadSig ∷ []
 
+-- what may be answered to a reliable message on paths
+abbrev pub krel_answers : List AnswerWord
+krel_answers =
+    answers.New ∷ answers.BadEnd ∷ answers.Epoch ∷ answers.OffMask ∷ answers.Old ∷ answers.Ahead ∷ answers.Gap ∷ answers.Full ∷ answers.InboxFull
+    ∷ answers.BadSig ∷ []
+
 -- what may be answered to an Epoch object
 abbrev pub epoch_answers : List AnswerWord
 epoch_answers = answers.New ∷ answers.BadEnd ∷ answers.Old ∷ answers.BadSig ∷ []
@@ -190,7 +200,8 @@ abbrev pub all_items : List ItemWord
 all_items =
     map items.Weight weight_answers
     ++ (map items.Prio prio_answers
-    ++ (map items.Ack ack_answers ++ (map items.Rel rel_answers ++ (map items.Epoch epoch_answers ++ map items.Document document_answers))))
+    ++ (map items.Ack ack_answers ++ (map items.Rel rel_answers ++ (map items.Kack ack_answers
+    ++ (map items.Krel krel_answers ++ (map items.Epoch epoch_answers ++ map items.Document document_answers))))))
 
 -- the item among these that has this word
 abbrev pub item_among : List ItemWord → Word → Option ItemWord

@@ -21,6 +21,7 @@ use std::alloc::Global;
 pub(crate) enum Kind {
     Rel,
     Prio,
+    Krel,
 }
 
 /// The longest body of a message.
@@ -57,6 +58,9 @@ fn three(name: &[u8], src: &[u8], dst: &[u8]) -> Result<Effect, LineRefused>
 {
     if named(name, b"ended") {
         return ended(src, dst);
+    }
+    if named(name, b"kended") {
+        return kended(src, dst);
     }
     Err(LineRefused::Bad(Fault::Form))
 }
@@ -122,6 +126,9 @@ fn five(
     }
     if named(a, b"prio") {
         return delivered(alloc, Kind::Prio, b, c, d);
+    }
+    if named(a, b"krel") {
+        return delivered(alloc, Kind::Krel, b, c, d);
     }
     Err(LineRefused::Bad(Fault::Form))
 }
@@ -191,6 +198,7 @@ fn delivered(
     Ok(match kind {
         Kind::Rel => Effect::Delivered { src, seq, payload },
         Kind::Prio => Effect::DeliveredPrio { src, seq, payload },
+        Kind::Krel => Effect::DeliveredKrel { src, seq, payload },
     })
 }
 
@@ -217,6 +225,15 @@ fn ended(src: &[u8], dst: &[u8]) -> Result<Effect, LineRefused>
     let src = node(src)?;
     let dst = node(dst)?;
     Ok(Effect::Ended(Flow { src, dst }))
+}
+
+#[tactic(auto, unfolding(crate::specs::EffectTable::read_form))]
+fn kended(src: &[u8], dst: &[u8]) -> Result<Effect, LineRefused>
+    ensures { Reads result (read_form forms.Kended (codes "kended" ∷ src.now ∷ dst.now ∷ [])) }
+{
+    let src = node(src)?;
+    let dst = node(dst)?;
+    Ok(Effect::Kended(Flow { src, dst }))
 }
 
 #[tactic(auto, unfolding(crate::specs::EffectTable::read_form))]

@@ -11,11 +11,11 @@ use sp_journal::{AnswerWord, ItemWord};
 use sp_lines::{Fault, LineRefused, named};
 use std::alloc::Global;
 
-/// The most items of one arrival that a text tells. A frame has ten objects at most.
+/// The most items of one arrival that a text tells. A frame has thirteen objects at most.
 pub const MAX_ITEMS: usize = 1_024;
 
 /// The word of each item.
-const ITEMS: [(&[u8], ItemWord); 35] = [
+const ITEMS: [(&[u8], ItemWord); 51] = [
     (b"weight:new", ItemWord::Weight(AnswerWord::New)),
     (b"weight:foreign", ItemWord::Weight(AnswerWord::Foreign)),
     (b"weight:low", ItemWord::Weight(AnswerWord::Low)),
@@ -42,6 +42,22 @@ const ITEMS: [(&[u8], ItemWord); 35] = [
     (b"rel:full", ItemWord::Rel(AnswerWord::Full)),
     (b"rel:inboxfull", ItemWord::Rel(AnswerWord::InboxFull)),
     (b"rel:badsig", ItemWord::Rel(AnswerWord::BadSig)),
+    (b"kack:new", ItemWord::Kack(AnswerWord::New)),
+    (b"kack:badend", ItemWord::Kack(AnswerWord::BadEnd)),
+    (b"kack:epoch", ItemWord::Kack(AnswerWord::Epoch)),
+    (b"kack:old", ItemWord::Kack(AnswerWord::Old)),
+    (b"kack:ahead", ItemWord::Kack(AnswerWord::Ahead)),
+    (b"kack:badsig", ItemWord::Kack(AnswerWord::BadSig)),
+    (b"krel:new", ItemWord::Krel(AnswerWord::New)),
+    (b"krel:badend", ItemWord::Krel(AnswerWord::BadEnd)),
+    (b"krel:epoch", ItemWord::Krel(AnswerWord::Epoch)),
+    (b"krel:offmask", ItemWord::Krel(AnswerWord::OffMask)),
+    (b"krel:old", ItemWord::Krel(AnswerWord::Old)),
+    (b"krel:ahead", ItemWord::Krel(AnswerWord::Ahead)),
+    (b"krel:gap", ItemWord::Krel(AnswerWord::Gap)),
+    (b"krel:full", ItemWord::Krel(AnswerWord::Full)),
+    (b"krel:inboxfull", ItemWord::Krel(AnswerWord::InboxFull)),
+    (b"krel:badsig", ItemWord::Krel(AnswerWord::BadSig)),
     (b"epoch:new", ItemWord::Epoch(AnswerWord::New)),
     (b"epoch:badend", ItemWord::Epoch(AnswerWord::BadEnd)),
     (b"epoch:old", ItemWord::Epoch(AnswerWord::Old)),

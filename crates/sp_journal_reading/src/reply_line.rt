@@ -7,8 +7,8 @@ ghost use Rattle.sp_journal_reading.specs.ReplyTable as forms;
 
 use crate::item_words::{MAX_ITEMS, read_items};
 use crate::reply_rows::{
-    accepted, adopted, arrived, exhausted, expired, frame, full, learned, low, no_paths, payload,
-    payload_prio, short, spent, stale, started, tick_not_reserved, tick_spent, topology,
+    accepted, adopted, arrived, busy, exhausted, expired, frame, full, learned, low, no_paths,
+    payload, payload_prio, short, spent, stale, started, tick_not_reserved, tick_spent, topology,
 };
 use sp_journal::{LinkWord, Reply, SectionWord};
 use sp_lines::{Fault, LineRefused, named, ranged};
@@ -119,6 +119,9 @@ fn one(alloc: Global, name: &[u8], a: &[u8]) -> Result<Reply, LineRefused>
     if named(name, b"document") {
         return document(a);
     }
+    if named(name, b"busy") {
+        return busy(a);
+    }
     one_other(alloc, name, a)
 }
 
@@ -127,6 +130,7 @@ fn one_other(alloc: Global, name: &[u8], a: &[u8]) -> Result<Reply, LineRefused>
     requires exhausted { same name.now (codes "exhausted") ≡ false }
     requires section { same name.now (codes "section") ≡ false }
     requires document { same name.now (codes "document") ≡ false }
+    requires busy { same name.now (codes "busy") ≡ false }
     ensures { Reads result (read_for (form_for (name.now ∷ a.now ∷ [])) (name.now ∷ a.now ∷ [])) }
 {
     if named(name, b"accepted") {

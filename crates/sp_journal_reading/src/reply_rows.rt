@@ -61,6 +61,14 @@ pub fn no_paths(found: &[u8]) -> Result<Reply, LineRefused>
 }
 
 #[tactic(auto, unfolding(crate::specs::ReplyTable::read_form))]
+pub fn busy(paths: &[u8]) -> Result<Reply, LineRefused>
+    ensures { Reads result (read_form forms.Busy (codes "busy" ∷ paths.now ∷ [])) }
+{
+    let paths = ranged(paths, 0, 255)? as u8;
+    Ok(Reply::Busy { paths })
+}
+
+#[tactic(auto, unfolding(crate::specs::ReplyTable::read_form))]
 pub fn payload(alloc: Global, payload: &[u8]) -> Result<Reply, LineRefused>
     ensures { Reads result (read_form forms.Payload (codes "payload" ∷ payload.now ∷ [])) }
 {

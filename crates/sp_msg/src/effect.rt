@@ -37,6 +37,12 @@ pub enum Effect {
         seq: u64,
         payload: Bytes,
     },
+    /// A reliable message on paths was delivered to the clients of its destination.
+    DeliveredKrel {
+        src: NodeId,
+        seq: u64,
+        payload: Bytes,
+    },
     /// From now on the node holds this weight, as its origin said it.
     WeightHeld {
         origin: NodeId,
@@ -46,6 +52,8 @@ pub enum Effect {
     },
     /// This flow was active and isn't any more: another life of one of its ends began, or one of them is removed.
     Ended(Flow),
+    /// The same of a flow on paths.
+    Kended(Flow),
     /// From now on the node runs under this version of the topology.
     Version {
         version: u32,

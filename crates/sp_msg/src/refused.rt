@@ -68,6 +68,9 @@ pub enum SendRefused {
     /// The flow's buffer is full: it holds the messages after `base`, up to `have`.
     #[error("the buffer of the flow is full, from {base} to {have}")]
     Full { base: u64, have: u64 },
+    /// Messages of the flow wait that went on another number of paths.
+    #[error("messages on {paths} paths wait")]
+    Busy { paths: u8 },
     /// The expiry lies before this moment.
     #[error("the message has expired by {now}")]
     Expired { now: u64 },

@@ -6,12 +6,13 @@ use Rattle.sp_base.specs.declared.id.NodeId.{NodeId}
 use Rattle.sp_msg.specs.declared.effect.Why.TheVariants.{Taken as TakenAway}
 use Rattle.sp_msg.specs.declared.refused.SendRefused.{SendRefused}
 use Rattle.sp_msg.specs.declared.refused.SendRefused.TheVariants as sends
-use Rattle.sp_node.specs.Calls.{Datagrams, Polls, Publishes, TakesPrio, TakesRel, Ticks, published, taken_in, ticked}
+use Rattle.sp_node.specs.Calls.{Datagrams, Polls, Publishes, TakesKrel, TakesPrio, TakesRel, Ticks, published, taken_in, ticked}
 use Rattle.sp_node_format.specs.Format.{format_of}
 use Rattle.sp_node_state.specs.Sends.{Sends}
 use Rattle.sp_rules.specs.Node.{NodeState}
 use Rattle.sp_rules.specs.PrioPeer.{gone}
-use Rattle.sp_rules.specs.Steps.{Datagram, Frame, Input, Message, NodeStep, NotCalled, Output, Payload, Poll, Publish, Refused, TakePrio, TakeRel, Tick}
+use Rattle.sp_rules.specs.Steps.{Datagram, Frame, Input, Message, NodeStep, NotCalled, Output, Payload, Poll, Publish, Refused, TakeKrel, TakePrio, TakeRel}
+use Rattle.sp_rules.specs.Steps.{Tick}
 use Rattle.sp_rules.specs.Steps.{accepted, replied}
 use Rattle.sp_rules.specs.declared.answers.DocumentAnswer.{DocumentAnswer}
 use Rattle.sp_rules.specs.declared.node.NodeRefused.{NodeRefused}
@@ -33,6 +34,7 @@ fixed_by_send input refusal old new (Ok step) gave = fixed_stays old input (acce
 fixed_by_send input refusal old new (Err sends.Memory) gave = ap (λ (n : NodeState). n.fixed) gave.1
 fixed_by_send input refusal old new (Err sends.BadEnd) gave = fixed_stays old input (replied (Refused sends.BadEnd)) new gave
 fixed_by_send input refusal old new (Err (sends.Full base have)) gave = fixed_stays old input (replied (Refused (sends.Full base have))) new gave
+fixed_by_send input refusal old new (Err (sends.Busy paths)) gave = fixed_stays old input (replied (Refused (sends.Busy paths))) new gave
 fixed_by_send input refusal old new (Err (sends.Expired now)) gave = fixed_stays old input (replied (Refused (sends.Expired now))) new gave
 fixed_by_send input refusal old new (Err (sends.NoPaths found)) gave = fixed_stays old input (replied (Refused (sends.NoPaths found))) new gave
 fixed_by_send input refusal old new (Err (sends.Low least)) gave = fixed_stays old input (replied (Refused (sends.Low least))) new gave
@@ -65,6 +67,10 @@ fixed_by_tick old now new (Err refused) gave = ap (λ (n : NodeState). n.fixed) 
 -- taking a reliable message changes nothing that is fixed
 pub fixed_by_take_rel : (old : NodeState) (src : NodeId) (payload : Option (List ℕ)) (new : NodeState) → TakesRel old src payload new → new.fixed ≡ old.fixed
 fixed_by_take_rel old src payload new gave = fixed_stays old (TakeRel src) (replied (Payload payload)) new gave
+
+-- taking a message on paths changes nothing that is fixed
+pub fixed_by_take_krel : (old : NodeState) (src : NodeId) (payload : Option (List ℕ)) (new : NodeState) → TakesKrel old src payload new → new.fixed ≡ old.fixed
+fixed_by_take_krel old src payload new gave = fixed_stays old (TakeKrel src) (replied (Payload payload)) new gave
 
 -- taking a priority message changes nothing that is fixed
 pub fixed_by_take_prio : (old : NodeState) (entry : Option Stored) (new : NodeState) → TakesPrio old entry new → new.fixed ≡ old.fixed

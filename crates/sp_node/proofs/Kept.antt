@@ -8,12 +8,15 @@ use Rattle.sp_frame.specs.Ranges.{IsContentsIn}
 use Rattle.sp_frame.specs.Sections.{with_document}
 use Rattle.sp_msg.specs.Bodies.{HasGoodFieldsIn}
 use Rattle.sp_msg.specs.declared.body.Ack.{Ack}
-use Rattle.sp_msg.specs.declared.body.Body.TheVariants as bodies
+use Rattle.sp_msg.specs.Views.{signer_of}
+use Rattle.sp_rules.specs.Kflow.{ack_body}
 use Rattle.sp_rules.specs.Link.{Link, new_link}
 use Rattle.sp_rules.specs.Node.{NodeState, is_behind, is_link, is_shut_to, link_in}
 use Rattle.sp_rules.specs.Polls.{contents_at, contents_to, no_contents, parts_after, polled}
 use Rattle.sp_rules.specs.Prio.{is_peer, no_peer, peer_in}
 use Rattle.sp_rules.specs.Ticks.{due_now}
+use Rattle.sp_rules.specs.declared.kflow.FlowKind.{FlowKind}
+use Rattle.sp_rules.specs.declared.kflow.FlowKind.TheVariants as kinds
 use Rattle.laws_node.proofs.Frames.{frames_fit}
 use Rattle.laws_node.proofs.Priority.{no_peer_holds}
 use Rattle.laws_node.proofs.Reliable.{due_now_fits}
@@ -74,8 +77,11 @@ link_low n v kept left = all_first (λ (l : Link). l.sent < 2 ^ 60) (is_link v) 
 
 -- ---- an acknowledgement
 
-pub due_fields : (n : NodeState) (ack : Ack) → IsKept (format_of n.fixed) n → due_now n ≡ Some ack → HasGoodFieldsIn n.fixed.topology.format (bodies.Ack ack)
-due_fields n ack kept is = (due_now_fits (sizes n) n ack is kept.parts).fields
+pub due_fields : (kind : FlowKind) (n : NodeState) (ack : Ack) → IsKept (format_of n.fixed) n → due_now kind n ≡ Some ack
+    → HasGoodFieldsIn n.fixed.topology.format (ack_body kind ack)
+due_fields kind n ack kept is = (due_now_fits kind (sizes n) n ack is kept.parts).fields
 
-pub due_mine : (n : NodeState) (ack : Ack) → IsKept (format_of n.fixed) n → due_now n ≡ Some ack → ack.dst ≡ n.fixed.me
-due_mine n ack kept is = (due_now_fits (sizes n) n ack is kept.parts).mine
+pub due_mine : (kind : FlowKind) (n : NodeState) (ack : Ack) → IsKept (format_of n.fixed) n → due_now kind n ≡ Some ack
+    → signer_of (ack_body kind ack) ≡ n.fixed.me
+due_mine kinds.Plain n ack kept is = (due_now_fits kinds.Plain (sizes n) n ack is kept.parts).mine
+due_mine kinds.Paths n ack kept is = (due_now_fits kinds.Paths (sizes n) n ack is kept.parts).mine

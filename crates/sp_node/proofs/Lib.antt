@@ -1,5 +1,6 @@
 pub mod Adopted
 pub mod Arrived
+pub mod Dues
 pub mod Expired
 pub mod Frames
 pub mod Greeted

@@ -8,10 +8,11 @@ use Rattle.sp_node_format.specs.Format.{document_in, format_of}
 use Rattle.sp_msg.specs.declared.refused.SendRefused.{SendRefused}
 use Rattle.sp_msg.specs.declared.refused.SendRefused.TheVariants as sends
 use Rattle.sp_rules.specs.Documents.{adopting, after_publish, document_answer}
+use Rattle.sp_rules.specs.KflowSends.{KSend, after_take_krel, krel_refusal}
 use Rattle.sp_rules.specs.Node.{NodeState, extended}
 use Rattle.sp_rules.specs.Parts.{Fixed}
 use Rattle.sp_rules.specs.Sends.{PrioSend, after_take_prio, after_take_rel, prio_refusal, rel_refusal, weight_refusal}
-use Rattle.sp_rules.specs.Steps.{Datagram, Input, Poll, Publish, SendPrio, SendRel, SetWeight, TakePrio, TakeRel, Tick, NodeStep, Output}
+use Rattle.sp_rules.specs.Steps.{Datagram, Input, Poll, Publish, SendKrel, SendPrio, SendRel, SetWeight, TakeKrel, TakePrio, TakeRel, Tick, NodeStep, Output}
 use Rattle.sp_rules.specs.declared.node.NodeRefused.{NodeRefused}
 use Rattle.sp_rules.specs.declared.node.NodeRefused.TheVariants as calls
 use Rattle.sp_rules.specs.declared.node.Step.{Step}
@@ -39,7 +40,8 @@ step_life keys n input output new fits range is life =
     let same : new.fixed ≡ n.fixed = ap (λ (s : Shape). s.fixed) (shapes_stay (format_of n.fixed) n input output new is) in
     record {
       kept = subst (λ (f : Fixed). IsKept (format_of f) new) (sym same) (each_step_keeps (format_of n.fixed) n input output new fits range is life.kept);
-      obeys = step_obeys (format_of n.fixed) n input output new (record { weights = life.kept.live.count; me = life.kept.parts.rel.me }) is life.obeys;
+      obeys = step_obeys (format_of n.fixed) n input output new
+          (record { weights = life.kept.live.count; me = life.kept.parts.rel.me; on_paths = life.kept.parts.kflow.me }) is life.obeys;
       known = life.known ∙ ap (λ (f : Fixed). f.topology.nodes) (sym same);
     }
 
@@ -66,6 +68,7 @@ pub life_by_send : (keys : List NodeKey) (n new : NodeState) (input : Input) (re
 life_by_send keys n new input refusal (Ok step) range fits life is = step_life keys n input _ new fits range is life
 life_by_send keys n new input refusal (Err sends.BadEnd) range fits life is = step_life keys n input _ new fits range is life
 life_by_send keys n new input refusal (Err (sends.Full base have)) range fits life is = step_life keys n input _ new fits range is life
+life_by_send keys n new input refusal (Err (sends.Busy paths)) range fits life is = step_life keys n input _ new fits range is life
 life_by_send keys n new input refusal (Err (sends.Expired now)) range fits life is = step_life keys n input _ new fits range is life
 life_by_send keys n new input refusal (Err (sends.NoPaths found)) range fits life is = step_life keys n input _ new fits range is life
 life_by_send keys n new input refusal (Err (sends.Low min)) range fits life is = step_life keys n input _ new fits range is life
@@ -113,6 +116,14 @@ life_by_weight keys n new v weight r least most fits life is = life_by_send keys
 pub life_by_take_rel : (keys : List NodeKey) (n new : NodeState) (src : NodeId) → ArtsFit (format_of n.fixed) n.fixed n.signer → IsLife n keys
     → new ≡ after_take_rel n src → IsLife new keys
 life_by_take_rel keys n new src fits life is = step_life keys n (TakeRel src) _ new fits tt (refl, is) life
+
+pub life_by_take_krel : (keys : List NodeKey) (n new : NodeState) (src : NodeId) → ArtsFit (format_of n.fixed) n.fixed n.signer → IsLife n keys
+    → new ≡ after_take_krel n src → IsLife new keys
+life_by_take_krel keys n new src fits life is = step_life keys n (TakeKrel src) _ new fits tt (refl, is) life
+
+pub life_by_krel : (keys : List NodeKey) (n new : NodeState) (m : KSend) (r : Result (Step ℕ) SendRefused) → length m.payload ≤ MAX_PAYLOAD_BYTES
+    → ArtsFit (format_of n.fixed) n.fixed n.signer → IsLife n keys → Sends (SendKrel m) (krel_refusal n m) n r new → IsLife new keys
+life_by_krel keys n new m r short fits life is = life_by_send keys n new (SendKrel m) (krel_refusal n m) r short fits life is
 
 pub life_by_take_prio : (keys : List NodeKey) (n new : NodeState) → ArtsFit (format_of n.fixed) n.fixed n.signer → IsLife n keys
     → new ≡ after_take_prio n → IsLife new keys

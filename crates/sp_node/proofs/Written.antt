@@ -52,27 +52,37 @@ writable_all format rs ms len e all =
         (writable format kinds.Prio len r.1.now (All-head (IsNumbered format len) (r.0, r.1.now) rest all).object)
         (each rs (All-tail (IsNumbered format len) (r.0, r.1.now) rest all))
 
--- ---- a slot
+-- ---- a slot of one kind of flows
 
-writable_ack : (format : ℕ) (ack : Option (Bor Kept)) (len : ℕ) → IfSome (option_map (λ (o : Bor Kept). o.now) ack) (IsObject format kinds.Ack len)
+writable_ack : (format : ℕ) (kind : Kind) (ack : Option (Bor Kept)) (len : ℕ) → IfSome (option_map (λ (o : Bor Kept). o.now) ack) (IsObject format kind len)
     → IfSome ack (λ o. IsWritable format o.now)
-writable_ack format None len good = tt
-writable_ack format (Some o) len good = writable format kinds.Ack len o.now good
+writable_ack format kind None len good = tt
+writable_ack format kind (Some o) len good = writable format kind len o.now good
 
-writable_rels : (format : ℕ) (rels : List (Bor Kept)) (len : ℕ) → All (IsObject format kinds.Rel len) (map (λ (o : Bor Kept). o.now) rels)
+writable_rels : (format : ℕ) (kind : Kind) (rels : List (Bor Kept)) (len : ℕ) → All (IsObject format kind len) (map (λ (o : Bor Kept). o.now) rels)
     → All (λ o. IsWritable format o.now) rels
-writable_rels format [] len all = All-nil (λ o. IsWritable format o.now)
-writable_rels format (o ∷ rels) len all =
+writable_rels format kind [] len all = All-nil (λ o. IsWritable format o.now)
+writable_rels format kind (o ∷ rels) len all =
     let rest = map (λ (o : Bor Kept). o.now) rels in
-    All-cons (λ o. IsWritable format o.now) o rels (writable format kinds.Rel len o.now (All-head (IsObject format kinds.Rel len) o.now rest all))
-    (writable_rels format rels len (All-tail (IsObject format kinds.Rel len) o.now rest all))
+    All-cons (λ o. IsWritable format o.now) o rels (writable format kind len o.now (All-head (IsObject format kind len) o.now rest all))
+    (writable_rels format kind rels len (All-tail (IsObject format kind len) o.now rest all))
 
 -- its acknowledgement and its messages
-pub writable_slot : (format : ℕ) (slot : Option OutSlot) (report : Option Report) (len : ℕ) → option_map out_report slot ≡ report
-    → IfSome report (IsReport format kinds.Ack kinds.Rel len) → IfSome slot (IsWritableSlot format)
-writable_slot format None report len said good = tt
-writable_slot format (Some s) None len said good = absurd (cc)
-writable_slot format (Some s) (Some r) len said good =
+pub writable_slot : (format : ℕ) (ack_kind messages : Kind) (slot : Option OutSlot) (report : Option Report) (len : ℕ) → option_map out_report slot ≡ report
+    → IfSome report (IsReport format ack_kind messages len) → IfSome slot (IsWritableSlot format)
+writable_slot format ack_kind messages None report len said good = tt
+writable_slot format ack_kind messages (Some s) None len said good = absurd (cc)
+writable_slot format ack_kind messages (Some s) (Some r) len said good =
     let same : out_report s ≡ r = cc in
-    let whole : IsReport format kinds.Ack kinds.Rel len (out_report s) = subst (IsReport format kinds.Ack kinds.Rel len) (sym same) good in
-    record { ack = writable_ack format s.ack len whole.ack; rels = writable_rels format s.rels len whole.rels }
+    let whole : IsReport format ack_kind messages len (out_report s) = subst (IsReport format ack_kind messages len) (sym same) good in
+    record { ack = writable_ack format ack_kind s.ack len whole.ack; rels = writable_rels format messages s.rels len whole.rels }
+
+-- one that format 1 lacks
+pub writable_paths : (format : ℕ) (slot : Option OutSlot) (report : Option Report) (len : ℕ) → option_map out_report slot ≡ report
+    → IfSome report (Later format (IsReport format kinds.Kack kinds.Krel len)) → IfSome slot (IsWritableSlot format)
+writable_paths format slot report len said good = writable_slot format kinds.Kack kinds.Krel slot report len said (with_boots report good)
+  where
+    with_boots : (report : Option Report) → IfSome report (Later format (IsReport format kinds.Kack kinds.Krel len))
+        → IfSome report (IsReport format kinds.Kack kinds.Krel len)
+    with_boots None good = tt
+    with_boots (Some r) good = good.1

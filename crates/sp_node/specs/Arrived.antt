@@ -11,8 +11,8 @@ use Rattle.sp_rules.specs.Node.{NodeState, called, is_shut_to, with_link}
 use Rattle.sp_rules.specs.Pieces.{Piece, pieces_of}
 use Rattle.sp_rules.specs.Versions.{Heard, with_version}
 use Rattle.sp_rules.specs.declared.node.LinkReply.{LinkReply}
-use Rattle.sp_node.specs.declared.datagram.Met.{Met}
 use Rattle.sp_node.specs.declared.datagram.Passage.{Passage}
+use Rattle.sp_node.specs.declared.met.Met.{Met}
 
 -- the pieces of sections that are to be handled
 abbrev pub pieces_with : Option Sections → List Piece

@@ -7,7 +7,8 @@ use Rattle.sp_msg.specs.declared.effect.Why.TheVariants.{Taken as TakenAway}
 use Rattle.sp_rules.specs.Arrivals.{before_document, document_at, handled}
 use Rattle.sp_rules.specs.Node.{NodeState, call_refusal}
 use Rattle.sp_rules.specs.PrioPeer.{gone}
-use Rattle.sp_rules.specs.Steps.{NodeStep, Poll, Datagram, Publish, Tick, TakePrio, TakeRel, Frame, Arrived, Message, NotCalled, Output, Payload, Replaced}
+use Rattle.sp_rules.specs.Steps.{NodeStep, Poll, Datagram, Publish, Tick, TakeKrel, TakePrio, TakeRel, Frame, Arrived, Message, NotCalled, Output, Payload}
+use Rattle.sp_rules.specs.Steps.{Replaced}
 use Rattle.sp_rules.specs.Steps.{Ticked, document_adopted, replied}
 use Rattle.sp_rules.specs.declared.answers.DocumentAnswer.{DocumentAnswer}
 use Rattle.sp_rules.specs.declared.node.NodeRefused.{NodeRefused}
@@ -56,6 +57,10 @@ Datagrams old from bytes (Err calls.Memory) new = (call_refusal old from ≡ Non
 -- a client takes the oldest message of the flow from a node
 abbrev pub TakesRel : NodeState → NodeId → Option (List ℕ) → NodeState → Type 0
 TakesRel old src payload new = NodeStep (format_of old.fixed) old (TakeRel src) (replied (Payload payload)) new
+
+-- a client takes the oldest message on paths from a node
+abbrev pub TakesKrel : NodeState → NodeId → Option (List ℕ) → NodeState → Type 0
+TakesKrel old src payload new = NodeStep (format_of old.fixed) old (TakeKrel src) (replied (Payload payload)) new
 
 -- a client takes the oldest priority message, which leaves the inbox, place 0
 abbrev pub TakesPrio : NodeState → Option Entry → NodeState → Type 0

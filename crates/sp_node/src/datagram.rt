@@ -2,35 +2,33 @@
 ghost use Rattle.std.specs.Prelude.{◌≡◌, ◌≤◌, ◌<◌, ◌+◌, ◌==◌, ◌&&◌, [], ◌∷◌, IfErr, IfOk, IfSome, OnErr, Ok, None as Nothing, Some as There, length};
 ghost use Rattle.std.specs.Prelude.{option_map};
 ghost use Rattle.std.specs.Prelude.{position, slice_index, if◌then◌else◌};
-ghost use Rattle.sp_base.specs.Cursor.{or_else};
 ghost use Rattle.sp_base.specs.Refusals.{Gives};
 ghost use Rattle.sp_base.specs.Rows.{replace_where};
 ghost use Rattle.sp_node_state.specs.Publications.{document_checks};
-ghost use Rattle.sp_rules.specs.Node.{called, is_link, is_shut_to, link_in, version_of, with_link};
+ghost use Rattle.sp_rules.specs.Node.{called, is_link, link_in, version_of, with_link};
 ghost use Rattle.sp_rules.specs.Parts.{changes};
 ghost use Rattle.sp_rules.specs.Versions.{kept_version};
 ghost use Rattle.sp_rules.specs.declared.node.TheConstants.{MAX_CALLS};
 ghost use Rattle.laws_node.specs.Nodes.{IsKept};
 ghost use Rattle.sp_node_arrivals.specs.Admitted.{IsAdmitted};
 ghost use Rattle.sp_node_format.specs.Format.{format_of};
-ghost use Rattle.sp_frame.specs.Frames.{opened_in, sections_part};
+ghost use Rattle.sp_frame.specs.Frames.{opened_in};
 ghost use Rattle.sp_frame.specs.OfFormat.{AreOf};
-ghost use Rattle.sp_frame.specs.Sections.{has_document};
-ghost use Rattle.sp_node.specs.Arrived.{IsMet, heard_with, met_by, pieces_with, tests_after};
+ghost use Rattle.sp_node.specs.Arrived.{heard_with, met_by, pieces_with};
 ghost use Rattle.sp_node.specs.Calls.{Datagrams};
 ghost use Rattle.sp_node.specs.Life.{datagram_checks, datagram_tags};
 ghost use Rattle.sp_node_arrivals.specs.Work.{frame_checks};
 ghost use Rattle.sp_frame.specs.declared.sections.TheConstants.{MOST_OBJECTS};
 ghost use Rattle.sp_node_state.specs.ReadyStates.{IsAnswered};
-ghost use Rattle.sp_frame.specs.Views.{as_contents};
-ghost use Rattle.sp_rules.specs.Arrivals.{greeted, has_risen, heeded};
-ghost use Rattle.sp_rules.specs.Arrivals.{arrival_at, document_at, document_where, heard_after, is_tagged, link_after, no_frame, not_fresh, not_open};
-ghost use Rattle.sp_rules.specs.Arrivals.{or_fresh, pieces_in, pieces_where, reply_at, sections_in};
+ghost use Rattle.sp_rules.specs.Arrivals.{greeted, has_risen};
+ghost use Rattle.sp_rules.specs.Arrivals.{arrival_at, document_at, heard_after, is_tagged, link_after, no_frame};
+ghost use Rattle.sp_rules.specs.Arrivals.{pieces_in, pieces_where, reply_at, sections_in};
 ghost use Rattle.sp_rules.specs.Documents.{after_publish, document_answer, publish_effects};
 ghost use Rattle.sp_rules.specs.Handle.{handle_all};
 
-use sp_base::{FORMAT_1, Listed, Memory, NodeId};
-use sp_frame::{Frame, FrameRefused, HEAD_BYTES, Head, Sections};
+use crate::met::after_link;
+use sp_base::{Listed, Memory, NodeId};
+use sp_frame::{Frame, FrameRefused, Head, Sections};
 use sp_link::Link;
 use sp_msg::Effects;
 use sp_node_arrivals::{Arrival, Arrived, arrive, greet};
@@ -40,9 +38,6 @@ use sp_rules::{Item, LinkAnswer, LinkReply, NodeRefused, Step, Taken};
 use sp_sign::Checker;
 use std::alloc::Global;
 
-/// The first byte of the control part of a frame with a document.
-const DOCUMENT: u8 = 128;
-
 /// What became of a datagram at its link: the reply, the link after it, whether another life of the neighbour began, the version that is kept of it then,
 /// where it told one, and the sections that are to be handled, or the document, if any.
 #[derive(Debug, Drop)]
@@ -51,14 +46,6 @@ struct Passage<'a> {
     link: Link,
     risen: bool,
     heard: Option<u32>,
-    sections: Option<Sections<'a>>,
-    document: Option<&'a [u8]>,
-}
-
-/// What became of a frame after its link's answer, with its sections or its document where they are to be handled.
-#[derive(Debug, Drop)]
-struct Met<'a> {
-    reply: LinkReply,
     sections: Option<Sections<'a>>,
     document: Option<&'a [u8]>,
 }
@@ -392,105 +379,9 @@ fn no_frame(refused: FrameRefused) -> LinkReply
     }
 }
 
-/// What becomes of a frame after its link's answer.
-fn after_link<'a>(state: &State, from: NodeId, answer: LinkAnswer, frame: &Frame<'a>) -> Met<'a>
-    requires kept { IsKept (format_of state.now.fixed) state.now }
-    requires format { slice_index frame.now 2 ≡ state.now.fixed.topology.format }
-    ensures { IsMet state.entry.now from frame.now (or_else (not_fresh answer) (tests_after state.entry.now from frame.now)) result }
-{
-    match answer {
-        LinkAnswer::NotForMe => told(LinkReply::NotForMe),
-        LinkAnswer::BadTag => told(LinkReply::BadTag),
-        LinkAnswer::Learned { boot } => told(LinkReply::Learned { boot }),
-        LinkAnswer::Stale { boot, counter } => told(LinkReply::Stale { boot, counter }),
-        LinkAnswer::Fresh => of_fresh(state, from, frame),
-    }
-}
-
-/// Nothing is handled.
-fn told<'a>(reply: LinkReply) -> Met<'a>
-    ensures reply { result.reply ≡ reply }
-    ensures sections { result.sections ≡ Nothing }
-    ensures document { result.document ≡ Nothing }
-{
-    Met {
-        reply,
-        sections: None,
-        document: None,
-    }
-}
-
-/// What becomes of a fresh frame.
-fn of_fresh<'a>(state: &State, from: NodeId, frame: &Frame<'a>) -> Met<'a>
-    requires kept { IsKept (format_of state.now.fixed) state.now }
-    requires format { slice_index frame.now 2 ≡ state.now.fixed.topology.format }
-    ensures { IsMet state.entry.now from frame.now (tests_after state.entry.now from frame.now) result }
-{
-    let theirs = frame.head().topology;
-    if theirs != state.live.version && !has_document(&state.fixed, frame) {
-        return told(LinkReply::OtherTopology { theirs });
-    }
-    match frame.sections(state.fixed.signature_len) {
-        Ok(sections) => of_sections(state, from, sections),
-        Err(refused) => told(LinkReply::Section(refused)),
-    }
-}
-
-/// Whether the control part of a frame begins as that of a document does.
-fn has_document(fixed: &Fixed, frame: &Frame<'_>) -> bool
-    ensures { result ≡ has_document fixed.now.topology.format (sections_part frame.now) }
-{
-    if fixed.topology.format == FORMAT_1 {
-        return false;
-    }
-    match frame.tagged_part().get(HEAD_BYTES) {
-        Some(first) => *first == DOCUMENT,
-        None => false,
-    }
-}
-
-/// What becomes of sections that were read: over an edge that is withdrawn only a document is handled.
-fn of_sections<'a>(state: &State, from: NodeId, sections: Sections<'a>) -> Met<'a>
-    requires kept { IsKept (format_of state.now.fixed) state.now }
-    requires formats { AreOf state.now.fixed.topology.format sections }
-    ensures reply { result.reply ≡ or_fresh (not_open (as_contents sections.entry).document (is_shut_to state.entry.now from)) }
-    ensures pieces { pieces_with result.sections ≡ pieces_where result.reply (pieces_in state.entry.now.fixed (Ok (as_contents sections.entry))) }
-    ensures document { option_map (λ d. d.now) result.document ≡ document_where result.reply (as_contents sections.entry).document }
-    ensures formats { IfSome result.sections (AreOf state.entry.now.fixed.topology.format) }
-{
-    if let Some(document) = sections.document {
-        return Met {
-            reply: LinkReply::Fresh,
-            sections: None,
-            document: Some(document),
-        };
-    }
-    if state.is_shut_to(from) {
-        return told(LinkReply::Withdrawn);
-    }
-    Met {
-        reply: LinkReply::Fresh,
-        sections: Some(heeded(&state.fixed, sections)),
-        document: None,
-    }
-}
-
 /// Whether the boot of the neighbour, as it is known, rose.
 fn has_risen(old: &Link, new: &Link) -> bool
     ensures { result ≡ has_risen old.now new.now }
 {
     old.peer_boot < new.peer_boot
-}
-
-/// These sections without their Epoch object where nodes run without epochs.
-fn heeded<'a>(fixed: &Fixed, sections: Sections<'a>) -> Sections<'a>
-    requires { AreOf fixed.now.topology.format sections }
-    ensures contents { as_contents result ≡ heeded fixed.now (as_contents sections.entry) }
-    ensures formats { AreOf fixed.now.topology.format result }
-{
-    let mut sections = sections;
-    if !fixed.epochs {
-        sections.epoch = None;
-    }
-    sections
 }

@@ -5,16 +5,17 @@
 //! 1. `Node::boot`, with a boot number above that of every life before. The signer has its indexes reserved up to a bound. With epochs the start signs the
 //!    boot with the first of them, and its effects tell so.
 //! 2. Then, in any order and as often as the caller likes: `tick` with the time, `datagram` with what came from a neighbour's address, `poll` of a
-//!    neighbour and then the frame out to it, what clients ask: `send_rel`, `send_prio`, `set_weight`, `take_rel`, `take_prio`, and `replace` with what the
-//!    administrator publishes: a later version of the topology, which then goes from node to node by itself.
+//!    neighbour and then the frame out to it, what clients ask: `send_rel`, `send_prio`, `send_krel`, `set_weight`, `take_rel`, `take_prio`, `take_krel`, and
+//!    `replace` with what the administrator publishes: a later version of the topology, which then goes from node to node by itself.
 //!
 //! # When to call
 //! - `poll` a neighbour whenever a frame may go to it, also over an edge that is withdrawn, since documents go there too. A frame is made at each poll, also
 //!   where nothing waits: it carries the acknowledged link number, a report, and the boot that the neighbour must echo. So a neighbour that isn't polled hears
 //!   nothing, and sends on what it has sent. A poll too many costs a frame and a tag. A frame that is lost is no harm: what it carried goes again until the
 //!   neighbour reports it.
-//! - `tick` as time goes on. A tick with an earlier time leaves the clock as it is. One tick signs at most one acknowledgement, so a destination of many
-//!   flows ticks as often as messages come to it. Without ticks nothing expires and nothing is acknowledged.
+//! - `tick` as time goes on. A tick with an earlier time leaves the clock as it is. One tick signs at most one acknowledgement of each kind of flows, plain
+//!   ones and those on paths, so a destination of many flows ticks as often as messages come to it. Without ticks nothing expires and nothing is
+//!   acknowledged.
 //! - `datagram` at once, in the order of arrival. A datagram that comes twice is `Stale` the second time, and changes nothing.
 //!
 //! # What a caller owes
@@ -34,7 +35,9 @@
 //! does the first after a weight in effect changed; the node keeps what it finds until then.
 #![tactic(auto)]
 
+mod checker;
 mod datagram;
+mod met;
 mod node;
 mod poll;
 mod take;

@@ -9,27 +9,30 @@ ghost use Rattle.sp_rules.specs.Parts.{changes};
 ghost use Rattle.sp_rules.specs.Prio.{expiring};
 ghost use Rattle.sp_rules.specs.Rel.{position_in};
 ghost use Rattle.sp_rules.specs.Lives.{held_boot};
-ghost use Rattle.sp_rules.specs.Messages.{as_send};
+ghost use Rattle.sp_rules.specs.Messages.{as_ksend, as_send};
 ghost use Rattle.sp_rules.specs.Sends.{prio_refusal, rel_refusal, weight_refusal};
-ghost use Rattle.sp_rules.specs.Steps.{SendPrio, SendRel, SetWeight};
+ghost use Rattle.sp_rules.specs.Steps.{SendKrel, SendPrio, SendRel, SetWeight};
+ghost use Rattle.sp_rules.specs.KflowSends.{krel_refusal};
+ghost use Rattle.sp_rules.specs.declared.kflow.FlowKind.{FlowKind};
 ghost use Rattle.sp_rules.specs.Ticks.{due_now, time_after};
 ghost use Rattle.sp_node_state.specs.Boots.{IsBootable, started_of, told_at_start};
 ghost use Rattle.sp_frame.specs.declared.sections.TheConstants.{MOST_OBJECTS};
-ghost use Rattle.sp_node.specs.Calls.{Datagrams, Polls, Publishes, TakesPrio, TakesRel, Ticks};
+ghost use Rattle.sp_node.specs.Calls.{Datagrams, Polls, Publishes, TakesKrel, TakesPrio, TakesRel, Ticks};
 ghost use Rattle.sp_node.specs.Life.{IsIdle, datagram_checks, datagram_tags};
 ghost use Rattle.sp_node_state.specs.Publications.{document_checks};
 ghost use Rattle.sp_node_state.specs.Sends.{Sends};
 ghost use Rattle.sp_node_state.specs.States.{is_other};
 
+use crate::checker::checker_for;
 use crate::datagram::datagram;
 use crate::poll::poll;
-use crate::take::{take_prio, take_rel};
+use crate::take::{take_krel, take_prio, take_rel};
 use crate::tick::tick;
-use sp_base::{Bytes, Flow, Memory, NodeId};
+use sp_base::{Bytes, Flow, NodeId};
 use sp_msg::SendRefused;
-use sp_node_state::{NodeConfig, State, send_prio, send_rel, set_weight};
+use sp_node_state::{NodeConfig, State, send_krel, send_prio, send_rel, set_weight};
 use sp_routes::PathBook;
-use sp_rules::{DocumentAnswer, Entry, NodeRefused, PrioSend, Step, Taken, TickReply};
+use sp_rules::{DocumentAnswer, Entry, KSend, NodeRefused, PrioSend, Step, Taken, TickReply};
 use sp_sign::{Checker, NodeSigner};
 use std::alloc::Global;
 use std::marker::Model;
@@ -118,7 +121,7 @@ impl Node {
     /// datagrams. All memory is taken before anything changes.
     ///
     /// Its signatures are checked once for each object that may be new when its turn comes, and for no other: so none of a datagram that isn't
-    /// fresh, nor of an object that is old, seen, expired, of a bad end or of another boot than the one that is held, and eleven at most. That of a document
+    /// fresh, nor of an object that is old, seen, expired, of a bad end or of another boot than the one that is held, and thirteen at most. That of a document
     /// is checked only where its version is above the own one. One tag is checked where the datagram is a frame that names the ends of its link, and none
     /// else.
     #[tactic(auto, using(crate::proofs::Steps::life_by_datagram))]
@@ -144,13 +147,15 @@ impl Node {
         )
     }
 
-    /// The time goes on to the greater of the one held and this one, what expired before it leaves, and at most one acknowledgement is signed.
+    /// The time goes on to the greater of the one held and this one, what expired before it leaves, and at most two acknowledgements are signed: one of a plain
+    /// flow, and then one of a flow on paths. The first that the signer refuses gives the reply.
     ///
     /// Only want of memory refuses. None is taken where nothing expires and no acknowledgement is due.
     #[tactic(auto, using(crate::proofs::Steps::life_by_tick))]
     pub fn tick(&mut self, alloc: Global, now: u64) -> Result<Step<TickReply>, NodeRefused>
         ensures step { Ticks self.old.state now result self.new.state }
-        ensures quiet { due_now self.old.state ≡ Nothing → expiring self.old.state.parts.prio (time_after self.old.state now) ≡ 0 → IsOk result }
+        ensures quiet { ((kind : FlowKind) → due_now kind self.old.state ≡ Nothing)
+            → expiring self.old.state.parts.prio (time_after self.old.state now) ≡ 0 → IsOk result }
         ensures work { IsIdle self.old self.new }
     {
         self.state.recall();
@@ -198,6 +203,27 @@ impl Node {
         self.state.recall();
         recall_expiry(message);
         send_prio(&mut self.state, &mut self.book, alloc, message)
+    }
+
+    /// Signs a client's reliable message on so many paths that share no node, 1 to 8, and keeps it until its destination acknowledges it. Gives its number,
+    /// counted from 1 in each flow. It goes only over the edges of its paths: those of the messages of its flow that wait, or where none waits the cheapest.
+    ///
+    /// The first of these that applies: `BadEnd` under format 1, and where `send_rel` says so, `Full`, `Busy` where messages wait that went on another number
+    /// of paths, `Spent`, `NotReserved`, and `NoPaths` where none waits and there are fewer paths. `Memory` may come in place of the last.
+    #[tactic(auto, using(crate::proofs::Steps::life_by_krel))]
+    pub fn send_krel(
+        &mut self,
+        alloc: Global,
+        message: &KSend<'_>,
+    ) -> Result<Step<u64>, SendRefused>
+        requires some { 1 ≤ message.now.paths }
+        requires few { message.now.paths ≤ MAX_PATHS }
+        requires short { length message.now.payload.now ≤ MAX_PAYLOAD_BYTES }
+        ensures step { Sends (SendKrel (as_ksend message.now)) (krel_refusal self.old.state (as_ksend message.now)) self.old.state result self.new.state }
+        ensures work { IsIdle self.old self.new }
+    {
+        self.state.recall();
+        send_krel(&mut self.state, &mut self.book, alloc, message)
     }
 
     /// Signs what this node says of the weight of its link to a neighbour. Gives the number of the update.
@@ -251,6 +277,16 @@ impl Node {
         take_rel(&mut self.state, src)
     }
 
+    /// Takes the payload of the oldest message on paths that waits here from a node. None exactly where none waits.
+    #[tactic(auto, using(crate::proofs::Steps::life_by_take_krel))]
+    pub fn take_krel(&mut self, src: NodeId) -> Option<Bytes>
+        ensures step { TakesKrel self.old.state src result self.new.state }
+        ensures work { IsIdle self.old self.new }
+    {
+        self.state.recall();
+        take_krel(&mut self.state, src)
+    }
+
     /// Takes the oldest priority message that waits here. None exactly where none waits. That its entry leaves place 0 is told by the entry.
     #[tactic(auto, using(crate::proofs::Steps::life_by_take_prio))]
     pub fn take_prio(&mut self) -> Option<Entry>
@@ -273,6 +309,13 @@ impl Node {
         ensures { IsKept (format_of self.entry.now.state.fixed) self.entry.now.state }
     {
         let _state = &self.state;
+    }
+
+    /// Whether reliable messages may go on paths here. Under format 1 none does.
+    pub fn has_paths(&self) -> bool
+        ensures { result ≡ changes self.entry.now.state.fixed }
+    {
+        self.state.changes()
     }
 
     /// Reserves the indexes of the signer up to, and not with, `upto`.
@@ -341,17 +384,6 @@ impl Node {
         ensures { result ≡ position_in self.entry.now.state.parts.rel.flows flow }
     {
         self.state.core.rel.position(flow)
-    }
-}
-
-/// A checker for the nodes of this node's topology. It is refused for want of memory alone.
-fn checker_for(alloc: Global, state: &State) -> Result<Checker, NodeRefused>
-    ensures checker { IfOk result (λ checker. checker ≡ record { nodes = state.entry.now.fixed.topology.nodes; checks = 0 }) }
-    ensures memory { IfErr result (λ refused. refused ≡ NodeRefused.Memory) }
-{
-    match Checker::make(alloc, &state.fixed.topology) {
-        Ok(checker) => Ok(checker),
-        Err(Memory) => Err(NodeRefused::Memory),
     }
 }
 

@@ -17,7 +17,8 @@ ghost use Rattle.sp_rules.specs.Link.{advanced, next_head};
 ghost use Rattle.sp_rules.specs.Lives.{moved as gone_on};
 ghost use Rattle.sp_rules.specs.Node.{is_link};
 ghost use Rattle.sp_rules.specs.Parts.{place_in, place_of};
-ghost use Rattle.sp_rules.specs.Polls.{after_poll, contents_at, contents_to, dated, frame_to, no_contents, parts_after};
+ghost use Rattle.sp_rules.specs.Polls.{after_poll, contents_at, contents_to, dated, frame_to, no_contents, parts_after, paths_to};
+ghost use Rattle.sp_rules.specs.Kflow as kflow;
 ghost use Rattle.sp_rules.specs.Prio.{carried, peer_in};
 ghost use Rattle.sp_rules.specs.Rel.{served, slot_for};
 ghost use Rattle.sp_rules.specs.Weights.{moved};
@@ -154,7 +155,7 @@ fn in_turn(
         prio_ack: core.prio.heard_of(v),
         prios: core.prio.messages_for(v),
         slot: slot_for(fixed, core, v),
-        paths: None,
+        paths: paths_for(fixed, core, v),
         probe: None,
         epoch,
     };
@@ -169,6 +170,19 @@ fn slot_for<'a>(fixed: &Fixed, core: &'a Parts, v: NodeId) -> Option<OutSlot<'a>
     ensures { option_map out_report result ≡ option_map (dated fixed.now.topology.format core.now.lives) (slot_for core.now.rel v) }
 {
     match core.rel.slot_for(v) {
+        Some(slot) => Some(dated(slot, fixed.topology.format, &core.lives)),
+        None => None,
+    }
+}
+
+/// The slot of flows on paths of the next frame to a neighbour. Format 1 has none.
+fn paths_for<'a>(fixed: &Fixed, core: &'a Parts, v: NodeId) -> Option<OutSlot<'a>>
+    ensures { option_map out_report result ≡ paths_to fixed.now core.now v }
+{
+    if fixed.topology.format == FORMAT_1 {
+        return None;
+    }
+    match core.kflow.slot_for(v) {
         Some(slot) => Some(dated(slot, fixed.topology.format, &core.lives)),
         None => None,
     }
@@ -220,13 +234,14 @@ fn moved(core: &mut Parts, at: usize, v: NodeId)
       weights = moved core.old.weights at;
       prio = carried core.old.prio v.0;
       rel = served core.old.rel v;
+      kflow = kflow.with_flows core.old.kflow (served core.old.kflow.flows v);
       lives = core.old.lives;
       origins = gone_on core.old.lives core.old.origins at;
     } }
 {
     core.weights.moved(at);
     core.prio.carry(v);
-    core.rel.served(v);
+    core.served(v);
     core.origins.moved(&core.lives, at);
 }
 

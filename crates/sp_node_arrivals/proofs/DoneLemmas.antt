@@ -1,18 +1,19 @@
 -- What is done of pieces, and then of others, is done of all of them.
-use Rattle.std.proofs.Common.{◌≡◌, ℕ, List, [], ◌∷◌, ◌++◌, map, refl, sym, ap, ◌∙◌, subst, append-nil, append_assoc}
+use Rattle.std.proofs.Common.{◌≡◌, ℕ, Bool, true, false, List, [], ◌∷◌, ◌++◌, map, refl, sym, ap, ◌∙◌, subst, append-nil, append_assoc, cond}
 use Rattle.std.proofs.lemmas.List.{map-append}
 use Rattle.sp_msg.specs.Caused.{Caused}
 use Rattle.sp_msg.specs.declared.effect.Effect.{Effect}
 use Rattle.sp_msg.specs.declared.kept.Kept.{Kept}
 use Rattle.sp_rules.proofs.ToldLemmas.{told_both, told_none}
 use Rattle.sp_rules.specs.Arts.{Arts}
-use Rattle.sp_rules.specs.Handle.{Arrival, Handled, ack_handled, handle, handle_all, quietly}
+use Rattle.sp_rules.specs.Answers.{is_new}
+use Rattle.sp_rules.specs.Handle.{Arrival, Handled, ack_handled, ack_item, handle, handle_all, quietly}
 use Rattle.sp_rules.specs.Parts.{Parts}
 use Rattle.sp_rules.specs.Pieces.{Piece}
 use Rattle.sp_rules.specs.Told.{told}
 use Rattle.sp_rules.specs.declared.answers.AckAnswer.{AckAnswer}
-use Rattle.sp_rules.specs.declared.answers.AckAnswer.TheVariants as answers
 use Rattle.sp_rules.specs.declared.answers.Item.{Item}
+use Rattle.sp_rules.specs.declared.kflow.FlowKind.{FlowKind}
 use Rattle.sp_node_arrivals.specs.Done.{IsDone}
 use Rattle.sp_node_arrivals.specs.Admitted.{IsAdmitted}
 
@@ -94,10 +95,9 @@ all_taken done left answers before now room all none = record {
 }
 
 -- an acknowledgement tells nothing
-pub ack_tells_nothing : (answer : AckAnswer) (o : Kept) (p : Parts) (c : Caused) → c ≡ told c (ack_handled answer o p).effects
-ack_tells_nothing answers.New o p c = sym (told_none c)
-ack_tells_nothing answers.BadEnd o p c = sym (told_none c)
-ack_tells_nothing answers.Epoch o p c = sym (told_none c)
-ack_tells_nothing answers.Old o p c = sym (told_none c)
-ack_tells_nothing answers.Ahead o p c = sym (told_none c)
-ack_tells_nothing answers.BadSig o p c = sym (told_none c)
+pub ack_tells_nothing : (kind : FlowKind) (answer : AckAnswer) (o : Kept) (p : Parts) (c : Caused) → c ≡ told c (ack_handled kind answer o p).effects
+ack_tells_nothing kind answer o p c = go (is_new (ack_item kind answer))
+  where
+    go : (t : Bool) → c ≡ told c (cond t [] [])
+    go true = sym (told_none c)
+    go false = sym (told_none c)

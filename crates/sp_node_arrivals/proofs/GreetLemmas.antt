@@ -1,6 +1,6 @@
 -- What was made ready of a frame stays so where another life of the neighbour begins before it is taken: what that one reported and acknowledged decides
 -- no answer.
-use Rattle.std.proofs.Common.{◌≡◌, ◌∙◌, ℕ, ◌+◌, ◌*◌, Bool, true, false, List, [], ◌∷◌, length, map, Option, None, Some, refl, sym, ap, arith, cond}
+use Rattle.std.proofs.Common.{◌≡◌, ◌∙◌, ℕ, ◌+◌, ◌*◌, Bool, true, false, List, [], ◌∷◌, map, Option, None, Some, refl, sym, ap, cond}
 use Rattle.std.specs.Prelude.{IfSome, ◌&&◌, ◌||◌, is_some, option_map}
 use Rattle.sp_base.specs.declared.id.Flow.{Flow}
 use Rattle.sp_base.specs.declared.id.NodeId.{NodeId}
@@ -13,6 +13,7 @@ use Rattle.sp_msg.specs.declared.body.Body.TheVariants as bodies
 use Rattle.sp_msg.specs.declared.kept.Kept.{Kept}
 use Rattle.sp_rel.specs.Seats.{SeatState}
 use Rattle.sp_rules.specs.Arrivals.{greeted}
+use Rattle.sp_rules.specs.Arrivals as arrivals
 use Rattle.sp_rules.specs.Handle as rules
 use Rattle.sp_rules.specs.Parts.{Fixed, Parts}
 use Rattle.sp_rules.specs.Prio as prio
@@ -23,26 +24,26 @@ use Rattle.sp_node_arrivals.specs.Ack.{IsAckReady}
 use Rattle.sp_node_arrivals.specs.Epoch.{ends_room}
 use Rattle.sp_node_arrivals.specs.Prio.{HasIds}
 use Rattle.sp_node_arrivals.specs.Ready.{IsReady}
-use Rattle.sp_node_arrivals.specs.Rel.{AreRelsReady, IsRelReady}
+use Rattle.sp_node_arrivals.specs.Rel.{AreRelsReady, Ground, ground_of}
 use Rattle.sp_node_arrivals.specs.Rooms.{frame_room}
 use Rattle.sp_node_arrivals.specs.Signed.{of_some}
 use Rattle.sp_node_arrivals.specs.Slot.{IsSlotReady}
 use Rattle.sp_node_arrivals.specs.declared.arriving.Ready.{Ready}
 use Rattle.sp_node_arrivals.specs.declared.slot.SlotReady.{SlotReady}
 
--- ---- the slot, whatever the neighbours reported
+-- ---- the slots, whatever the neighbours reported
 
 abbrev with_peers : RelState → List RelPeer → RelState
 with_peers r peers = record r { peers = peers }
 
-rels_ready : (moved : Bool) (fixed : Fixed) (lives : List Life) (r : RelState) (peers : List RelPeer) (flow : Flow) (os : List Kept)
-    (readies : List (Option (Kept × List ℕ × SeatState))) → AreRelsReady moved fixed lives r flow os readies
-    → AreRelsReady moved fixed lives (with_peers r peers) flow os readies
-rels_ready moved fixed lives r peers flow [] readies are = are
-rels_ready moved fixed lives r peers flow (o ∷ os) [] are = are
-rels_ready moved fixed lives r peers flow (o ∷ os) (ready ∷ readies) are = (
+rels_ready : (moved : Bool) (g : Ground) (r : RelState) (peers : List RelPeer) (flow : Flow) (os : List Kept)
+    (readies : List (Option (Kept × List ℕ × SeatState))) → AreRelsReady moved g r flow os readies
+    → AreRelsReady moved g (with_peers r peers) flow os readies
+rels_ready moved g r peers flow [] readies are = are
+rels_ready moved g r peers flow (o ∷ os) [] are = are
+rels_ready moved g r peers flow (o ∷ os) (ready ∷ readies) are = (
   record { copy = are.0.copy; payload = are.0.payload; seat = are.0.seat; right = are.0.right },
-  rels_ready (moved || is_some ready) fixed lives r peers flow os readies are.1,
+  rels_ready (moved || is_some ready) g r peers flow os readies are.1,
 )
 
 ack_judged : (r : RelState) (peers : List RelPeer) (flow : Flow) (body : Body) → judge_ack_of (with_peers r peers) flow body ≡ judge_ack_of r flow body
@@ -63,23 +64,20 @@ ack_ready fixed lives r peers flow (Some o) ready is = record {
   right = λ dated new. is.right dated (sym (ack_judged r peers flow o.body) ∙ new);
 }
 
-slot_ready : (fixed : Fixed) (lives : List Life) (r : RelState) (peers : List RelPeer) (slot : Option Slot) (ready : SlotReady)
-    → IfSome slot (λ s. IsSlotReady fixed lives r s ready) → IfSome slot (λ s. IsSlotReady fixed lives (with_peers r peers) s ready)
-slot_ready fixed lives r peers None ready is = tt
-slot_ready fixed lives r peers (Some s) ready is = record {
-  acknowledgement = ack_ready fixed lives r peers s.flow (option_map as_object s.ack) ready.ack is.acknowledgement;
-  messages = rels_ready (is_some ready.ack) fixed lives r peers s.flow (map as_object s.rels) ready.rels is.messages;
+slot_ready : (g : Ground) (r : RelState) (peers : List RelPeer) (slot : Option Slot) (ready : SlotReady)
+    → IfSome slot (λ s. IsSlotReady g r s ready) → IfSome slot (λ s. IsSlotReady g (with_peers r peers) s ready)
+slot_ready g r peers None ready is = tt
+slot_ready g r peers (Some s) ready is = record {
+  acknowledgement = ack_ready g.fixed g.lives r peers s.flow (option_map as_object s.ack) ready.ack is.acknowledgement;
+  messages = rels_ready (is_some ready.ack) g r peers s.flow (map as_object s.rels) ready.rels is.messages;
 }
 
 -- ---- the whole frame
 
-abbrev forgotten : NodeId → Parts → Parts
-forgotten v p = record p { prio = prio.unheard p.prio v.0; rel = unheard p.rel v }
-
-either : (P : Parts → Type 0) (epochs risen : Bool) (v : NodeId) (p : Parts) → P (forgotten v p) → P p → P (greeted epochs risen v p)
+either : (P : Parts → Type 0) (epochs risen : Bool) (v : NodeId) (p : Parts) → P (arrivals.unheard v p) → P p → P (greeted epochs risen v p)
 either P epochs risen v p new same = go (epochs && risen)
   where
-    go : (t : Bool) → P (cond t (forgotten v p) p)
+    go : (t : Bool) → P (cond t (arrivals.unheard v p) p)
     go true = new
     go false = same
 
@@ -90,7 +88,8 @@ greeted_ready epochs risen v at p sections ready is =
     (record {
       update = is.update;
       messages = prios_follow at p.lives p.prio (prio.unheard p.prio v.0) (map as_numbered sections.prios) ready.prios (unheard_follows p.prio v.0) is.messages;
-      slot = slot_ready at.fixed p.lives p.rel (unheard p.rel v).peers sections.slot ready.slot is.slot;
+      slot = slot_ready (ground_of at p) p.rel (unheard p.rel v).peers sections.slot ready.slot is.slot;
+      paths = slot_ready (ground_of at p) p.kflow.flows (unheard p.kflow.flows v).peers sections.paths ready.paths is.paths;
       epoch = is.epoch;
     }) is
 
@@ -101,6 +100,6 @@ pub greeted_room : (epochs risen : Bool) (v : NodeId) (at : rules.Arrival) (p : 
     → frame_room at (greeted epochs risen v p) sections ≡ frame_room at p sections
 greeted_room epochs risen v at p sections =
     either (λ q. frame_room at q sections ≡ frame_room at p sections) epochs risen v p
-    (ap (λ (n : ℕ). 1 + MAX_MESSAGES + MAX_MESSAGES * (2 * n + 3) + MAX_MESSAGES
-    + of_some (ends_room at.fixed.me p.lives p.rel) (option_map as_object sections.epoch))
+    (ap (λ (n : ℕ). 1 + MAX_MESSAGES + MAX_MESSAGES * (2 * n + 3) + 2 * MAX_MESSAGES
+    + of_some (ends_room at.fixed.me p) (option_map as_object sections.epoch))
     (unheard_follows p.prio v.0).peers) refl

@@ -1,6 +1,7 @@
 pub mod SignedLemmas
 pub mod DoneLemmas
 pub mod PrioLemmas
+pub mod KindLemmas
 pub mod RelLemmas
 pub mod RoomLemmas
 pub mod WorkLemmas

@@ -4,6 +4,7 @@ use Rattle.std.proofs.Common.{refl, sym, ap, ◌∙◌, subst, arith, cond}
 use Rattle.std.proofs.lemmas.Bool.Decides.{nat_tests}
 use Rattle.std.specs.Prelude.{IfSome, ◌||◌, drop, is_some, map}
 use Rattle.std.specs.List.{slice_get}
+use Rattle.laws_node.proofs.Handles.{new_ack, new_rel}
 use Rattle.sp_base.proofs.FewLemmas.{drop_first, drop_past, split_is}
 use Rattle.sp_base.specs.Few.{split_first}
 use Rattle.sp_base.specs.declared.id.Flow.{Flow}
@@ -20,20 +21,21 @@ use Rattle.sp_rel.specs.Seats.{SeatState}
 use Rattle.sp_rules.proofs.FlowJudged.{found_ends}
 use Rattle.sp_rules.specs.Answers.{ack_answer, is_new, rel_answer}
 use Rattle.sp_rules.specs.Flow.{FlowState, acknowledged_by, ends, flow_said, is_flow, is_full, pushed, received}
-use Rattle.sp_rules.specs.Handle.{ack_handled, rel_handled, reported_where}
-use Rattle.sp_rules.specs.Parts.{Fixed, Parts}
+use Rattle.sp_rules.specs.Handle.{ack_handled, ack_item, rel_handled, rel_item, reported_where}
+use Rattle.sp_rules.specs.Lives.{is_dated}
+use Rattle.sp_rules.specs.Parts.{Fixed, Parts, flows_of}
 use Rattle.sp_rules.specs.Rel.{RelState, admit_ack, admit_rel, are_ends, flow_in, is_from, is_to, judge_ack_of, judge_rel, judge_rel_of}
 use Rattle.sp_rules.specs.Rel.{peer_in, put_flow, reported, told, with_flow, with_peer}
-use Rattle.sp_rules.specs.declared.answers.AckAnswer.{AckAnswer}
-use Rattle.sp_rules.specs.declared.answers.Item.TheVariants as items
-use Rattle.sp_rules.specs.declared.answers.RelAnswer.{RelAnswer}
+use Rattle.sp_rules.specs.declared.kflow.FlowKind.{FlowKind}
+use Rattle.sp_rules.specs.declared.kflow.FlowKind.TheVariants.{Plain, Paths}
 use Rattle.sp_rules.specs.declared.lives.Life.{Life}
 use Rattle.sp_rules.specs.declared.rel.AckJudged.{AckJudged}
 use Rattle.sp_rules.specs.declared.rel.AckJudged.TheVariants as acks
 use Rattle.sp_rules.specs.declared.rel.RelJudged.{RelJudged}
 use Rattle.sp_rules.specs.declared.rel.RelJudged.TheVariants as rels
+use Rattle.sp_node_arrivals.proofs.KindLemmas.{flows_where}
 use Rattle.sp_node_arrivals.specs.Ack.{IsAckReady}
-use Rattle.sp_node_arrivals.specs.Rel.{AreRelsReady, IsRelReady, StaysReady, may_be_new}
+use Rattle.sp_node_arrivals.specs.Rel.{AreRelsReady, Ground, IsRelReady, StaysReady, may_be_new}
 
 -- ---- a report
 
@@ -45,21 +47,21 @@ reported_either P r v flow base have moved same = go (flow_in r.flows flow).acti
     go true = moved
     go false = same
 
-pub rel_reported : (acked : Bool) (fixed : Fixed) (lives : List Life) (r : RelState) (v : NodeId) (of : Flow) (base have : ℕ) (flow : Flow) (o : Kept)
-    (ready : Option (Kept × List ℕ × SeatState)) → IsRelReady acked fixed lives r flow o ready → IsRelReady acked fixed lives
+pub rel_reported : (acked : Bool) (g : Ground) (r : RelState) (v : NodeId) (of : Flow) (base have : ℕ) (flow : Flow) (o : Kept)
+    (ready : Option (Kept × List ℕ × SeatState)) → IsRelReady acked g r flow o ready → IsRelReady acked g
     (reported r v of base have) flow o ready
-rel_reported acked fixed lives r v of base have flow o ready is =
-    reported_either (λ s. IsRelReady acked fixed lives s flow o ready) r v of base have
+rel_reported acked g r v of base have flow o ready is =
+    reported_either (λ s. IsRelReady acked g s flow o ready) r v of base have
     (record { copy = is.copy; payload = is.payload; seat = is.seat; right = is.right }) is
 
-pub rels_reported : (moved : Bool) (fixed : Fixed) (lives : List Life) (r : RelState) (v : NodeId) (of : Flow) (base have : ℕ) (flow : Flow) (os : List Kept)
-    (readies : List (Option (Kept × List ℕ × SeatState))) → AreRelsReady moved fixed lives r flow os readies
-    → AreRelsReady moved fixed lives (reported r v of base have) flow os readies
-rels_reported moved fixed lives r v of base have flow [] readies are = are
-rels_reported moved fixed lives r v of base have flow (o ∷ os) [] are = are
-rels_reported moved fixed lives r v of base have flow (o ∷ os) (ready ∷ readies) are = (
-  rel_reported moved fixed lives r v of base have flow o ready are.0,
-  rels_reported (moved || is_some ready) fixed lives r v of base have flow os readies are.1,
+pub rels_reported : (moved : Bool) (g : Ground) (r : RelState) (v : NodeId) (of : Flow) (base have : ℕ) (flow : Flow) (os : List Kept)
+    (readies : List (Option (Kept × List ℕ × SeatState))) → AreRelsReady moved g r flow os readies
+    → AreRelsReady moved g (reported r v of base have) flow os readies
+rels_reported moved g r v of base have flow [] readies are = are
+rels_reported moved g r v of base have flow (o ∷ os) [] are = are
+rels_reported moved g r v of base have flow (o ∷ os) (ready ∷ readies) are = (
+  rel_reported moved g r v of base have flow o ready are.0,
+  rels_reported (moved || is_some ready) g r v of base have flow os readies are.1,
 )
 
 -- what is said of an acknowledgement stays the same after a report
@@ -88,21 +90,26 @@ ack_reported fixed lives r v of base have flow (Some o) ready is = record {
 }
 
 -- the same of a report that is dropped where its boots aren't held
-rels_where : (held moved : Bool) (fixed : Fixed) (lives : List Life) (p : Parts) (v : NodeId) (of : Flow) (base have : ℕ) (flow : Flow) (os : List Kept)
-    (readies : List (Option (Kept × List ℕ × SeatState))) → AreRelsReady moved fixed lives p.rel flow os readies
-    → AreRelsReady moved fixed lives (reported_where held v of base have p).rel flow os readies
-rels_where true moved fixed lives p v of base have flow os readies are = rels_reported moved fixed lives p.rel v of base have flow os readies are
-rels_where false moved fixed lives p v of base have flow os readies are = are
+where_reported : (P : RelState → Type 0) (kind : FlowKind) (held : Bool) (p : Parts) (v : NodeId) (of : Flow) (base have : ℕ)
+    → P (reported (flows_of kind p) v of base have) → P (flows_of kind p) → P (flows_of kind (reported_where kind held v of base have p))
+where_reported P Plain true p v of base have there same = there
+where_reported P Plain false p v of base have there same = same
+where_reported P Paths true p v of base have there same = there
+where_reported P Paths false p v of base have there same = same
 
-pub ack_where : (held : Bool) (fixed : Fixed) (lives : List Life) (p : Parts) (v : NodeId) (of : Flow) (base have : ℕ) (flow : Flow) (ack : Option Kept)
-    (ready : Option (Kept × SeatState)) → IfSome ack (λ o. IsAckReady fixed lives p.rel flow o ready)
-    → IfSome ack (λ o. IsAckReady fixed lives (reported_where held v of base have p).rel flow o ready)
-ack_where true fixed lives p v of base have flow ack ready is = ack_reported fixed lives p.rel v of base have flow ack ready is
-ack_where false fixed lives p v of base have flow ack ready is = is
+rels_where : (kind : FlowKind) (held moved : Bool) (g : Ground) (p : Parts) (v : NodeId) (of : Flow) (base have : ℕ) (flow : Flow) (os : List Kept)
+    (readies : List (Option (Kept × List ℕ × SeatState))) → AreRelsReady moved g (flows_of kind p) flow os readies
+    → AreRelsReady moved g (flows_of kind (reported_where kind held v of base have p)) flow os readies
+rels_where kind held moved g p v of base have flow os readies are =
+    where_reported (λ s. AreRelsReady moved g s flow os readies) kind held p v of base have
+    (rels_reported moved g (flows_of kind p) v of base have flow os readies are) are
 
-pub report_lives : (held : Bool) (v : NodeId) (of : Flow) (base have : ℕ) (p : Parts) → (reported_where held v of base have p).lives ≡ p.lives
-report_lives true v of base have p = refl
-report_lives false v of base have p = refl
+pub ack_where : (kind : FlowKind) (held : Bool) (fixed : Fixed) (lives : List Life) (p : Parts) (v : NodeId) (of : Flow) (base have : ℕ) (flow : Flow)
+    (ack : Option Kept) (ready : Option (Kept × SeatState)) → IfSome ack (λ o. IsAckReady fixed lives (flows_of kind p) flow o ready)
+    → IfSome ack (λ o. IsAckReady fixed lives (flows_of kind (reported_where kind held v of base have p)) flow o ready)
+ack_where kind held fixed lives p v of base have flow ack ready is =
+    where_reported (λ s. IfSome ack (λ o. IsAckReady fixed lives s flow o ready)) kind held p v of base have
+    (ack_reported fixed lives (flows_of kind p) v of base have flow ack ready is) is
 
 -- ---- a row that moves on
 
@@ -169,20 +176,27 @@ may_have_been moved r k flow f body more new = go body new
     go (bodies.Kack m) new = absurd (cc)
     go (bodies.Epoch m) new = absurd (cc)
 
+-- what may be new by its boots and its edge, and by less
+weaker : (dated over less more : Bool) → (less ≡ true → more ≡ true) → (dated && (over && less)) ≡ true → (dated && (over && more)) ≡ true
+weaker true true less more follows new = follows new
+weaker true false less more follows new = absurd (cc)
+weaker false over less more follows new = absurd (cc)
+
 seat_after : (r : RelState) (k flow : Flow) (f : FlowState) (ready : Option (Kept × List ℕ × SeatState)) → ends f ≡ k → f.active ≡ true
     → IfSome ready (λ m. IsSeated r flow m.2) → IfSome ready (λ m. IsSeated (with_flow r k f) flow m.2)
 seat_after r k flow f None same on seated = tt
 seat_after r k flow f (Some m) same on seated = stays_seated r k flow f m.2 same on seated
 
-moved_on : (moved : Bool) (fixed : Fixed) (lives : List Life) (r : RelState) (k flow : Flow) (f : FlowState) (o : Kept)
+moved_on : (moved : Bool) (g : Ground) (r : RelState) (k flow : Flow) (f : FlowState) (o : Kept)
     (ready : Option (Kept × List ℕ × SeatState))
-    → (flow_in r.flows flow).at.have ≤ (flow_in (put_flow r.flows k f) flow).at.have → ends f ≡ k → f.active ≡ true → IsRelReady true fixed lives r flow o ready
-    → IsRelReady moved fixed lives (with_flow r k f) flow o ready
-moved_on moved fixed lives r k flow f o ready more same on is = record {
+    → (flow_in r.flows flow).at.have ≤ (flow_in (put_flow r.flows k f) flow).at.have → ends f ≡ k → f.active ≡ true → IsRelReady true g r flow o ready
+    → IsRelReady moved g (with_flow r k f) flow o ready
+moved_on moved g r k flow f o ready more same on is = record {
   copy = is.copy;
   payload = is.payload;
   seat = seat_after r k flow f ready same on is.seat;
-  right = λ dated new. is.right dated (may_have_been moved r k flow f o.body more new);
+  right = λ new. is.right (weaker (is_dated g.lives o.body) (g.over o.body) (may_be_new moved (judge_rel_of (with_flow r k f) flow o.body))
+      (may_be_new true (judge_rel_of r flow o.body)) (may_have_been moved r k flow f o.body more) new);
 }
 
 -- ---- where nothing changed
@@ -197,45 +211,40 @@ wider true moved rels.Old e = absurd (cc)
 wider true moved rels.Ahead e = absurd (cc)
 wider false moved j e = e
 
-pub nothing_comes : (new : Bool) (fixed : Fixed) (lives : List Life) (flow : Flow) (r : RelState) → StaysReady new fixed lives flow r r
-nothing_comes new fixed lives flow r moved o ready is = record {
+pub nothing_comes : (new : Bool) (g : Ground) (flow : Flow) (r : RelState) → StaysReady new g flow r r
+nothing_comes new g flow r moved o ready is = record {
   copy = is.copy;
   payload = is.payload;
   seat = is.seat;
-  right = λ dated e. is.right dated (wider new moved (judge_rel_of r flow o.body) e);
+  right = λ e. is.right (weaker (is_dated g.lives o.body) (g.over o.body) (may_be_new moved (judge_rel_of r flow o.body))
+      (may_be_new (new || moved) (judge_rel_of r flow o.body)) (wider new moved (judge_rel_of r flow o.body)) e);
 }
 
 -- ---- an acknowledgement, and a message
 
--- lives stay where nothing new touches them
-either_lives : (t : Bool) (new old : Parts) → new.lives ≡ old.lives → (cond t new old).lives ≡ old.lives
-either_lives true new old same = same
-either_lives false new old same = refl
+-- an object changes the flows only where it was ready
+stays_where : (t new : Bool) (g : Ground) (flow : Flow) (old left : RelState) → (t ≡ true → new ≡ true) → StaysReady true g flow old left
+    → StaysReady new g flow old (cond t left old)
+stays_where true true g flow old left only stays = stays
+stays_where true false g flow old left only stays = absurd (let no : false ≡ true = only refl in cc)
+stays_where false new g flow old left only stays = nothing_comes new g flow old
 
 ack_moves : (r : RelState) (ack : Kept) (flow : Flow) → (flow_in r.flows flow).at.have ≤ (flow_in (admit_ack r ack).flows flow).at.have
 ack_moves r ack flow = have_stays (λ f. acknowledged_by f ack) (λ f. refl) (λ f. omega arith) r.flows (flow_said ack.body) flow
 
--- the acknowledgement is new where it is ready, names the boots that are held and is judged so, and else nothing changed
-pub stays_ready : (acked dated : Bool) (fixed : Fixed) (lives : List Life) (flow : Flow) (judged : AckJudged) (ack : Kept) (p : Parts)
-    → StaysReady acked fixed lives flow p.rel (ack_handled (ack_answer acked dated judged) ack p).parts.rel
-stays_ready true true fixed lives flow acks.New ack p moved o ready is =
+ack_admitted : (g : Ground) (r : RelState) (ack : Kept) (flow : Flow) → StaysReady true g flow r (admit_ack r ack)
+ack_admitted g r ack flow moved o ready is =
     let k = flow_said ack.body in
-    moved_on moved fixed lives p.rel k flow (acknowledged_by (flow_in p.rel.flows k) ack) o ready (ack_moves p.rel ack flow) (found_ends p.rel.flows k) refl is
-stays_ready false true fixed lives flow acks.New ack p moved o ready is = is
-stays_ready acked true fixed lives flow acks.BadEnd ack p moved o ready is = nothing_comes acked fixed lives flow p.rel moved o ready is
-stays_ready acked true fixed lives flow acks.Old ack p moved o ready is = nothing_comes acked fixed lives flow p.rel moved o ready is
-stays_ready acked true fixed lives flow acks.Ahead ack p moved o ready is = nothing_comes acked fixed lives flow p.rel moved o ready is
-stays_ready acked false fixed lives flow acks.New ack p moved o ready is = nothing_comes acked fixed lives flow p.rel moved o ready is
-stays_ready acked false fixed lives flow acks.BadEnd ack p moved o ready is = nothing_comes acked fixed lives flow p.rel moved o ready is
-stays_ready acked false fixed lives flow acks.Old ack p moved o ready is = nothing_comes acked fixed lives flow p.rel moved o ready is
-stays_ready acked false fixed lives flow acks.Ahead ack p moved o ready is = nothing_comes acked fixed lives flow p.rel moved o ready is
+    moved_on moved g r k flow (acknowledged_by (flow_in r.flows k) ack) o ready (ack_moves r ack flow) (found_ends r.flows k) refl is
 
--- lives stay, whatever was answered
-pub ack_lives : (answer : AckAnswer) (o : Kept) (p : Parts) → (ack_handled answer o p).parts.lives ≡ p.lives
-ack_lives answer o p = either_lives (is_new (items.Ack answer)) (record p { rel = admit_ack p.rel o }) p refl
-
-pub rel_lives : (answer : RelAnswer) (o : Kept) (p : Parts) → (rel_handled answer o p).parts.lives ≡ p.lives
-rel_lives answer o p = either_lives (is_new (items.Rel answer)) (record p { rel = admit_rel p.rel o }) p refl
+-- the acknowledgement is new where it is ready, names the boots that are held and is judged so, and else nothing changed
+pub stays_ready : (kind : FlowKind) (acked dated : Bool) (g : Ground) (flow : Flow) (judged : AckJudged) (ack : Kept) (p : Parts)
+    → StaysReady acked g flow (flows_of kind p) (flows_of kind (ack_handled kind (ack_answer acked dated judged) ack p).parts)
+stays_ready kind acked dated g flow judged ack p =
+    let r = flows_of kind p in
+    let t = is_new (ack_item kind (ack_answer acked dated judged)) in
+    subst (λ (s : RelState). StaysReady acked g flow r s) (sym (flows_where kind t (admit_ack r ack) p))
+    (stays_where t acked g flow r (admit_ack r ack) (λ new. (new_ack kind acked dated judged new).0) (ack_admitted g r ack flow))
 
 -- the row of a message's flow once it was taken
 taken_row : Bool → Kept → FlowState → FlowState
@@ -256,48 +265,37 @@ unfolding taken_row
 row_on true message f = refl
 row_on false message f = refl
 
-rel_admitted : (moved : Bool) (fixed : Fixed) (lives : List Life) (r : RelState) (message : Kept) (flow : Flow) (o : Kept)
-    (ready : Option (Kept × List ℕ × SeatState))
-    → IsRelReady true fixed lives r flow o ready → IsRelReady moved fixed lives (admit_rel r message) flow o ready
+rel_admitted : (g : Ground) (r : RelState) (message : Kept) (flow : Flow) → StaysReady true g flow r (admit_rel r message)
 unfolding taken_row
-rel_admitted moved fixed lives r message flow o ready is =
+rel_admitted g r message flow moved o ready is =
     let k = flow_said message.body in
     let here = is_to r k in
     let f = flow_in r.flows k in
-    moved_on moved fixed lives r k flow (taken_row here message f) o ready
+    moved_on moved g r k flow (taken_row here message f) o ready
     (have_stays (taken_row here message) (row_ends here message) (row_has here message) r.flows k flow)
     (row_ends here message f ∙ found_ends r.flows k) (row_on here message f) is
 
--- the message is new where it is ready, names the boots that are held and is judged so, and else nothing changed
-pub rel_stays_ready : (new dated : Bool) (fixed : Fixed) (lives : List Life) (flow : Flow) (judged : RelJudged) (message : Kept) (p : Parts)
-    → StaysReady new fixed lives flow p.rel (rel_handled (rel_answer new dated judged) message p).parts.rel
-rel_stays_ready true true fixed lives flow rels.New message p moved o ready is = rel_admitted moved fixed lives p.rel message flow o ready is
-rel_stays_ready false true fixed lives flow rels.New message p moved o ready is = is
-rel_stays_ready new true fixed lives flow rels.BadEnd message p moved o ready is = nothing_comes new fixed lives flow p.rel moved o ready is
-rel_stays_ready new true fixed lives flow rels.Old message p moved o ready is = nothing_comes new fixed lives flow p.rel moved o ready is
-rel_stays_ready new true fixed lives flow rels.Ahead message p moved o ready is = nothing_comes new fixed lives flow p.rel moved o ready is
-rel_stays_ready new true fixed lives flow rels.Gap message p moved o ready is = nothing_comes new fixed lives flow p.rel moved o ready is
-rel_stays_ready new true fixed lives flow rels.Full message p moved o ready is = nothing_comes new fixed lives flow p.rel moved o ready is
-rel_stays_ready new true fixed lives flow rels.InboxFull message p moved o ready is = nothing_comes new fixed lives flow p.rel moved o ready is
-rel_stays_ready new false fixed lives flow rels.New message p moved o ready is = nothing_comes new fixed lives flow p.rel moved o ready is
-rel_stays_ready new false fixed lives flow rels.BadEnd message p moved o ready is = nothing_comes new fixed lives flow p.rel moved o ready is
-rel_stays_ready new false fixed lives flow rels.Old message p moved o ready is = nothing_comes new fixed lives flow p.rel moved o ready is
-rel_stays_ready new false fixed lives flow rels.Ahead message p moved o ready is = nothing_comes new fixed lives flow p.rel moved o ready is
-rel_stays_ready new false fixed lives flow rels.Gap message p moved o ready is = nothing_comes new fixed lives flow p.rel moved o ready is
-rel_stays_ready new false fixed lives flow rels.Full message p moved o ready is = nothing_comes new fixed lives flow p.rel moved o ready is
-rel_stays_ready new false fixed lives flow rels.InboxFull message p moved o ready is = nothing_comes new fixed lives flow p.rel moved o ready is
+-- the message is new where it is ready, names the boots that are held, came over an edge of its mask and is judged so, and else nothing changed
+pub rel_stays_ready : (kind : FlowKind) (new dated over : Bool) (g : Ground) (flow : Flow) (judged : RelJudged) (message : Kept) (p : Parts)
+    → StaysReady new g flow (flows_of kind p) (flows_of kind (rel_handled kind (rel_answer new dated over judged) message p).parts)
+rel_stays_ready kind new dated over g flow judged message p =
+    let r = flows_of kind p in
+    let t = is_new (rel_item kind (rel_answer new dated over judged)) in
+    subst (λ (s : RelState). StaysReady new g flow r s) (sym (flows_where kind t (admit_rel r message) p))
+    (stays_where t new g flow r (admit_rel r message) (λ is. (new_rel kind new dated over judged is).0) (rel_admitted g r message flow))
 
 -- what is ready answers as the signature does, since it is asked only where the message may be new
-pub rel_answered : (ready right dated : Bool) (judged : RelJudged) → (dated ≡ true → may_be_new false judged ≡ true → ready ≡ right)
-    → rel_answer ready dated judged ≡ rel_answer right dated judged
-rel_answered ready right true rels.New same = ap (λ (b : Bool). rel_answer b true rels.New) (same refl refl)
-rel_answered ready right false rels.New same = refl
-rel_answered ready right dated rels.BadEnd same = refl
-rel_answered ready right dated rels.Old same = refl
-rel_answered ready right dated rels.Ahead same = refl
-rel_answered ready right dated rels.Gap same = refl
-rel_answered ready right dated rels.Full same = refl
-rel_answered ready right dated rels.InboxFull same = refl
+pub rel_answered : (ready right dated over : Bool) (judged : RelJudged) → ((dated && (over && may_be_new false judged)) ≡ true → ready ≡ right)
+    → rel_answer ready dated over judged ≡ rel_answer right dated over judged
+rel_answered ready right true true rels.New same = ap (λ (b : Bool). rel_answer b true true rels.New) (same refl)
+rel_answered ready right true false rels.New same = refl
+rel_answered ready right false over rels.New same = refl
+rel_answered ready right dated over rels.BadEnd same = refl
+rel_answered ready right dated over rels.Old same = refl
+rel_answered ready right dated over rels.Ahead same = refl
+rel_answered ready right dated over rels.Gap same = refl
+rel_answered ready right dated over rels.Full same = refl
+rel_answered ready right dated over rels.InboxFull same = refl
 
 pub ack_answered : (ready right dated : Bool) (judged : AckJudged) → (dated ≡ true → judged ≡ acks.New → ready ≡ right)
     → ack_answer ready dated judged ≡ ack_answer right dated judged
@@ -310,67 +308,67 @@ ack_answered ready right dated acks.Ahead same = refl
 -- ---- all messages of a slot
 
 -- all that come after an object are ready after it
-pub rels_stay : (new : Bool) (fixed : Fixed) (lives : List Life) (flow : Flow) (old left : RelState) → StaysReady new fixed lives flow old left
-    → (moved : Bool) (os : List Kept) (readies : List (Option (Kept × List ℕ × SeatState))) → AreRelsReady (new || moved) fixed lives old flow os readies
-    → AreRelsReady moved fixed lives left flow os readies
-rels_stay new fixed lives flow old left stays moved [] readies are = are
-rels_stay new fixed lives flow old left stays moved (o ∷ os) [] are = are
-rels_stay true fixed lives flow old left stays moved (o ∷ os) (ready ∷ readies) are =
-    (stays moved o ready are.0, rels_stay true fixed lives flow old left stays (moved || is_some ready) os readies are.1)
-rels_stay false fixed lives flow old left stays moved (o ∷ os) (ready ∷ readies) are =
-    (stays moved o ready are.0, rels_stay false fixed lives flow old left stays (moved || is_some ready) os readies are.1)
+pub rels_stay : (new : Bool) (g : Ground) (flow : Flow) (old left : RelState) → StaysReady new g flow old left
+    → (moved : Bool) (os : List Kept) (readies : List (Option (Kept × List ℕ × SeatState))) → AreRelsReady (new || moved) g old flow os readies
+    → AreRelsReady moved g left flow os readies
+rels_stay new g flow old left stays moved [] readies are = are
+rels_stay new g flow old left stays moved (o ∷ os) [] are = are
+rels_stay true g flow old left stays moved (o ∷ os) (ready ∷ readies) are =
+    (stays moved o ready are.0, rels_stay true g flow old left stays (moved || is_some ready) os readies are.1)
+rels_stay false g flow old left stays moved (o ∷ os) (ready ∷ readies) are =
+    (stays moved o ready are.0, rels_stay false g flow old left stays (moved || is_some ready) os readies are.1)
 
 or_false : (b : Bool) → (b || false) ≡ b
 or_false true = refl
 or_false false = refl
 
 -- from the first of them on
-pub first_stays : (new : Bool) (fixed : Fixed) (lives : List Life) (flow : Flow) (old left : RelState) (os : List Kept)
-    (readies : List (Option (Kept × List ℕ × SeatState))) → StaysReady new fixed lives flow old left → AreRelsReady new fixed lives old flow os readies
-    → AreRelsReady false fixed lives left flow os readies
-first_stays new fixed lives flow old left os readies stays are =
-    rels_stay new fixed lives flow old left stays false os readies
-    (subst (λ (b : Bool). AreRelsReady b fixed lives old flow os readies) (sym (or_false new)) are)
+pub first_stays : (new : Bool) (g : Ground) (flow : Flow) (old left : RelState) (os : List Kept)
+    (readies : List (Option (Kept × List ℕ × SeatState))) → StaysReady new g flow old left → AreRelsReady new g old flow os readies
+    → AreRelsReady false g left flow os readies
+first_stays new g flow old left os readies stays are =
+    rels_stay new g flow old left stays false os readies
+    (subst (λ (b : Bool). AreRelsReady b g old flow os readies) (sym (or_false new)) are)
 
 -- the messages of a slot, after its report, which is dropped where its boots aren't held, and after its acknowledgement
-pub slot_stays : (acked held : Bool) (fixed : Fixed) (lives : List Life) (p : Parts) (mid now : RelState) (v : NodeId) (of : Flow) (base have : ℕ) (flow : Flow)
-    (os : List Kept) (readies : List (Option (Kept × List ℕ × SeatState))) → mid ≡ (reported_where held v of base have p).rel
-    → StaysReady acked fixed lives flow mid now → AreRelsReady acked fixed lives p.rel flow os readies → AreRelsReady false fixed lives now flow os readies
-slot_stays acked held fixed lives p mid now v of base have flow os readies is stays before =
-    first_stays acked fixed lives flow mid now os readies stays
-    (subst (λ (s : RelState). AreRelsReady acked fixed lives s flow os readies) (sym is)
-    (rels_where held acked fixed lives p v of base have flow os readies before))
+pub slot_stays : (kind : FlowKind) (acked held : Bool) (g : Ground) (p : Parts) (mid now : RelState) (v : NodeId) (of : Flow) (base have : ℕ) (flow : Flow)
+    (os : List Kept) (readies : List (Option (Kept × List ℕ × SeatState))) → mid ≡ flows_of kind (reported_where kind held v of base have p)
+    → StaysReady acked g flow mid now → AreRelsReady acked g (flows_of kind p) flow os readies → AreRelsReady false g now flow os readies
+slot_stays kind acked held g p mid now v of base have flow os readies is stays before =
+    first_stays acked g flow mid now os readies stays
+    (subst (λ (s : RelState). AreRelsReady acked g s flow os readies) (sym is)
+    (rels_where kind held acked g p v of base have flow os readies before))
 
 -- ---- one message after another
 
 -- where nothing more is ready, no message is left
-pub no_rel_ready : (moved : Bool) (fixed : Fixed) (lives : List Life) (r : RelState) (flow : Flow) (os : List Kept)
+pub no_rel_ready : (moved : Bool) (g : Ground) (r : RelState) (flow : Flow) (os : List Kept)
     (readies : List (Option (Kept × List ℕ × SeatState))) → split_first readies ≡ None
-    → AreRelsReady moved fixed lives r flow os readies → os ≡ []
-no_rel_ready moved fixed lives r flow [] readies split are = refl
-no_rel_ready moved fixed lives r flow (o ∷ os) [] split are = absurd are
-no_rel_ready moved fixed lives r flow (o ∷ os) (ready ∷ readies) split are = absurd (cc)
+    → AreRelsReady moved g r flow os readies → os ≡ []
+no_rel_ready moved g r flow [] readies split are = refl
+no_rel_ready moved g r flow (o ∷ os) [] split are = absurd are
+no_rel_ready moved g r flow (o ∷ os) (ready ∷ readies) split are = absurd (cc)
 
 -- where something is, a message is there
-pub never_past_rel : (moved : Bool) (fixed : Fixed) (lives : List Life) (r : RelState) (flow : Flow) (rels : List ObjectRef) (place : ℕ)
+pub never_past_rel : (moved : Bool) (g : Ground) (r : RelState) (flow : Flow) (rels : List ObjectRef) (place : ℕ)
     (readies others : List (Option (Kept × List ℕ × SeatState)))
     (first : Option (Kept × List ℕ × SeatState)) → slice_get rels place ≡ None → split_first readies ≡ Some (first, others)
-    → AreRelsReady moved fixed lives r flow (map as_object (drop place rels)) readies → ⊥
-never_past_rel moved fixed lives r flow rels place readies others first none split are =
+    → AreRelsReady moved g r flow (map as_object (drop place rels)) readies → ⊥
+never_past_rel moved g r flow rels place readies others first none split are =
     let is : readies ≡ first ∷ others = split_is readies first others split in
-    let left : readies ≡ [] = subst (λ (xs : List ObjectRef). AreRelsReady moved fixed lives r flow (map as_object xs) readies)
+    let left : readies ≡ [] = subst (λ (xs : List ObjectRef). AreRelsReady moved g r flow (map as_object xs) readies)
     (drop_past rels place none) are in
     let both : first ∷ others ≡ [] = sym is ∙ left in
     absurd (cc)
 
 -- the first of both, and the others of both
-pub rel_in_turn : (moved : Bool) (fixed : Fixed) (lives : List Life) (r : RelState) (flow : Flow) (rels : List ObjectRef) (place : ℕ) (x : ObjectRef)
+pub rel_in_turn : (moved : Bool) (g : Ground) (r : RelState) (flow : Flow) (rels : List ObjectRef) (place : ℕ) (x : ObjectRef)
     (readies others : List (Option (Kept × List ℕ × SeatState)))
     (first : Option (Kept × List ℕ × SeatState)) → slice_get rels place ≡ Some x → split_first readies ≡ Some (first, others)
-    → AreRelsReady moved fixed lives r flow (map as_object (drop place rels)) readies
-    → IsRelReady moved fixed lives r flow (as_object x) first × AreRelsReady (moved || is_some first) fixed lives r flow
+    → AreRelsReady moved g r flow (map as_object (drop place rels)) readies
+    → IsRelReady moved g r flow (as_object x) first × AreRelsReady (moved || is_some first) g r flow
     (map as_object (drop (place + 1) rels)) others
-rel_in_turn moved fixed lives r flow rels place x readies others first at_place split are =
-    subst (λ (rs : List (Option (Kept × List ℕ × SeatState))). AreRelsReady moved fixed lives r flow (map as_object (x ∷ drop (place + 1) rels)) rs)
+rel_in_turn moved g r flow rels place x readies others first at_place split are =
+    subst (λ (rs : List (Option (Kept × List ℕ × SeatState))). AreRelsReady moved g r flow (map as_object (x ∷ drop (place + 1) rels)) rs)
     (split_is readies first others split)
-    (subst (λ (xs : List ObjectRef). AreRelsReady moved fixed lives r flow (map as_object xs) readies) (drop_first rels place x at_place) are)
+    (subst (λ (xs : List ObjectRef). AreRelsReady moved g r flow (map as_object xs) readies) (drop_first rels place x at_place) are)

@@ -17,4 +17,4 @@ pub record IsDone (done : Handled) (left : Parts) (answers : List Item) (before 
 
 -- the answers in their order
 abbrev pub items_of : Answers → List Item
-items_of a = as_list a.weight ++ (a.prios ++ (slot_items a.slot ++ as_list a.epoch))
+items_of a = as_list a.weight ++ (a.prios ++ (slot_items a.slot ++ (slot_items a.paths ++ as_list a.epoch)))

@@ -4,12 +4,12 @@ use Rattle.std.specs.Prelude.{ℕ, ◌+◌, ◌||◌, Bool, false, List, [], ◌
 use Rattle.sp_frame.specs.Views.{as_numbered, as_object}
 use Rattle.sp_frame.specs.declared.sections.Sections.{Sections}
 use Rattle.sp_rules.specs.Handle as rules
-use Rattle.sp_rules.specs.Parts.{Parts}
+use Rattle.sp_rules.specs.Parts.{Parts, flows_of}
 use Rattle.sp_rules.specs.Pieces.{Piece, AckPiece, EpochPiece, PrioAckPiece, PrioPiece, RelPiece, ReportPiece, WeightPiece}
 use Rattle.sp_node_arrivals.specs.Ack.{ack_checks, is_acked}
 use Rattle.sp_node_arrivals.specs.Epoch.{epoch_checks}
 use Rattle.sp_node_arrivals.specs.Prio.{prio_checks, prios_checks}
-use Rattle.sp_node_arrivals.specs.Rel.{is_followed, rel_checks}
+use Rattle.sp_node_arrivals.specs.Rel.{ground_of, is_followed, rel_checks}
 use Rattle.sp_node_arrivals.specs.Signed.{of_some}
 use Rattle.sp_node_arrivals.specs.Slot.{slot_checks}
 use Rattle.sp_node_arrivals.specs.Weight.{weight_checks}
@@ -20,10 +20,12 @@ checks_for at p moved [] = 0
 checks_for at p moved (WeightPiece o ∷ rest) = weight_checks at.fixed.me p.weights o + checks_for at p moved rest
 checks_for at p moved (PrioAckPiece number ∷ rest) = checks_for at p moved rest
 checks_for at p moved (PrioPiece number o ∷ rest) = prio_checks at p.lives p.prio o + checks_for at p moved rest
-checks_for at p moved (ReportPiece flow sboot dboot base have ∷ rest) = checks_for at p moved rest
-checks_for at p moved (AckPiece flow o ∷ rest) = ack_checks p.lives p.rel flow o + checks_for at p (is_acked at.fixed p.lives p.rel flow o) rest
-checks_for at p moved (RelPiece flow o ∷ rest) =
-    rel_checks moved p.lives p.rel flow o + checks_for at p (moved || is_followed moved at.fixed p.lives p.rel flow o) rest
+checks_for at p moved (ReportPiece kind flow sboot dboot base have ∷ rest) = checks_for at p false rest
+checks_for at p moved (AckPiece kind flow o ∷ rest) =
+    ack_checks p.lives (flows_of kind p) flow o + checks_for at p (is_acked at.fixed p.lives (flows_of kind p) flow o) rest
+checks_for at p moved (RelPiece kind flow o ∷ rest) =
+    rel_checks moved (ground_of at p) (flows_of kind p) flow o
+    + checks_for at p (moved || is_followed moved (ground_of at p) (flows_of kind p) flow o) rest
 checks_for at p moved (EpochPiece o ∷ rest) = epoch_checks at.fixed.me p.lives o + checks_for at p moved rest
 
 -- the checks for a whole frame
@@ -35,5 +37,6 @@ abbrev pub section_checks : rules.Arrival → Parts → Sections → ℕ
 section_checks at p sections =
     of_some (weight_checks at.fixed.me p.weights) (option_map as_object sections.weight)
     + prios_checks at p.lives p.prio (map as_numbered sections.prios)
-    + of_some (slot_checks at.fixed p.lives p.rel) sections.slot
+    + of_some (slot_checks (ground_of at p) p.rel) sections.slot
+    + of_some (slot_checks (ground_of at p) p.kflow.flows) sections.paths
     + of_some (epoch_checks at.fixed.me p.lives) (option_map as_object sections.epoch)

@@ -8,23 +8,26 @@ ghost use Rattle.sp_rel.specs.Places.{IsPlace};
 ghost use Rattle.sp_rel.specs.Seated.{IsSeated};
 ghost use Rattle.sp_rules.specs.Answers.{ack_answer, is_new};
 ghost use Rattle.sp_rules.specs.Changes.{FitsAFormat};
-ghost use Rattle.sp_rules.specs.Handle.{ack_handled, handle_all};
+ghost use Rattle.sp_rules.specs.Handle.{ack_handled, ack_item, handle_all};
+ghost use Rattle.sp_rules.specs.declared.kflow.FlowKind.{FlowKind};
 ghost use Rattle.sp_rules.specs.Lives.{is_dated};
 ghost use Rattle.sp_rules.specs.Pieces.{AckPiece};
 ghost use Rattle.sp_rules.specs.Rel.{judge_ack_of};
 ghost use Rattle.sp_node_arrivals.specs.Ack.{IsAckReady, ack_checks, is_acked};
 ghost use Rattle.sp_node_arrivals.specs.Arrival.{as_arrival};
 ghost use Rattle.sp_node_arrivals.specs.Done.{IsDone};
-ghost use Rattle.sp_node_arrivals.specs.Rel.{StaysReady};
+ghost use Rattle.sp_node_arrivals.specs.Rel.{StaysReady, ground_of};
+ghost use Rattle.sp_rules.specs.Parts.{flows_of};
 ghost use Rattle.sp_node_format.specs.Format.{format_of};
 
 use crate::arrival::Arrival;
+use crate::row::{Row, ack_item};
 use crate::signed::{copy_of, is_right, recall};
 use sp_base::Memory;
 use sp_frame::ObjectRef;
 use sp_msg::{Ack, BodyRef, Kept};
 use sp_node_parts::Parts;
-use sp_rel::{AckJudged, Place, Seat};
+use sp_rel::{AckJudged, Seat};
 use sp_rules::{AckAnswer, Item};
 use sp_sign::Checker;
 use std::alloc::Global;
@@ -35,16 +38,18 @@ pub(crate) fn ready(
     at: &Arrival<'_>,
     parts: &Parts,
     checker: &mut Checker,
-    row: Place,
+    row: Row,
     object: &ObjectRef<'_>,
 ) -> Result<Option<(Kept, Seat)>, Memory>
     requires format { IsOf at.now.fixed.now.topology.format object.now }
     requires keys { checker.old.nodes ≡ at.now.fixed.now.topology.nodes }
-    requires place { IsPlace parts.now.rel.flows row }
-    ensures ready { IfOk result (IsAckReady at.now.fixed.now parts.now.lives parts.now.rel row.flow (as_object object.now)) }
+    requires place { IsPlace (flows_of row.kind parts.now).flows row.place }
+    ensures ready { IfOk result (IsAckReady at.now.fixed.now parts.now.lives (flows_of row.kind parts.now) row.place.flow (as_object object.now)) }
     ensures keys { checker.new.nodes ≡ checker.old.nodes }
-    ensures work { checker.new.checks ≤ checker.old.checks + ack_checks parts.now.lives parts.now.rel row.flow (as_object object.now) }
-    ensures new { IfOk result (λ ready. is_some ready ≡ is_acked at.now.fixed.now parts.now.lives parts.now.rel row.flow (as_object object.now)) }
+    ensures work { checker.new.checks ≤ checker.old.checks
+        + ack_checks parts.now.lives (flows_of row.kind parts.now) row.place.flow (as_object object.now) }
+    ensures new { IfOk result (λ ready. is_some ready
+        ≡ is_acked at.now.fixed.now parts.now.lives (flows_of row.kind parts.now) row.place.flow (as_object object.now)) }
     ensures few { checker.new.checks ≤ checker.old.checks + 1 }
 {
     if !parts.lives.is_dated(&object.body) {
@@ -57,7 +62,7 @@ pub(crate) fn ready(
         return Ok(None);
     }
     let kept = copy_of(alloc, object)?;
-    let Ok(seat) = parts.rel.seat(alloc, row) else {
+    let Ok(seat) = parts.flows(row.kind).seat(alloc, row.place) else {
         return Err(Memory);
     };
     Ok(Some((kept, seat)))
@@ -67,18 +72,20 @@ pub(crate) fn ready(
 pub(crate) fn admit(
     at: &Arrival<'_>,
     parts: &mut Parts,
-    row: Place,
+    row: Row,
     ack: &Option<ObjectRef<'_>>,
     ready: Option<(Kept, Seat)>,
 ) -> Option<Item>
-    requires place { IsPlace parts.old.rel.flows row }
-    requires ready { IfSome (option_map as_object ack.now) (λ o. IsAckReady at.now.fixed.now parts.old.lives parts.old.rel row.flow o ready) }
+    requires place { IsPlace (flows_of row.kind parts.old).flows row.place }
+    requires ready { IfSome (option_map as_object ack.now)
+        (λ o. IsAckReady at.now.fixed.now parts.old.lives (flows_of row.kind parts.old) row.place.flow o ready) }
     ensures done { (c : Caused) → IsDone
-        (handle_all (format_of at.now.fixed.now) (as_arrival at.now) parts.old (map (AckPiece row.flow) (as_list (option_map as_object ack.now))))
-        parts.new (as_list result) c c }
-    ensures lives { parts.new.lives ≡ parts.old.lives }
-    ensures stays { StaysReady (is_some ready) at.now.fixed.now parts.old.lives row.flow parts.old.rel parts.new.rel }
-    ensures place { IsPlace parts.new.rel.flows row }
+        (handle_all (format_of at.now.fixed.now) (as_arrival at.now) parts.old
+        (map (AckPiece row.kind row.place.flow) (as_list (option_map as_object ack.now)))) parts.new (as_list result) c c }
+    ensures ground { ground_of (as_arrival at.now) parts.new ≡ ground_of (as_arrival at.now) parts.old }
+    ensures stays { StaysReady (is_some ready) (ground_of (as_arrival at.now) parts.old) row.place.flow
+        (flows_of row.kind parts.old) (flows_of row.kind parts.new) }
+    ensures place { IsPlace (flows_of row.kind parts.new).flows row.place }
 {
     match ack {
         Some(object) => Some(admit_one(at, parts, row, object, ready)),
@@ -89,31 +96,32 @@ pub(crate) fn admit(
 fn admit_one(
     at: &Arrival<'_>,
     parts: &mut Parts,
-    row: Place,
+    row: Row,
     object: &ObjectRef<'_>,
     ready: Option<(Kept, Seat)>,
 ) -> Item
-    requires place { IsPlace parts.old.rel.flows row }
-    requires ready { IsAckReady at.now.fixed.now parts.old.lives parts.old.rel row.flow (as_object object.now) ready }
+    requires place { IsPlace (flows_of row.kind parts.old).flows row.place }
+    requires ready { IsAckReady at.now.fixed.now parts.old.lives (flows_of row.kind parts.old) row.place.flow (as_object object.now) ready }
     ensures done { (c : Caused) → IsDone
-        (handle_all (format_of at.now.fixed.now) (as_arrival at.now) parts.old (AckPiece row.flow (as_object object.now) ∷ []))
+        (handle_all (format_of at.now.fixed.now) (as_arrival at.now) parts.old (AckPiece row.kind row.place.flow (as_object object.now) ∷ []))
         parts.new (result ∷ []) c c }
-    ensures lives { parts.new.lives ≡ parts.old.lives }
-    ensures stays { StaysReady (is_some ready) at.now.fixed.now parts.old.lives row.flow parts.old.rel parts.new.rel }
-    ensures place { IsPlace parts.new.rel.flows row }
+    ensures ground { ground_of (as_arrival at.now) parts.new ≡ ground_of (as_arrival at.now) parts.old }
+    ensures stays { StaysReady (is_some ready) (ground_of (as_arrival at.now) parts.old) row.place.flow
+        (flows_of row.kind parts.old) (flows_of row.kind parts.new) }
+    ensures place { IsPlace (flows_of row.kind parts.new).flows row.place }
 {
     recall(object);
     let answer = take(parts, row, object, ready);
-    Item::Ack(answer)
+    ack_item(row.kind, answer)
 }
 
 /// What is said of the acknowledgement of a slot, but for its signature.
-fn judge(parts: &Parts, row: Place, body: &BodyRef<'_>) -> AckJudged
-    requires place { IsPlace parts.now.rel.flows row }
-    ensures { result ≡ judge_ack_of parts.now.rel row.flow (as_body body.now) }
+fn judge(parts: &Parts, row: Row, body: &BodyRef<'_>) -> AckJudged
+    requires place { IsPlace (flows_of row.kind parts.now).flows row.place }
+    ensures { result ≡ judge_ack_of (flows_of row.kind parts.now) row.place.flow (as_body body.now) }
 {
     match body {
-        BodyRef::Ack(ack) => parts.rel.judge_ack(row, ack),
+        BodyRef::Ack(ack) => parts.flows(row.kind).judge_ack(row.place, ack),
         BodyRef::Kack(kack) => {
             let ack = Ack {
                 src: kack.src,
@@ -122,7 +130,7 @@ fn judge(parts: &Parts, row: Place, body: &BodyRef<'_>) -> AckJudged
                 dboot: 0,
                 seq: kack.seq,
             };
-            parts.rel.judge_ack(row, &ack)
+            parts.flows(row.kind).judge_ack(row.place, &ack)
         }
         _ => AckJudged::BadEnd,
     }
@@ -131,18 +139,18 @@ fn judge(parts: &Parts, row: Place, body: &BodyRef<'_>) -> AckJudged
 /// Keeps the acknowledgement where it is new. `ready` is a copy of it where its signature is right, with memory for its flow.
 fn take(
     parts: &mut Parts,
-    row: Place,
+    row: Row,
     object: &ObjectRef<'_>,
     ready: Option<(Kept, Seat)>,
 ) -> AckAnswer
-    requires place { IsPlace parts.old.rel.flows row }
+    requires place { IsPlace (flows_of row.kind parts.old).flows row.place }
     requires fields { FitsAFormat (as_object object.now).body }
     requires copy { IfSome ready (λ r. r.0 ≡ as_object object.now) }
-    requires seat { IfSome ready (λ r. IsSeated parts.old.rel row.flow r.1) }
+    requires seat { IfSome ready (λ r. IsSeated (flows_of row.kind parts.old) row.place.flow r.1) }
     ensures answer { result ≡ ack_answer (is_some ready) (is_dated parts.old.lives (as_object object.now).body)
-        (judge_ack_of parts.old.rel row.flow (as_object object.now).body) }
-    ensures parts { parts.new ≡ (ack_handled result (as_object object.now) parts.old).parts }
-    ensures place { IsPlace parts.new.rel.flows row }
+        (judge_ack_of (flows_of row.kind parts.old) row.place.flow (as_object object.now).body) }
+    ensures parts { parts.new ≡ (ack_handled row.kind result (as_object object.now) parts.old).parts }
+    ensures place { IsPlace (flows_of row.kind parts.new).flows row.place }
 {
     let judged = judge(parts, row, &object.body);
     if !parts.lives.is_dated(&object.body) {
@@ -154,14 +162,14 @@ fn take(
     let Some((kept, seat)) = ready else {
         return AckAnswer::BadSig;
     };
-    parts.rel.admit_ack(kept, row, seat);
+    parts.admit_ack(row.kind, kept, row.place, seat);
     AckAnswer::New
 }
 
 /// The answer to an acknowledgement that names another boot of an end than the one that is held, whether its signature is right or not.
 fn undated(judged: AckJudged) -> AckAnswer
     ensures answer { (right : Bool) → result ≡ ack_answer right false judged }
-    ensures quiet { is_new (Item.Ack result) ≡ false }
+    ensures quiet { (kind : FlowKind) → is_new (ack_item kind result) ≡ false }
 {
     match judged {
         AckJudged::BadEnd => AckAnswer::BadEnd,
@@ -173,7 +181,7 @@ fn undated(judged: AckJudged) -> AckAnswer
 fn refusal(judged: AckJudged) -> AckAnswer
     requires { judged ≢ AckJudged.New }
     ensures answer { (right : Bool) → result ≡ ack_answer right true judged }
-    ensures quiet { is_new (Item.Ack result) ≡ false }
+    ensures quiet { (kind : FlowKind) → is_new (ack_item kind result) ≡ false }
 {
     match judged {
         AckJudged::BadEnd => AckAnswer::BadEnd,

@@ -1,5 +1,5 @@
 // A fresh frame arrives: all memory and all signatures first, then its objects one after another, kind after kind.
-ghost use Rattle.std.specs.Prelude.{◌≡◌, ◌≤◌, ◌<◌, ◌^◌, ◌+◌, ◌-◌, [], ◌++◌, IfOk, OnErr, drop, length, vec_capacity};
+ghost use Rattle.std.specs.Prelude.{◌≡◌, ◌≤◌, ◌<◌, ◌+◌, ◌-◌, [], ◌++◌, IfOk, IfSome, OnErr, drop, length, vec_capacity};
 ghost use Rattle.sp_base.specs.declared.limits.TheConstants.{MAX_MESSAGES};
 ghost use Rattle.sp_frame.specs.OfFormat.{AreOf};
 ghost use Rattle.sp_frame.specs.Views.{as_contents, as_list};
@@ -12,8 +12,12 @@ ghost use Rattle.sp_node_arrivals.specs.Arrival.{as_arrival};
 ghost use Rattle.sp_node_arrivals.specs.Done.{IsDone, items_of};
 ghost use Rattle.sp_node_arrivals.specs.Prio.{HasIds};
 ghost use Rattle.sp_node_arrivals.specs.Ready.{IsReady};
+ghost use Rattle.sp_node_arrivals.specs.Rel.{ground_of};
+ghost use Rattle.sp_node_arrivals.specs.Signed.{of_some};
+ghost use Rattle.sp_node_arrivals.specs.Slot.{IsSlotReady, slot_checks};
 ghost use Rattle.sp_node_arrivals.specs.Rooms.{frame_room, messages_room};
 ghost use Rattle.sp_node_arrivals.specs.Work.{frame_checks, section_checks};
+ghost use Rattle.sp_node_arrivals.specs.declared.arriving.TheConstants.{MOST_ANSWERS};
 ghost use Rattle.sp_node_format.specs.Format.{format_of};
 
 use crate::arrival::Arrival;
@@ -21,11 +25,11 @@ use crate::greeting::greet;
 use crate::slot::{SlotAnswers, SlotReady};
 use crate::{epoch, prio, slot, weight};
 use sp_base::{Four, Listed, MAX_MESSAGES, Memory, push_in_room};
-use sp_frame::{MOST_OBJECTS, Sections};
+use sp_frame::Sections;
 use sp_msg::{Effects, Kept};
 use sp_node_parts::Parts;
 use sp_prio::Parcel;
-use sp_rules::Item;
+use sp_rules::{FlowKind, Item};
 use sp_sign::Checker;
 use std::alloc::Global;
 
@@ -37,11 +41,12 @@ pub struct Arrived {
 }
 
 /// Takes the objects of a fresh frame from a neighbour, which are of the topology's format, in the order of the rules: the update of a weight, the
-/// acknowledged link number, the priority messages, the slot with its report, its acknowledgement and its messages, and the Epoch object. Before all of
-/// them, where another life of the neighbour began, what it reported in its life before is forgotten.
+/// acknowledged link number, the priority messages, the two slots, each with its report, its acknowledgement and its messages, and the Epoch object.
+/// Before all of them, where another life of the neighbour began, what it reported in its life before is forgotten.
 ///
 /// All memory is taken before anything changes, so it is refused for want of memory alone, and then nothing has changed. A signature is checked
-/// once for each object that may be new when its turn comes, and for no other: for none that names other boots than those that are held.
+/// once for each object that may be new when its turn comes, and for no other: for none that names other boots than those that are held, or came over
+/// an edge that its mask lacks.
 pub fn arrive(
     alloc: Global,
     at: &Arrival<'_>,
@@ -75,6 +80,7 @@ pub(crate) struct Ready {
     pub weight: Option<Kept>,
     pub prios: Four<Option<Parcel>>,
     pub slot: SlotReady,
+    pub paths: SlotReady,
     pub epoch: Option<Kept>,
 }
 
@@ -97,15 +103,46 @@ fn make_ready(
     let weight = weight::ready(alloc, at, parts, checker, &sections.weight)?;
     let epoch = epoch::ready(alloc, at, parts, checker, &sections.epoch)?;
     let prios = prio::ready_from(alloc, at, parts, checker, &sections.prios, 0)?;
-    match slot::ready(alloc, at, parts, checker, &sections.slot) {
-        Ok(slot) => Ok(Ready {
+    match slots(alloc, at, parts, checker, sections) {
+        Ok((slot, paths)) => Ok(Ready {
             weight,
             prios,
             slot,
+            paths,
             epoch,
         }),
         Err(memory) => {
             prio::leave(prios);
+            Err(memory)
+        }
+    }
+}
+
+/// Makes the objects of both slots ready.
+fn slots(
+    alloc: Global,
+    at: &Arrival<'_>,
+    parts: &Parts,
+    checker: &mut Checker,
+    sections: &Sections<'_>,
+) -> Result<(SlotReady, SlotReady), Memory>
+    requires formats { AreOf at.now.fixed.now.topology.format sections.now }
+    requires keys { checker.old.nodes ≡ at.now.fixed.now.topology.nodes }
+    ensures slot { IfOk result (λ ready. IfSome sections.now.slot (λ s.
+        IsSlotReady (ground_of (as_arrival at.now) parts.now) parts.now.rel s ready.0)) }
+    ensures paths { IfOk result (λ ready. IfSome sections.now.paths (λ s.
+        IsSlotReady (ground_of (as_arrival at.now) parts.now) parts.now.kflow.flows s ready.1)) }
+    ensures keys { checker.new.nodes ≡ checker.old.nodes }
+    ensures work { checker.new.checks ≤ checker.old.checks
+        + of_some (slot_checks (ground_of (as_arrival at.now) parts.now) parts.now.rel) sections.now.slot
+        + of_some (slot_checks (ground_of (as_arrival at.now) parts.now) parts.now.kflow.flows) sections.now.paths }
+    ensures few { checker.new.checks ≤ checker.old.checks + ((1 + MAX_MESSAGES) + (1 + 1)) }
+{
+    let slot = slot::ready(alloc, at, parts, checker, FlowKind::Plain, &sections.slot)?;
+    match slot::ready(alloc, at, parts, checker, FlowKind::Paths, &sections.paths) {
+        Ok(paths) => Ok((slot, paths)),
+        Err(memory) => {
+            slot::leave(slot);
             Err(memory)
         }
     }
@@ -127,21 +164,25 @@ fn room_for(
 ) -> Result<Room, Memory>
     ensures effects { IfOk result (λ room. room.effects ≡ record { list = []; room = frame_room (as_arrival at.now) parts.now sections.now }) }
     ensures empty { IfOk result (λ room. room.items.items ≡ []) }
-    ensures items { IfOk result (λ room. MOST_OBJECTS ≤ vec_capacity room.items) }
+    ensures items { IfOk result (λ room. MOST_ANSWERS ≤ vec_capacity room.items) }
 {
-    let ends = epoch::room_for(at, parts, &sections.epoch);
+    let Some(ends) = epoch::room_for(at, parts, &sections.epoch) else {
+        return Err(Memory);
+    };
     let effects = with_room(alloc, parts, ends)?;
-    let items = Vec::with_capacity(alloc, MOST_OBJECTS)?;
+    let items = Vec::with_capacity(alloc, MOST_ANSWERS)?;
     Ok(Room { effects, items })
 }
 
 /// No effects yet, with room for all that the messages of a frame can cause, and for so many ends of flows.
 fn with_room(alloc: Global, parts: &Parts, ends: usize) -> Result<Effects, Memory>
-    requires { ends < 2 ^ 63 + 5 }
     ensures { IfOk result (λ effects. effects ≡ record { list = []; room = messages_room parts.now.prio + ends }) }
 {
     let of_a_message = 2 * parts.prio.neighbours() + 3;
-    let room = 1 + MAX_MESSAGES + MAX_MESSAGES * of_a_message + MAX_MESSAGES + ends;
+    let of_messages = 1 + MAX_MESSAGES + MAX_MESSAGES * of_a_message + 2 * MAX_MESSAGES;
+    let Some(room) = of_messages.checked_add(ends) else {
+        return Err(Memory);
+    };
     match Effects::with_room(alloc, room) {
         Ok(effects) => Ok(effects),
         Err(_) => Err(Memory),
@@ -150,12 +191,16 @@ fn with_room(alloc: Global, parts: &Parts, ends: usize) -> Result<Effects, Memor
 
 // ---- what is taken. No call here can fail
 
+/// How many answers `Answers` can hold.
+const MOST_ANSWERS: usize = 1 + MAX_MESSAGES + 2 * (1 + MAX_MESSAGES) + 1;
+
 /// The answers to the objects of a frame.
 #[derive(Debug, Drop)]
 pub(crate) struct Answers {
     pub weight: Option<Item>,
     pub prios: Four<Item>,
     pub slot: SlotAnswers,
+    pub paths: SlotAnswers,
     pub epoch: Option<Item>,
 }
 
@@ -171,7 +216,7 @@ fn taken(
     requires ids { HasIds MAX_MESSAGES parts.old.prio }
     requires effects { room.effects ≡ record { list = []; room = frame_room (as_arrival at.now) parts.old sections.now } }
     requires empty { room.items.items ≡ [] }
-    requires items { MOST_OBJECTS ≤ vec_capacity room.items }
+    requires items { MOST_ANSWERS ≤ vec_capacity room.items }
     ensures { IsAdmitted
         (handle_all (format_of at.now.fixed.now) (as_arrival at.now) parts.old (pieces_of (as_contents sections.now)))
         parts.new result.items result.effects.list }
@@ -203,17 +248,20 @@ fn admit(
         weight,
         prios,
         slot,
+        paths,
         epoch,
     } = ready;
     let weight = weight::admit(at, parts, &sections.weight, weight, out);
     prio::acknowledge(parts, at.from, sections.prio_ack, out);
     let prios = prio::admit_from(at, parts, &sections.prios, 0, prios, out);
-    let slot = slot::admit(at, parts, &sections.slot, slot, out);
+    let slot = slot::admit(at, parts, FlowKind::Plain, &sections.slot, slot, out);
+    let paths = slot::admit(at, parts, FlowKind::Paths, &sections.paths, paths, out);
     let epoch = epoch::admit(at, parts, &sections.epoch, epoch, out);
     Answers {
         weight,
         prios,
         slot,
+        paths,
         epoch,
     }
 }
@@ -221,19 +269,22 @@ fn admit(
 /// The answers in their order, in a vector that has the room for all of them.
 fn listed(mut items: Vec<Item>, answers: Answers) -> Listed<Item>
     requires empty { items.items ≡ [] }
-    requires room { MOST_OBJECTS ≤ vec_capacity items }
+    requires room { MOST_ANSWERS ≤ vec_capacity items }
     ensures { result ≡ items_of answers }
 {
     let Answers {
         weight,
         prios,
         slot,
+        paths,
         epoch,
     } = answers;
     list_one(&mut items, weight);
     list_from(&mut items, &prios, 0);
     list_one(&mut items, slot.ack);
     list_from(&mut items, &slot.rels, 0);
+    list_one(&mut items, paths.ack);
+    list_from(&mut items, &paths.rels, 0);
     list_one(&mut items, epoch);
     Listed::from_vec(items)
 }

@@ -1,13 +1,12 @@
 // An Epoch object, in which a node says the boot of its life: whether it may be new, its copy, and its taking.
-ghost use Rattle.std.specs.Prelude.{◌≡◌, ◌≤◌, ◌<◌, ◌^◌, ◌+◌, IfOk, IfSome, is_some, length, map, option_map};
+ghost use Rattle.std.specs.Prelude.{◌≡◌, ◌≤◌, ◌+◌, IfOk, IfSome, is_some, length, map, option_map};
 ghost use Rattle.sp_frame.specs.OfFormat.{IsOf};
 ghost use Rattle.sp_frame.specs.Views.{as_list, as_object};
 ghost use Rattle.sp_msg.specs.Views.{as_body};
 ghost use Rattle.sp_rules.specs.Answers.{epoch_answer};
-ghost use Rattle.sp_rules.specs.Handle.{epoch_handled, handle_all};
+ghost use Rattle.sp_rules.specs.Handle.{epoch_handled, handle_all, met_effects};
 ghost use Rattle.sp_rules.specs.Lives.{judge_epoch, origin_said};
 ghost use Rattle.sp_rules.specs.Pieces.{EpochPiece};
-ghost use Rattle.sp_rules.specs.Rel.{restart_effects};
 ghost use Rattle.sp_rules.specs.Told.{told};
 ghost use Rattle.sp_node_arrivals.specs.Arrival.{as_arrival};
 ghost use Rattle.sp_node_arrivals.specs.Done.{IsDone};
@@ -21,7 +20,7 @@ use sp_base::{MAX_MESSAGES, Memory, NodeId};
 use sp_frame::ObjectRef;
 use sp_msg::{BodyRef, Effects, Kept};
 use sp_node_parts::Parts;
-use sp_rules::{EpochAnswer, EpochJudged, Item};
+use sp_rules::{EpochAnswer, EpochJudged, FlowKind, Item};
 use sp_sign::Checker;
 use std::alloc::Global;
 
@@ -55,28 +54,32 @@ pub(crate) fn ready(
     Ok(Some(copy_of(alloc, object)?))
 }
 
-/// The room for the ends that the Epoch object of a frame may tell: one of each flow that is active before the frame, or becomes so by its slot. None where
-/// it can't be new.
-pub(crate) fn room_for(at: &Arrival<'_>, parts: &Parts, epoch: &Option<ObjectRef<'_>>) -> usize
-    ensures room { result ≡ of_some (ends_room at.now.fixed.now.me parts.now.lives parts.now.rel) (option_map as_object epoch.now) }
-    ensures few { result < 2 ^ 63 + 5 }
+/// The room for the ends that the Epoch object of a frame may tell: one of each flow that is active before the frame, or becomes so by its slots; no room where
+/// it can't be new. None where no number of the machine's is so great.
+pub(crate) fn room_for(
+    at: &Arrival<'_>,
+    parts: &Parts,
+    epoch: &Option<ObjectRef<'_>>,
+) -> Option<usize>
+    ensures { IfSome result (λ room. room ≡ of_some (ends_room at.now.fixed.now.me parts.now) (option_map as_object epoch.now)) }
 {
     let Some(object) = epoch else {
-        return 0;
+        return Some(0);
     };
     let fixed = at.fixed;
     match judge(parts, fixed.me, &object.body) {
-        EpochJudged::New => ends(parts, &object.body) + 1 + MAX_MESSAGES,
-        EpochJudged::BadEnd | EpochJudged::Old => 0,
+        EpochJudged::New => ends(parts, &object.body)?.checked_add(2 * (1 + MAX_MESSAGES)),
+        EpochJudged::BadEnd | EpochJudged::Old => Some(0),
     }
 }
 
-/// How many flows end where another life of the message's node begins.
-fn ends(parts: &Parts, body: &BodyRef<'_>) -> usize
-    ensures count { result ≡ length (restart_effects parts.now.rel (origin_said (as_body body.now))) }
-    ensures few { result < 2 ^ 63 }
+/// How many flows end where another life of the message's node begins. None where no number of the machine's is so great.
+fn ends(parts: &Parts, body: &BodyRef<'_>) -> Option<usize>
+    ensures { IfSome result (λ count. count ≡ length (met_effects parts.now (origin_said (as_body body.now)))) }
 {
-    parts.rel.ended_count(origin_of(body))
+    let origin = origin_of(body);
+    let plain = parts.rel.ended_count(origin);
+    plain.checked_add(parts.kflow.flows.ended_count(origin))
 }
 
 /// The node that says its boot.
@@ -100,7 +103,7 @@ pub(crate) fn admit(
     requires ready { IfSome (option_map as_object epoch.now)
         (λ o. IsEpochReady at.now.fixed.now parts.old.lives o ready) }
     requires room { IfSome (option_map as_object epoch.now)
-        (λ o. HasEnds at.now.fixed.now.me parts.old.lives parts.old.rel out.old.room o) }
+        (λ o. HasEnds at.now.fixed.now.me parts.old out.old.room o) }
     ensures { IsDone
         (handle_all (format_of at.now.fixed.now) (as_arrival at.now) parts.old (map EpochPiece (as_list (option_map as_object epoch.now))))
         parts.new (as_list result) out.old out.new }
@@ -131,7 +134,7 @@ fn take(
     out: &mut Effects,
 ) -> EpochAnswer
     requires copy { IfSome ready (λ kept. kept ≡ as_object object.now) }
-    requires room { HasEnds me parts.old.lives parts.old.rel out.old.room (as_object object.now) }
+    requires room { HasEnds me parts.old out.old.room (as_object object.now) }
     ensures answer { result ≡ epoch_answer (is_some ready) (judge_epoch me parts.old.lives (as_object object.now).body) }
     ensures parts { parts.new ≡ (epoch_handled result (as_object object.now) parts.old).parts }
     ensures told { out.new ≡ told out.old (epoch_handled result (as_object object.now) parts.old).effects }
@@ -144,7 +147,8 @@ fn take(
                 return EpochAnswer::BadSig;
             };
             let origin = origin_of(&object.body);
-            parts.rel.restart(origin, out);
+            parts.rel.restart(FlowKind::Plain, origin, out);
+            parts.kflow.flows.restart(FlowKind::Paths, origin, out);
             parts.prio.renew(origin);
             parts.lives.hold(kept);
             EpochAnswer::New

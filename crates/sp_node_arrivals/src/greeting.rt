@@ -13,5 +13,6 @@ pub fn greet(at: &Arrival<'_>, parts: &mut Parts)
     if fixed.epochs && at.risen {
         parts.prio.forget(at.from);
         parts.rel.forget(at.from);
+        parts.kflow.flows.forget(at.from);
     }
 }

@@ -11,6 +11,7 @@ mod epoch;
 mod greeting;
 mod prio;
 mod rel;
+mod row;
 mod signed;
 mod slot;
 mod weight;

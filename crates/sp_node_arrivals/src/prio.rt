@@ -113,6 +113,7 @@ pub(crate) fn admit_from(
         parts.new result out.old out.new }
     ensures many { length result ≡ length prios.now - place }
     ensures rel { parts.new.rel ≡ parts.old.rel }
+    ensures kflow { parts.new.kflow ≡ parts.old.kflow }
     ensures lives { parts.new.lives ≡ parts.old.lives }
     ensures room { out.old.room ≤ out.new.room + (MAX_MESSAGES - place) * prio_room parts.old.prio }
 {
@@ -142,6 +143,7 @@ fn admit_one(
         (handle_all (format_of at.now.fixed.now) (as_arrival at.now) parts.old (PrioPiece number (as_object object.now) ∷ []))
         parts.new (result ∷ []) out.old out.new }
     ensures rel { parts.new.rel ≡ parts.old.rel }
+    ensures kflow { parts.new.kflow ≡ parts.old.kflow }
     ensures lives { parts.new.lives ≡ parts.old.lives }
     ensures room { out.old.room ≤ out.new.room + prio_room parts.old.prio }
 {

@@ -10,23 +10,27 @@ ghost use Rattle.sp_rel.specs.Places.{IsPlace};
 ghost use Rattle.sp_rel.specs.Seated.{IsSeated};
 ghost use Rattle.sp_rules.specs.Answers.{is_new, rel_answer};
 ghost use Rattle.sp_rules.specs.Changes.{FitsAFormat};
-ghost use Rattle.sp_rules.specs.Handle.{handle_all, rel_handled};
+ghost use Rattle.sp_rules.specs.Handle.{handle_all, rel_handled, rel_item};
+ghost use Rattle.sp_rules.specs.Kflow.{came_over};
+ghost use Rattle.sp_rules.specs.Parts.{flows_of};
+ghost use Rattle.sp_rules.specs.declared.kflow.FlowKind.{FlowKind};
 ghost use Rattle.sp_rules.specs.Lives.{is_dated};
 ghost use Rattle.sp_rules.specs.Pieces.{RelPiece};
 ghost use Rattle.sp_rules.specs.Rel.{judge_rel_of};
 ghost use Rattle.sp_rules.specs.Told.{told};
 ghost use Rattle.sp_node_arrivals.specs.Arrival.{as_arrival};
 ghost use Rattle.sp_node_arrivals.specs.Done.{IsDone};
-ghost use Rattle.sp_node_arrivals.specs.Rel.{AreRelsReady, IsRelReady, StaysReady, is_followed, may_be_new, rel_checks, rels_checks};
+ghost use Rattle.sp_node_arrivals.specs.Rel.{AreRelsReady, IsRelReady, StaysReady, ground_of, is_followed, may_be_new, rel_checks, rels_checks};
 ghost use Rattle.sp_node_format.specs.Format.{format_of};
 
 use crate::arrival::Arrival;
+use crate::row::{Row, came_over, rel_item};
 use crate::signed::{copy_of, is_right, recall};
-use sp_base::{Bytes, Four, Memory};
+use sp_base::{Bytes, Four, Memory, NodeId};
 use sp_frame::ObjectRef;
 use sp_msg::{BodyRef, Effects, Kept};
 use sp_node_parts::Parts;
-use sp_rel::{Place, RelJudged, Seat};
+use sp_rel::{RelJudged, Seat};
 use sp_rules::{Item, RelAnswer};
 use sp_sign::Checker;
 use std::alloc::Global;
@@ -37,20 +41,21 @@ pub(crate) fn ready_from(
     at: &Arrival<'_>,
     parts: &Parts,
     checker: &mut Checker,
-    row: Place,
+    row: Row,
     rels: &Four<ObjectRef<'_>>,
     place: usize,
     moved: bool,
 ) -> Result<Four<Option<(Kept, Bytes, Seat)>>, Memory>
     requires formats { All (IsOf at.now.fixed.now.topology.format) rels.now }
     requires keys { checker.old.nodes ≡ at.now.fixed.now.topology.nodes }
-    requires place { IsPlace parts.now.rel.flows row }
-    ensures ready { IfOk result (AreRelsReady moved at.now.fixed.now parts.now.lives parts.now.rel row.flow (map as_object (drop place rels.now))) }
+    requires place { IsPlace (flows_of row.kind parts.now).flows row.place }
+    ensures ready { IfOk result (AreRelsReady moved (ground_of (as_arrival at.now) parts.now) (flows_of row.kind parts.now) row.place.flow
+        (map as_object (drop place rels.now))) }
     ensures many { IfOk result (λ ready. length ready ≡ length rels.now - place) }
     ensures keys { checker.new.nodes ≡ checker.old.nodes }
     ensures work { checker.new.checks ≤ checker.old.checks
-        + rels_checks moved at.now.fixed.now parts.now.lives parts.now.rel row.flow (map as_object (drop place rels.now)) }
-    ensures few { checker.new.checks ≤ checker.old.checks + (MAX_MESSAGES - place) }
+        + rels_checks moved (ground_of (as_arrival at.now) parts.now) (flows_of row.kind parts.now) row.place.flow (map as_object (drop place rels.now)) }
+    ensures few { checker.new.checks ≤ checker.old.checks + (length rels.now - place) }
 {
     let Some(object) = rels.get(place) else {
         return Ok(Four::new());
@@ -66,20 +71,26 @@ fn ready_one(
     at: &Arrival<'_>,
     parts: &Parts,
     checker: &mut Checker,
-    row: Place,
+    row: Row,
     object: &ObjectRef<'_>,
     moved: bool,
 ) -> Result<Option<(Kept, Bytes, Seat)>, Memory>
     requires format { IsOf at.now.fixed.now.topology.format object.now }
     requires keys { checker.old.nodes ≡ at.now.fixed.now.topology.nodes }
-    requires place { IsPlace parts.now.rel.flows row }
-    ensures ready { IfOk result (IsRelReady moved at.now.fixed.now parts.now.lives parts.now.rel row.flow (as_object object.now)) }
+    requires place { IsPlace (flows_of row.kind parts.now).flows row.place }
+    ensures ready { IfOk result (IsRelReady moved (ground_of (as_arrival at.now) parts.now) (flows_of row.kind parts.now) row.place.flow
+        (as_object object.now)) }
     ensures keys { checker.new.nodes ≡ checker.old.nodes }
-    ensures work { checker.new.checks ≤ checker.old.checks + rel_checks moved parts.now.lives parts.now.rel row.flow (as_object object.now) }
-    ensures new { IfOk result (λ ready. is_some ready ≡ is_followed moved at.now.fixed.now parts.now.lives parts.now.rel row.flow (as_object object.now)) }
+    ensures work { checker.new.checks ≤ checker.old.checks
+        + rel_checks moved (ground_of (as_arrival at.now) parts.now) (flows_of row.kind parts.now) row.place.flow (as_object object.now) }
+    ensures new { IfOk result (λ ready. is_some ready
+        ≡ is_followed moved (ground_of (as_arrival at.now) parts.now) (flows_of row.kind parts.now) row.place.flow (as_object object.now)) }
     ensures few { checker.new.checks ≤ checker.old.checks + 1 }
 {
     if !parts.lives.is_dated(&object.body) {
+        return Ok(None);
+    }
+    if !came_over(parts, at.from, &object.body) {
         return Ok(None);
     }
     if !may_be_new(moved, judge(parts, row, &object.body)) {
@@ -90,7 +101,7 @@ fn ready_one(
     }
     let kept = copy_of(alloc, object)?;
     let payload = payload_of(alloc, &object.body)?;
-    let Ok(seat) = parts.rel.seat(alloc, row) else {
+    let Ok(seat) = parts.flows(row.kind).seat(alloc, row.place) else {
         return Err(Memory);
     };
     Ok(Some((kept, payload, seat)))
@@ -107,19 +118,21 @@ pub(crate) fn leave(ready: Four<Option<(Kept, Bytes, Seat)>>) {
 pub(crate) fn admit_from(
     at: &Arrival<'_>,
     parts: &mut Parts,
-    row: Place,
+    row: Row,
     rels: &Four<ObjectRef<'_>>,
     place: usize,
     ready: Four<Option<(Kept, Bytes, Seat)>>,
     out: &mut Effects,
 ) -> Four<Item>
-    requires place { IsPlace parts.old.rel.flows row }
-    requires ready { AreRelsReady false at.now.fixed.now parts.old.lives parts.old.rel row.flow (map as_object (drop place rels.now)) ready }
+    requires place { IsPlace (flows_of row.kind parts.old).flows row.place }
+    requires ready { AreRelsReady false (ground_of (as_arrival at.now) parts.old) (flows_of row.kind parts.old) row.place.flow
+        (map as_object (drop place rels.now)) ready }
     requires room { MAX_MESSAGES - place ≤ out.old.room }
     ensures done { IsDone
-        (handle_all (format_of at.now.fixed.now) (as_arrival at.now) parts.old (map (RelPiece row.flow) (map as_object (drop place rels.now))))
+        (handle_all (format_of at.now.fixed.now) (as_arrival at.now) parts.old (map (RelPiece row.kind row.place.flow) (map as_object (drop place rels.now))))
         parts.new result out.old out.new }
     ensures many { length result ≡ length rels.now - place }
+    ensures room { out.old.room ≤ out.new.room + (MAX_MESSAGES - place) }
 {
     let Some((first, others)) = ready.split() else {
         return Four::new();
@@ -135,35 +148,40 @@ pub(crate) fn admit_from(
 fn admit_one(
     at: &Arrival<'_>,
     parts: &mut Parts,
-    row: Place,
+    row: Row,
     object: &ObjectRef<'_>,
     ready: Option<(Kept, Bytes, Seat)>,
     out: &mut Effects,
 ) -> Item
-    requires place { IsPlace parts.old.rel.flows row }
-    requires ready { IsRelReady false at.now.fixed.now parts.old.lives parts.old.rel row.flow (as_object object.now) ready }
+    requires place { IsPlace (flows_of row.kind parts.old).flows row.place }
+    requires ready { IsRelReady false (ground_of (as_arrival at.now) parts.old) (flows_of row.kind parts.old) row.place.flow (as_object object.now) ready }
     requires room { 1 ≤ out.old.room }
     ensures done { IsDone
-        (handle_all (format_of at.now.fixed.now) (as_arrival at.now) parts.old (RelPiece row.flow (as_object object.now) ∷ []))
+        (handle_all (format_of at.now.fixed.now) (as_arrival at.now) parts.old (RelPiece row.kind row.place.flow (as_object object.now) ∷ []))
         parts.new (result ∷ []) out.old out.new }
-    ensures lives { parts.new.lives ≡ parts.old.lives }
-    ensures stays { StaysReady (is_some ready) at.now.fixed.now parts.old.lives row.flow parts.old.rel parts.new.rel }
+    ensures ground { ground_of (as_arrival at.now) parts.new ≡ ground_of (as_arrival at.now) parts.old }
+    ensures stays { StaysReady (is_some ready) (ground_of (as_arrival at.now) parts.old) row.place.flow
+        (flows_of row.kind parts.old) (flows_of row.kind parts.new) }
     ensures room { out.old.room ≤ out.new.room + 1 }
-    ensures place { IsPlace parts.new.rel.flows row }
+    ensures place { IsPlace (flows_of row.kind parts.new).flows row.place }
 {
     recall(object);
-    let answer = take(parts, row, object, ready, out);
-    Item::Rel(answer)
+    let answer = take(at.from, parts, row, object, ready, out);
+    rel_item(row.kind, answer)
 }
 
 /// What is said of a message of a slot, but for its signature.
-fn judge(parts: &Parts, row: Place, body: &BodyRef<'_>) -> RelJudged
-    requires place { IsPlace parts.now.rel.flows row }
-    ensures { result ≡ judge_rel_of parts.now.rel row.flow (as_body body.now) }
+fn judge(parts: &Parts, row: Row, body: &BodyRef<'_>) -> RelJudged
+    requires place { IsPlace (flows_of row.kind parts.now).flows row.place }
+    ensures { result ≡ judge_rel_of (flows_of row.kind parts.now) row.place.flow (as_body body.now) }
 {
     match body {
-        BodyRef::Rel(rel) => parts.rel.judge_rel(row, rel.src, rel.dst, rel.seq),
-        BodyRef::Krel(krel) => parts.rel.judge_rel(row, krel.src, krel.dst, krel.seq),
+        BodyRef::Rel(rel) => parts
+            .flows(row.kind)
+            .judge_rel(row.place, rel.src, rel.dst, rel.seq),
+        BodyRef::Krel(krel) => parts
+            .flows(row.kind)
+            .judge_rel(row.place, krel.src, krel.dst, krel.seq),
         _ => RelJudged::BadEnd,
     }
 }
@@ -196,27 +214,31 @@ fn payload_of(alloc: Global, body: &BodyRef<'_>) -> Result<Bytes, Memory>
 
 /// Keeps or delivers the message where it is new. `ready` is a copy of it where its signature is right, with memory for its delivery and for its flow.
 fn take(
+    from: NodeId,
     parts: &mut Parts,
-    row: Place,
+    row: Row,
     object: &ObjectRef<'_>,
     ready: Option<(Kept, Bytes, Seat)>,
     out: &mut Effects,
 ) -> RelAnswer
-    requires place { IsPlace parts.old.rel.flows row }
+    requires place { IsPlace (flows_of row.kind parts.old).flows row.place }
     requires fields { FitsAFormat (as_object object.now).body }
     requires copy { IfSome ready (λ r. r.0 ≡ as_object object.now) }
     requires payload { IfSome ready (λ r. r.1 ≡ payload_of (as_object object.now).body) }
-    requires seat { IfSome ready (λ r. IsSeated parts.old.rel row.flow r.2) }
+    requires seat { IfSome ready (λ r. IsSeated (flows_of row.kind parts.old) row.place.flow r.2) }
     requires room { 1 ≤ out.old.room }
     ensures answer { result ≡ rel_answer (is_some ready) (is_dated parts.old.lives (as_object object.now).body)
-        (judge_rel_of parts.old.rel row.flow (as_object object.now).body) }
-    ensures parts { parts.new ≡ (rel_handled result (as_object object.now) parts.old).parts }
-    ensures told { out.new ≡ told out.old (rel_handled result (as_object object.now) parts.old).effects }
-    ensures place { IsPlace parts.new.rel.flows row }
+        (came_over parts.old.kflow from (as_object object.now).body) (judge_rel_of (flows_of row.kind parts.old) row.place.flow (as_object object.now).body) }
+    ensures parts { parts.new ≡ (rel_handled row.kind result (as_object object.now) parts.old).parts }
+    ensures told { out.new ≡ told out.old (rel_handled row.kind result (as_object object.now) parts.old).effects }
+    ensures place { IsPlace (flows_of row.kind parts.new).flows row.place }
 {
     let judged = judge(parts, row, &object.body);
     if !parts.lives.is_dated(&object.body) {
         return undated(judged);
+    }
+    if !came_over(parts, from, &object.body) {
+        return off_mask(judged);
     }
     let RelJudged::New = judged else {
         return refusal(judged);
@@ -224,14 +246,14 @@ fn take(
     let Some((kept, payload, seat)) = ready else {
         return RelAnswer::BadSig;
     };
-    parts.rel.admit_rel(kept, payload, row, seat, out);
+    parts.admit_rel(row.kind, kept, payload, row.place, seat, out);
     RelAnswer::New
 }
 
 /// The answer to a message that names another boot of an end than the one that is held, whether its signature is right or not.
 fn undated(judged: RelJudged) -> RelAnswer
-    ensures answer { (right : Bool) → result ≡ rel_answer right false judged }
-    ensures quiet { is_new (Item.Rel result) ≡ false }
+    ensures answer { (right over : Bool) → result ≡ rel_answer right false over judged }
+    ensures quiet { (kind : FlowKind) → is_new (rel_item kind result) ≡ false }
 {
     match judged {
         RelJudged::BadEnd => RelAnswer::BadEnd,
@@ -244,11 +266,27 @@ fn undated(judged: RelJudged) -> RelAnswer
     }
 }
 
+/// The answer to one under held boots that came over an edge that isn't in its mask, whether its signature is right or not.
+fn off_mask(judged: RelJudged) -> RelAnswer
+    ensures answer { (right : Bool) → result ≡ rel_answer right true false judged }
+    ensures quiet { (kind : FlowKind) → is_new (rel_item kind result) ≡ false }
+{
+    match judged {
+        RelJudged::BadEnd => RelAnswer::BadEnd,
+        RelJudged::Old
+        | RelJudged::Ahead
+        | RelJudged::Gap
+        | RelJudged::Full
+        | RelJudged::InboxFull
+        | RelJudged::New => RelAnswer::OffMask,
+    }
+}
+
 /// The answer to one under held boots that isn't new, whether its signature is right or not.
 fn refusal(judged: RelJudged) -> RelAnswer
     requires { judged ≢ RelJudged.New }
-    ensures answer { (right : Bool) → result ≡ rel_answer right true judged }
-    ensures quiet { is_new (Item.Rel result) ≡ false }
+    ensures answer { (right : Bool) → result ≡ rel_answer right true true judged }
+    ensures quiet { (kind : FlowKind) → is_new (rel_item kind result) ≡ false }
 {
     match judged {
         RelJudged::BadEnd => RelAnswer::BadEnd,

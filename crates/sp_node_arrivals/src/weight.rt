@@ -71,6 +71,7 @@ pub(crate) fn admit(
         parts.new (as_list result) out.old out.new }
     ensures prio { parts.new.prio ≡ parts.old.prio }
     ensures rel { parts.new.rel ≡ parts.old.rel }
+    ensures kflow { parts.new.kflow ≡ parts.old.kflow }
     ensures lives { parts.new.lives ≡ parts.old.lives }
     ensures room { out.old.room ≤ out.new.room + 1 }
 {

@@ -1,3 +1,4 @@
 pub mod FormatFits
 pub mod GoodFields
+pub mod ObjectLengths
 pub mod PolledFrames

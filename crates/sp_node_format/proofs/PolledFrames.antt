@@ -1,6 +1,6 @@
 -- A frame that a node makes is read back: its length first, and then each part where it was put.
 use Rattle.std.proofs.Common.{◌≡◌, ◌≤◌, ℕ, ◌+◌, ◌-◌, ◌*◌, ◌||◌, ◌==◌, ◌<◌, if◌then◌else◌, inl, inr, Bool, true, false, List, [], ◌∷◌, ◌++◌, length, drop}
-use Rattle.std.proofs.Common.{flat_map, Option, Some, None, Ok, nat_eq, append_assoc, length-append, refl, sym, ap, ap₂, ◌∙◌, subst, arith, cond}
+use Rattle.std.proofs.Common.{Option, Some, None, Ok, nat_eq, append_assoc, length-append, refl, sym, ap, ap₂, ◌∙◌, subst, arith, cond}
 use Rattle.std.specs.Prelude.{IfSome}
 use Rattle.std.specs.List.{All, list_any}
 use Rattle.std.specs.Cmp.Lexicographic.{pointwise}
@@ -10,35 +10,28 @@ use Rattle.std.proofs.lemmas.List.Elements.{All-head, All-tail}
 use Rattle.byteorder.specs.Endian.{big_bytes}
 use Rattle.sha2.proofs.Facts256.{length-sha256}
 use Rattle.sp_base.specs.Rows.{first_where}
-use Rattle.sp_base.specs.Formats.{IsFormat, by_format}
+use Rattle.sp_base.specs.Formats.{IsFormat}
 use Rattle.sp_base.specs.declared.format.TheConstants.{FORMAT_1}
 use Rattle.sp_base.specs.declared.id.NodeId.{NodeId}
 use Rattle.sp_base.specs.declared.limits.TheConstants.{MAX_MESSAGES}
 use Rattle.sp_node_format.specs.Format.{format_of}
-use Rattle.sp_frame.proofs.LengthLemmas.{place_long}
 use Rattle.sp_frame.proofs.HeadLemmas.{head_is_read}
 use Rattle.sp_frame.proofs.SectionLemmas.{spelled_is_read}
 use Rattle.sp_frame.specs.Frames.{ends_bytes, head_bytes, head_of, numbers_bytes, opened_in, tagged_part, tag_part}
-use Rattle.sp_frame.specs.Grammar.{counted_bytes, later_bytes}
+use Rattle.sp_frame.specs.Grammar.{later_bytes}
 use Rattle.sp_frame.specs.Objects.{IsObject, most, object_bytes}
 use Rattle.sp_frame.specs.Prioritized.{numbered_bytes, prios_bytes}
 use Rattle.sp_frame.specs.Probes.{epoch_bytes, probe_bytes, probes_bytes}
 use Rattle.sp_frame.specs.Ranges.{IsContentsIn, IsHead, IsNumbered, IsReport, Later}
-use Rattle.sp_frame.specs.Reliable.{Report, ack_bytes, paths_bytes, place_bytes, rels_bytes, report_bytes, slot_bytes}
+use Rattle.sp_frame.specs.Reliable.{Report, paths_bytes, report_bytes, slot_bytes}
 use Rattle.sp_frame.specs.Sections.{Contents, control_bytes, document_bytes, plain_bytes, sections_bytes_in, sections_of_in, sized_bytes, with_document}
 use Rattle.sp_frame.specs.Sections.{zeros_bytes}
 use Rattle.sp_frame.specs.Weights.{weights_bytes}
 use Rattle.sp_frame.specs.declared.head.Head.{Head}
-use Rattle.sp_frame.specs.declared.kind.Kind.{Kind}
 use Rattle.sp_frame.specs.declared.kind.Kind.TheVariants as kinds
 use Rattle.sp_frame.specs.declared.probe.Probe.{Probe}
 use Rattle.sp_frame.specs.declared.writing.TheConstants.{MAX_DOCUMENT_BYTES}
 use Rattle.sp_hmac.specs.Hmac.{block_hmac, hmac}
-use Rattle.sp_msg.proofs.GoodFields.{good_krel, good_prio, good_rel}
-use Rattle.sp_msg.proofs.LongLemmas.{ack_long, epoch_long, kack_long, krel_long, prio_long, rel_long}
-use Rattle.sp_msg.specs.Bodies.{HasGoodFieldsIn, encoded_in}
-use Rattle.sp_msg.specs.declared.body.Body.{Body}
-use Rattle.sp_msg.specs.declared.body.Body.TheVariants as bodies
 use Rattle.sp_msg.specs.declared.kept.Kept.{Kept}
 use Rattle.sp_rules.specs.Link.{new_link}
 use Rattle.sp_rules.specs.Node.{NodeState, is_behind, is_link, is_neighbour, is_shut_to, link_in}
@@ -46,6 +39,7 @@ use Rattle.sp_rules.specs.Polls.{contents_at, contents_to, head_to, no_contents}
 use Rattle.sp_topology.specs.declared.topology.LmsHeight.TheVariants as heights
 use Rattle.laws_node.proofs.Frames.{frames_fit}
 use Rattle.laws_node.specs.Nodes.{IsKept, LinkHolds}
+use Rattle.sp_node_format.proofs.ObjectLengths.{by_most, counted_len, object_len, report_len, short_len, two_bytes}
 use Rattle.sp_node_format.specs.PolledFrames.{PolledIsReadBack, Reads, SignaturesAreShort, most_signature}
 
 -- ---- lengths
@@ -54,110 +48,17 @@ pub signatures_are_short : SignaturesAreShort
 signatures_are_short heights.Five = omega arith
 signatures_are_short heights.Ten = omega arith
 
-by_most : (format a b most : ℕ) → a ≤ most → b ≤ most → by_format format a b ≤ most
-by_most format a b most one two = go (format == FORMAT_1)
-  where
-    go : (t : Bool) → (if t then a else b) ≤ most
-    go true = one
-    go false = two
-
--- whatever the format: a priority message of format 2 with the longest payload is the longest
-body_len : (format : ℕ) (body : Body) → HasGoodFieldsIn format body → length (encoded_in format body) ≤ 1086
-body_len format (bodies.Prio p) good =
-    omega (arith, prio_long format p, by_most format 38 62 62 (omega arith) (omega arith), (good_prio format p good).payload)
-body_len format (bodies.Rel r) good =
-    omega (arith, rel_long format r, by_most format 13 29 29 (omega arith) (omega arith), (good_rel format r good).payload)
-body_len format (bodies.Krel r) good =
-    omega (arith, krel_long format r, by_most format 29 61 61 (omega arith) (omega arith), (good_krel format r good).payload)
-body_len format (bodies.Ack a) good = omega (arith, ack_long format a, by_most format 11 27 27 (omega arith) (omega arith))
-body_len format (bodies.Kack a) good = omega (arith, kack_long format a, by_most format 11 27 27 (omega arith) (omega arith))
-body_len format (bodies.Epoch e) good = omega (arith, epoch_long format e, by_most format 2 10 10 (omega arith) (omega arith))
-body_len format (bodies.Weight w) good = omega arith
-
-four : (a b c d : List ℕ) → length (a ++ b ++ c ++ d) ≡ length a + length b + length c + length d
-four a b c d =
-    let one = length-append ((a ++ b) ++ c) d in
-    let two = length-append (a ++ b) c in
-    let three = length-append a b in
-    let right_one = length-append a (b ++ (c ++ d)) in
-    let right_two = length-append b (c ++ d) in
-    let right_three = length-append c d in
-    omega (arith, one, two, three, right_one, right_two, right_three)
-
-two_bytes : (n : ℕ) → length (big_bytes 2 n) ≡ 2
-two_bytes n = omega arith
-
-object_size : (body signature : List ℕ) (len : ℕ) → length body ≤ 1086 → length signature ≡ len → len ≤ most_signature
-    → length (big_bytes 2 (length body) ++ body ++ big_bytes 2 (length signature) ++ signature) ≤ 6166
-object_size body signature len short long small =
-    subst (λ (k : ℕ). k ≤ 6166) (sym (four (big_bytes 2 (length body)) body (big_bytes 2 (length signature)) signature))
-    (let one = two_bytes (length body) in let two = two_bytes (length signature) in omega (arith, short, long, small, one, two))
-
-object_len : (format : ℕ) (kind : Kind) (len : ℕ) → len ≤ most_signature → (o : Kept) → IsObject format kind len o → length (object_bytes format o) ≤ 6166
-unfolding object_bytes
-object_len format kind len small o is = object_size (encoded_in format o.body) o.signature len (body_len format o.body is.fields) is.long small
+-- ---- the parts of a frame
 
 numbered_len : (format : ℕ) (len : ℕ) → len ≤ most_signature → (m : ℕ × Kept) → IsNumbered format len m → length (numbered_bytes format m) ≤ 6174
 unfolding numbered_bytes
 numbered_len format len small m is = let one = object_len format kinds.Prio len small m.1 is.object in omega (arith, one)
 
-all_len : {X : Type 0} (P : X → Type 0) (spell : X → List ℕ) (each_most : ℕ) → ((x : X) → P x → length (spell x) ≤ each_most) → (xs : List X) → All P xs
-    → length (flat_map spell xs) ≤ each_most * length xs
-all_len P spell each_most each [] all = omega arith
-all_len P spell each_most each (x ∷ xs) all =
-    let one = each x (All-head P x xs all) in
-    let others = all_len P spell each_most each xs (All-tail P x xs all) in
-    let together = length-append (spell x) (flat_map spell xs) in
-    grind (arith, one, others, together)
-
-counted_len : {X : Type 0} (P : X → Type 0) (spell : X → List ℕ) (each_most : ℕ) → ((x : X) → P x → length (spell x) ≤ each_most) → (xs : List X) → All P xs
-    → length (counted_bytes spell xs) ≤ each_most * length xs + 1
-counted_len P spell each_most each xs all = let spelled = all_len P spell each_most each xs all in omega (arith, spelled)
-
-ack_len : (format : ℕ) (len : ℕ) → len ≤ most_signature → (o : Option Kept) → IfSome o (IsObject format kinds.Ack len) → length (ack_bytes format o) ≤ 6167
-unfolding ack_bytes
-ack_len format len small None is = omega arith
-ack_len format len small (Some o) is = let one = object_len format kinds.Ack len small o is in omega (arith, one)
-
-three : (a b c : List ℕ) → length (a ++ b ++ c) ≡ length a + length b + length c
-three a b c =
-    let one = length-append (a ++ b) c in
-    let two = length-append a b in
-    let right_one = length-append a (b ++ c) in
-    let right_two = length-append b c in
-    omega (arith, one, two, right_one, right_two)
-
-place_len : (format : ℕ) (r : Report) → length (place_bytes format r) ≤ 34
-unfolding place_bytes
-place_len format r = omega (arith, place_long format r, by_most format 0 8 8 (omega arith) (omega arith))
-
--- with at most so many messages
-rels_len : (format len few : ℕ) → len ≤ most_signature → (rs : List Kept) → All (IsObject format kinds.Rel len) rs → length rs ≤ few
-    → length (rels_bytes format rs) ≤ 6166 * few + 1
-unfolding rels_bytes
-rels_len format len few small rs all within =
-    let counted = counted_len (IsObject format kinds.Rel len) (object_bytes format) 6166 (object_len format kinds.Rel len small) rs all in
-    omega (arith, within, counted)
-
-report_len : (format len few : ℕ) → len ≤ most_signature → most format kinds.Rel ≤ few → (r : Report) → IsReport format kinds.Ack kinds.Rel len r
-    → length (report_bytes format r) ≤ 6166 * few + 6202
-unfolding report_bytes
-report_len format len few small most_few r is =
-    subst (λ (k : ℕ). k ≤ 6166 * few + 6202) (sym (three (place_bytes format r) (ack_bytes format r.ack) (rels_bytes format r.rels)))
-    (let place = place_len format r in let acks = ack_len format len small r.ack is.ack in let within = is.few in
-    let rels = rels_len format len few small r.rels is.rels (omega (arith, within, most_few)) in omega (arith, place, acks, rels))
-
-slot_len : (format len few : ℕ) → len ≤ most_signature → most format kinds.Rel ≤ few → (s : Option Report) → IfSome s (IsReport format kinds.Ack kinds.Rel len)
-    → length (slot_bytes format s) ≤ 6166 * few + 6203
-unfolding slot_bytes
-slot_len format len few small most_few None is = omega arith
-slot_len format len few small most_few (Some r) is = let one = report_len format len few small most_few r is in omega (arith, one)
-
 weights_len : (format : ℕ) (len : ℕ) → len ≤ most_signature → (os : List Kept) → All (IsObject format kinds.Weight len) os → length os ≤ 1
-    → length (weights_bytes format os) ≤ 6167
+    → length (weights_bytes format os) ≤ 5109
 unfolding weights_bytes
 weights_len format len small os all few =
-    let counted = counted_len (IsObject format kinds.Weight len) (object_bytes format) 6166 (object_len format kinds.Weight len small) os all in
+    let counted = counted_len (IsObject format kinds.Weight len) (object_bytes format) 5108 (short_len format kinds.Weight len refl small) os all in
     omega (arith, few, counted)
 
 prios_len : (format : ℕ) (len : ℕ) → len ≤ most_signature → (ms : List (ℕ × Kept)) → All (IsNumbered format len) ms → length ms ≤ MAX_MESSAGES
@@ -170,14 +71,7 @@ prios_len format len small ms all few =
 eight_bytes : (n : ℕ) → length (big_bytes 8 n) ≡ 8
 eight_bytes n = omega arith
 
--- a part that the frame doesn't have is one byte at most
-no_paths : (format : ℕ) → length (paths_bytes format None) ≤ 1
-unfolding paths_bytes
-no_paths format = go (format == FORMAT_1)
-  where
-    go : (t : Bool) → length (later_bytes (report_bytes format) t None) ≤ 1
-    go true = omega arith
-    go false = omega arith
+-- ---- the parts that format 1 lacks
 
 no_probe : (format : ℕ) → length (probes_bytes format None) ≤ 1
 unfolding probes_bytes
@@ -187,34 +81,44 @@ no_probe format = go (format == FORMAT_1)
     go true = omega arith
     go false = omega arith
 
-no_epoch : (format : ℕ) → length (epoch_bytes format None) ≤ 1
-unfolding epoch_bytes
-no_epoch format = go (format == FORMAT_1)
-  where
-    go : (t : Bool) → length (later_bytes (object_bytes format) t None) ≤ 1
-    go true = omega arith
-    go false = omega arith
+slot_len : (format len few : ℕ) → len ≤ most_signature → most format kinds.Rel ≤ few → (s : Option Report)
+    → IfSome s (IsReport format kinds.Ack kinds.Rel len) → length (slot_bytes format s) ≤ 6166 * few + 5145
+unfolding slot_bytes
+slot_len format len few small most_few None is = omega arith
+slot_len format len few small most_few (Some r) is =
+    let one = report_len format kinds.Ack kinds.Rel len few refl small most_few r is in omega (arith, one)
 
-epoch_len : (format len : ℕ) → len ≤ most_signature → (o : Kept) → IsObject format kinds.Epoch len o → length (epoch_bytes format (Some o)) ≤ 6167
-unfolding epoch_bytes
-epoch_len format len small o is = go (format == FORMAT_1)
-  where
-    go : (t : Bool) → length (later_bytes (object_bytes format) t (Some o)) ≤ 6167
-    go true = omega arith
-    go false = let one = object_len format kinds.Epoch len small o is in omega (arith, one)
+paths_len : (format len : ℕ) → len ≤ most_signature → (t : Bool) (s : Option Report) → IfSome s (Later format (IsReport format kinds.Kack kinds.Krel len))
+    → length (later_bytes (report_bytes format) t s) ≤ 11311
+paths_len format len small true s is = omega arith
+paths_len format len small false None is = omega arith
+paths_len format len small false (Some r) is =
+    let one = report_len format kinds.Kack kinds.Krel len 1 refl small (omega arith) r is.1 in omega (arith, one)
 
--- a slot with an Epoch object has two messages less
-last_len : (format len : ℕ) → len ≤ most_signature → (s : Option Report) → IfSome s (IsReport format kinds.Ack kinds.Rel len) → (o : Option Kept)
-    → IfSome o (Later format (IsObject format kinds.Epoch len)) → length (slot_bytes format s) + length (epoch_bytes format o) ≤ 30869
-last_len format len small s is None later =
-    let slot = slot_len format len 4 small (by_most format MAX_MESSAGES 2 4 (omega arith) (omega arith)) s is in
-    let none = no_epoch format in
-    omega (arith, slot, none)
-last_len format len small s is (Some o) later =
-    let few : most format kinds.Rel ≤ 2 = rw later.0 (omega arith) in
-    let slot = slot_len format len 2 small few s is in
-    let one = epoch_len format len small o later.1 in
-    omega (arith, slot, one)
+epoch_len : (format len : ℕ) → len ≤ most_signature → (t : Bool) (o : Option Kept) → IfSome o (Later format (IsObject format kinds.Epoch len))
+    → length (later_bytes (object_bytes format) t o) ≤ 5109
+epoch_len format len small true o is = omega arith
+epoch_len format len small false None is = omega arith
+epoch_len format len small false (Some o) is = let one = short_len format kinds.Epoch len refl small o is.1 in omega (arith, one)
+
+-- a plain slot has two messages less where the other parts may be
+slots_len : (format len : ℕ) → len ≤ most_signature → (s : Contents) → IsContentsIn format len s
+    → length (slot_bytes format s.slot) + length (paths_bytes format s.paths) + length (epoch_bytes format s.epoch) ≤ 33897
+unfolding paths_bytes epoch_bytes
+slots_len format len small s is = go (format == FORMAT_1) refl
+  where
+    go : (t : Bool) → (format == FORMAT_1) ≡ t
+        → length (slot_bytes format s.slot) + length (later_bytes (report_bytes format) t s.paths) + length (later_bytes (object_bytes format) t s.epoch)
+        ≤ 33897
+    go true first =
+        let slot = slot_len format len 4 small (by_most format MAX_MESSAGES 2 4 (omega arith) (omega arith)) s.slot is.slot in
+        omega (arith, slot)
+    go false later =
+        let few : most format kinds.Rel ≤ 2 = rw later (omega arith) in
+        let slot = slot_len format len 2 small few s.slot is.slot in
+        let paths = paths_len format len small false s.paths is.paths in
+        let epoch = epoch_len format len small false s.epoch is.epoch in
+        omega (arith, slot, paths, epoch)
 
 seven : (a b c d e f g : List ℕ)
     → length (a ++ b ++ c ++ d ++ e ++ f ++ g) ≡ length a + length b + length c + length d + length e + length f + length g
@@ -233,7 +137,6 @@ most_sections = 65442
 -- these parts it lacks
 pub record IsPlain (s : Contents) : Type 0 where
   pub document : s.document ≡ None
-  pub paths : s.paths ≡ None
   pub probe : s.probe ≡ None
 
 -- the sections of a frame that a node makes fit into a frame
@@ -248,11 +151,10 @@ sections_len format len small s plain is =
     let one = weights_len format len small s.weights is.weights is.few_weights in
     let two = eight_bytes s.prio_ack in
     let more = prios_len format len small s.prios is.prios is.few_prios in
-    let reported = last_len format len small s.slot is.slot s.epoch is.epoch in
-    let paths = subst (λ (o : Option Report). length (paths_bytes format o) ≤ 1) (sym plain.paths) (no_paths format) in
+    let slots = slots_len format len small s is in
     let probe = subst (λ (o : Option Probe). length (probes_bytes format o) ≤ 1) (sym plain.probe) (no_probe format) in
     subst (λ (d : Option (List ℕ)). length (control_bytes format s d) ≤ most_sections) (sym plain.document)
-    (omega (arith, parts, one, two, more, reported, paths, probe))
+    (omega (arith, parts, one, two, more, slots, probe))
 
 -- a document is as long as a datagram has room for
 pub document_len : (format : ℕ) (document : List ℕ) → length document ≤ MAX_DOCUMENT_BYTES
@@ -343,8 +245,8 @@ contents_len n v kept small = go (is_behind n v) (is_shut_to n v) (frames_fit (f
         → length (sections_bytes_in n.fixed.topology.format
         (if behind then with_document n.live.document else if shut then no_contents else contents_to n.fixed n.parts v)) ≤ most_sections
     go true shut fits = document_len n.fixed.topology.format n.live.document kept.live.document.1
-    go false true fits = plain no_contents (record { document = refl; paths = refl; probe = refl }) fits
-    go false false fits = plain (contents_to n.fixed n.parts v) (record { document = refl; paths = refl; probe = refl }) fits
+    go false true fits = plain no_contents (record { document = refl; probe = refl }) fits
+    go false false fits = plain (contents_to n.fixed n.parts v) (record { document = refl; probe = refl }) fits
 
 pub polled_is_read_back : PolledIsReadBack
 polled_is_read_back n v kept small is =

@@ -1,23 +1,25 @@
 -- What a version of the topology tells has the room that it asks for, and an empty node tells nothing.
-use Rattle.std.proofs.Common.{◌≡◌, ◌≤◌, ℕ, Bool, false, List, [], ◌∷◌, length, map, refl, ap, arith}
+use Rattle.std.proofs.Common.{◌≡◌, ◌≤◌, ℕ, ◌&&◌, Bool, true, false, List, [], ◌∷◌, length, map, refl, ap, arith, cond}
 use Rattle.std.specs.Prelude.{count_by, sum_by}
-use Rattle.std.specs.List.{list_any}
-use Rattle.std.proofs.lemmas.List.{length-map}
-use Rattle.std.proofs.lemmas.List.Concat.{length-flat_map}
+use Rattle.std.specs.List.{flat_map, list_any}
+use Rattle.std.proofs.lemmas.List.{length-append, length-map}
+use Rattle.std.proofs.lemmas.List.Concat.{flat_map-cons, length-flat_map}
 use Rattle.std.proofs.lemmas.List.Sums.{count_by-le-length, length-filter, sum_by-cons}
 use Rattle.sp_base.specs.declared.id.Flow.{Flow}
 use Rattle.sp_base.specs.declared.id.NodeId.{NodeId}
+use Rattle.sp_msg.specs.declared.effect.Effect.{Effect}
 use Rattle.sp_msg.specs.declared.effect.Effect.TheVariants as effects
 use Rattle.sp_msg.specs.declared.effect.Why.TheVariants as whys
-use Rattle.sp_rules.specs.Flow.{no_flow}
+use Rattle.sp_rules.specs.Flow.{FlowState, ends, no_flow}
 use Rattle.sp_rules.specs.Parts.{Fixed, as_neighbour, bare_parts, neighbours_of, nodes_of}
 use Rattle.sp_rules.specs.Prio as prio
 use Rattle.sp_rules.specs.Prio.{PrioState, entry_count}
 use Rattle.sp_rules.specs.PrioPeer as rows
 use Rattle.sp_rules.specs.PrioPeer.{PrioPeer}
-use Rattle.sp_rules.specs.Rel.{pairs_of}
+use Rattle.sp_rules.specs.Rel.{ended_effect, ending, is_over, pairs_of}
 use Rattle.sp_rules.specs.Store.{Store, leavers}
 use Rattle.sp_rules.specs.Topologies.{is_removed, is_shut, under, weights_in}
+use Rattle.sp_rules.specs.declared.kflow.FlowKind.{FlowKind}
 use Rattle.sp_rules.specs.declared.prio.Neighbour.{Neighbour}
 use Rattle.sp_rules.specs.declared.store.Entry.{Entry}
 use Rattle.sp_topology.specs.declared.topology.Edge.{Edge}
@@ -54,6 +56,27 @@ pub closed_short : (s : PrioState) (weights : List ℕ) (removed : List NodeId) 
 closed_short s weights removed =
     omega (arith, length-flat_map (rows.closed_effects weights removed) s.peers, all_places weights removed s.peers)
 
+one_end : (active over : Bool) (e : Effect) → length (cond (active && over) (e ∷ []) []) ≤ cond active 1 0
+one_end true true e = omega arith
+one_end true false e = omega arith
+one_end false over e = omega arith
+
+-- at most one effect of each active flow of a kind
+pub few_ended : (kind : FlowKind) (removed : List NodeId) (flows : List FlowState)
+    → length (flat_map (ended_effect kind removed) flows) ≤ count_by (λ f. f.active) flows
+few_ended kind removed [] = omega arith
+few_ended kind removed (f ∷ flows) =
+    let one : length (ended_effect kind removed f) ≤ cond f.active 1 0 = one_end f.active (is_over removed (ends f)) (ending kind (ends f)) in
+    let rest = few_ended kind removed flows in
+    omega (
+      arith,
+      ap (λ (es : List Effect). length es) (flat_map-cons (ended_effect kind removed) f flows),
+      length-append (ended_effect kind removed f) (flat_map (ended_effect kind removed) flows),
+      sum_by-cons (λ (g : FlowState). cond g.active 1 0) f flows,
+      one,
+      rest,
+    )
+
 -- no more nodes are removed than there are
 pub few_removed : (t : Topology) (removed : List NodeId) → removed ≡ (withdrawn_of t).removed → length removed ≤ length t.nodes
 few_removed t removed is =
@@ -80,7 +103,8 @@ none_active (flow ∷ flows) = none_active flows
 
 pub nothing_closes : (f : Fixed) (buffer store : ℕ) → closing_room (bare_parts f buffer store) ≡ 0
 nothing_closes f buffer store =
-    omega (arith, none_stored store (map as_neighbour (neighbours_of f)), none_active (pairs_of (nodes_of f.topology)))
+    let idle = none_active (pairs_of (nodes_of f.topology)) in
+    omega (arith, none_stored store (map as_neighbour (neighbours_of f)), idle)
 
 -- ---- edges with weights
 

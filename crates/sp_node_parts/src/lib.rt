@@ -2,6 +2,7 @@
 #![tactic(auto)]
 
 mod fixed;
+mod flows;
 mod live;
 mod parts;
 mod succession;

@@ -1,10 +1,12 @@
 // The parts of a node in memory.
 ghost use Rattle.std.specs.Prelude.{◌≡◌, ◌≤◌, IfOk, IfSome, None as Nothing, length, map, replicate};
-ghost use Rattle.sp_node_parts.specs.Closing.{bare_fixed, closing_room, withdrawn_of};
-ghost use Rattle.sp_rules.specs.Parts.{as_neighbour, bare_parts, closed, closed_effects, empty_parts};
+ghost use Rattle.sp_node_parts.specs.Closing.{active_flows, bare_fixed, closing_room, flows_closed, flows_closed_effects, withdrawn_of};
+ghost use Rattle.sp_rules.specs.Kflow as kflow;
+ghost use Rattle.sp_rules.specs.Parts.{as_neighbour, bare_parts, closed, closed_effects, empty_parts, flows_of};
 ghost use Rattle.sp_rules.specs.Prio as prio;
 ghost use Rattle.sp_rules.specs.Rel as rel;
 ghost use Rattle.sp_rules.specs.Weights as weights;
+ghost use Rattle.sp_rules.specs.declared.kflow.FlowKind.{FlowKind};
 ghost use Rattle.sp_rules.specs.declared.store.TheConstants.{IDS};
 ghost use Rattle.sp_rules.specs.Lives as lives;
 ghost use Rattle.sp_rules.specs.Told.{told};
@@ -12,10 +14,12 @@ ghost use Rattle.sp_topology.specs.Ranges.{IsTopology};
 
 use crate::withdrawn::Withdrawn;
 use sp_base::{EdgeId, Limits, Memory, NodeId};
+use sp_kflow::KTable;
 use sp_lives::{Lives, Origins};
 use sp_msg::Effects;
 use sp_prio::{Neighbour, PrioTable};
 use sp_rel::RelTable;
+use sp_rules::FlowKind;
 use sp_topology::{NodeKey, Topology};
 use sp_weights::Weights;
 use std::alloc::Global;
@@ -27,6 +31,7 @@ pub struct Parts {
     pub weights: Weights,
     pub prio: PrioTable,
     pub rel: RelTable,
+    pub kflow: KTable,
     pub lives: Lives,
     pub origins: Origins,
 }
@@ -36,7 +41,7 @@ impl Model for Parts {
 
     ghost Value = { rules.Parts };
 
-    ghost view = { λ c. record { weights = c.weights; prio = c.prio; rel = c.rel; lives = c.lives; origins = c.origins } };
+    ghost view = { λ c. record { weights = c.weights; prio = c.prio; rel = c.rel; kflow = c.kflow; lives = c.lives; origins = c.origins } };
 }
 
 impl Parts {
@@ -67,7 +72,8 @@ impl Parts {
     pub fn closing_room(&self) -> Option<usize>
         ensures { IfSome result (λ room. room ≡ closing_room self.now) }
     {
-        self.prio.held().checked_add(self.rel.active())
+        let entries = self.prio.held().checked_add(self.rel.active())?;
+        entries.checked_add(self.kflow.flows.active())
     }
 
     /// From now on the topology is this one, with the same edges and nodes, and withdraws this: what waited for withdrawn edges leaves, and flows with a
@@ -75,7 +81,8 @@ impl Parts {
     pub fn close(&mut self, topology: &Topology, withdrawn: &Withdrawn, out: &mut Effects)
         requires withdrawn { withdrawn.now ≡ withdrawn_of topology.now }
         requires edges { length topology.now.edges ≡ length self.old.weights.edges }
-        requires nodes { (length topology.now.nodes ≡ length self.old.prio.nodes) × (length topology.now.nodes ≡ length self.old.rel.nodes) }
+        requires nodes { length topology.now.nodes ≡ length self.old.prio.nodes }
+        requires flows { (kind : FlowKind) → length topology.now.nodes ≡ length (flows_of kind self.old).nodes }
         requires room { closing_room self.old ≤ out.old.room }
         ensures parts { self.new ≡ closed self.old withdrawn.now.weights withdrawn.now.removed }
         ensures told { out.new ≡ told out.old (closed_effects self.old withdrawn.now.weights withdrawn.now.removed) }
@@ -86,7 +93,18 @@ impl Parts {
             withdrawn.removed.as_slice(),
             out,
         );
-        self.rel.end(withdrawn.removed.as_slice(), out);
+        self.end_flows(withdrawn.removed.as_slice(), out);
+    }
+
+    /// From now on these nodes are removed: flows with one of them as an end end, and are told, plain ones first. It takes no memory.
+    fn end_flows(&mut self, removed: &[NodeId], out: &mut Effects)
+        requires few { (kind : FlowKind) → length removed.now ≤ length (flows_of kind self.old).nodes }
+        requires room { active_flows self.old ≤ out.old.room }
+        ensures parts { self.new ≡ flows_closed self.old removed.now }
+        ensures told { out.new ≡ told out.old (flows_closed_effects self.old removed.now) }
+    {
+        self.rel.end(FlowKind::Plain, removed, out);
+        self.kflow.flows.end(FlowKind::Paths, removed, out);
     }
 
     /// The parts before anything is withdrawn.
@@ -120,6 +138,7 @@ fn tables_of(
       weights = weights.start topology.now;
       prio = prio.start me.0 nodes.now neighbours.now limits.store;
       rel = rel.start me nodes.now peers.now limits.buffer;
+      kflow = kflow.start me nodes.now neighbours.now limits.buffer;
       lives = lives.start nodes.now;
       origins = replicate (length nodes.now) Nothing;
     }) }
@@ -129,12 +148,14 @@ fn tables_of(
     let Ok(rel) = RelTable::new(alloc, me, nodes, peers, limits.buffer) else {
         return Err(Memory);
     };
+    let kflow = KTable::new(alloc, me, nodes, neighbours, limits.buffer)?;
     let lives = Lives::new(alloc, nodes)?;
     let origins = Origins::new(alloc, nodes.len())?;
     Ok(Parts {
         weights,
         prio,
         rel,
+        kflow,
         lives,
         origins,
     })

@@ -9,3 +9,5 @@ pub mod Published
 pub mod Sent
 pub mod Urgent
 pub mod Spares
+pub mod OnPaths
+pub mod PathsSent

@@ -14,17 +14,21 @@ use Rattle.sp_node_format.specs.Format.{document_in, format_of}
 use Rattle.sp_rules.specs.Arts.{Arts, Document}
 use Rattle.sp_rules.specs.Documents.{adopting, adopting_effects, after_publish, answer_to, document_answer, publish_effects, under_topology, version_effects}
 use Rattle.sp_rules.specs.Node.{NodeState, topology_now}
+use Rattle.sp_rules.specs.Parts.{flows_of}
 use Rattle.sp_rules.specs.Topologies.{succeeds}
 use Rattle.sp_rules.specs.declared.answers.DocumentAnswer.{DocumentAnswer}
 use Rattle.sp_rules.specs.declared.answers.DocumentAnswer.TheVariants as answers
+use Rattle.sp_rules.specs.declared.kflow.FlowKind.{FlowKind}
 use Rattle.sp_topology.specs.Documents.{read_of, topology_at}
 use Rattle.sp_topology.specs.declared.refused.TopologyRefused.{TopologyRefused}
 use Rattle.sp_topology.specs.declared.topology.NodeKey.{NodeKey}
 use Rattle.sp_topology.specs.declared.topology.Topology.{Topology}
+use Rattle.laws_node.proofs.FlowKinds.{flows_hold}
 use Rattle.laws_node.proofs.Successors.{later, length_weights, same_count}
 use Rattle.laws_node.specs.Nodes.{IsKept}
 use Rattle.sp_node_parts.specs.Closing.{closing_room, withdrawn_of}
 use Rattle.sp_node_parts.specs.declared.withdrawn.Withdrawn.{Withdrawn}
+use Rattle.sp_node_state.proofs.Sizes.{sizes}
 use Rattle.sp_node_state.specs.Publications.{FitsSo, IsJudged, IsJudgedSo, checks_of, document_checks, told_of, under_version}
 use Rattle.sp_node_state.specs.declared.document.NewVersion.{NewVersion}
 use Rattle.sp_node_state.specs.declared.document.Publication.{Publication}
@@ -110,7 +114,7 @@ adopted_version arts n d version =
 pub record Counts (n : NodeState) (t : Topology) : Type 0 where
   pub edges : length t.edges ≡ length n.parts.weights.edges
   pub prio : length t.nodes ≡ length n.parts.prio.nodes
-  pub rel : length t.nodes ≡ length n.parts.rel.nodes
+  pub flows : (kind : FlowKind) → length t.nodes ≡ length (flows_of kind n.parts).nodes
 
 pub counts : (n : NodeState) (t : Topology) → IsKept (format_of n.fixed) n → succeeds (topology_now n) t ≡ true → Counts n t
 counts n t kept e =
@@ -121,7 +125,7 @@ counts n t kept e =
       edges = sym (length_weights t.edges) ∙ same_count n.fixed.topology.edges n.live.weights t.edges kept.live.count l.ends
           ∙ sym (ap length kept.parts.weights.edges);
       prio = sym nodes ∙ sym ids ∙ sym (ap (λ (us : List NodeId). length us) kept.parts.prio.known);
-      rel = sym nodes ∙ sym ids ∙ sym (ap (λ (us : List NodeId). length us) kept.parts.rel.known);
+      flows = λ kind. sym nodes ∙ sym ids ∙ sym (ap (λ (us : List NodeId). length us) (flows_hold kind (sizes n) n.parts kept.parts).known);
     }
 
 -- ---- in effect, also at a node that answers the document as the one by which it was judged
@@ -200,5 +204,5 @@ adopted_judged n bytes d w version (Ok p) kept reads adopts withdraws answer is 
         document = refl;
         answer = same ∙ sym adopts ∙ adopted_version (format_of n.fixed) n d version adopts;
       });
-      fits = subst (FitsSo n p) (sym is) (record { withdrawn = withdraws; edges = c.edges; nodes = (c.prio, c.rel); room = room });
+      fits = subst (FitsSo n p) (sym is) (record { withdrawn = withdraws; edges = c.edges; nodes = c.prio; flows = c.flows; room = room });
     }

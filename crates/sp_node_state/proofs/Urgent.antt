@@ -41,6 +41,7 @@ refused_prio : (n : NodeState) (m : PrioSend) (r : SendRefused) → prio_refusal
     → Sends (SendPrio m) (prio_refusal n m) n (Err r) n
 refused_prio n m sends.BadEnd is other = at_once n m sends.BadEnd is
 refused_prio n m (sends.Full base have) is other = at_once n m (sends.Full base have) is
+refused_prio n m (sends.Busy paths) is other = at_once n m (sends.Busy paths) is
 refused_prio n m (sends.Expired now) is other = at_once n m (sends.Expired now) is
 refused_prio n m (sends.NoPaths found) is other = at_once n m (sends.NoPaths found) is
 refused_prio n m (sends.Low min) is other = at_once n m (sends.Low min) is

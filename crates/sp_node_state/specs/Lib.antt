@@ -7,3 +7,4 @@ pub mod Sends
 -- ---- what the calls of a node use of each other's proofs
 pub mod ReadyStates
 pub mod ReadySends
+pub mod OnPaths

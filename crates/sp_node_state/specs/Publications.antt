@@ -7,7 +7,9 @@ use Rattle.sp_node_parts.specs.Closing.{closing_room, withdrawn_of}
 use Rattle.sp_rules.specs.Arts.{Document}
 use Rattle.sp_rules.specs.Documents.{document_answer, under_topology, version_effects}
 use Rattle.sp_rules.specs.Node.{NodeState}
+use Rattle.sp_rules.specs.Parts.{flows_of}
 use Rattle.sp_rules.specs.declared.answers.DocumentAnswer.TheVariants as answers
+use Rattle.sp_rules.specs.declared.kflow.FlowKind.{FlowKind}
 use Rattle.sp_node_state.specs.declared.document.NewVersion.{NewVersion}
 use Rattle.sp_node_state.specs.declared.document.Publication.{Publication}
 use Rattle.sp_node_state.specs.declared.document.Reading.{Reading}
@@ -29,7 +31,8 @@ pub record IsNew (n : NodeState) (bytes : List ℕ) (v : NewVersion) : Type 0 wh
 pub record IsRoomy (n : NodeState) (v : NewVersion) (out : Caused) : Type 0 where
   pub withdrawn : v.withdrawn ≡ withdrawn_of v.topology
   pub edges : length v.topology.edges ≡ length n.parts.weights.edges
-  pub nodes : (length v.topology.nodes ≡ length n.parts.prio.nodes) × (length v.topology.nodes ≡ length n.parts.rel.nodes)
+  pub nodes : length v.topology.nodes ≡ length n.parts.prio.nodes
+  pub flows : (kind : FlowKind) → length v.topology.nodes ≡ length (flows_of kind n.parts).nodes
   pub room : out ≡ record { list = []; room = 1 + closing_room n.parts }
 
 -- what is ready of a document fits the version that it brings

@@ -1,5 +1,5 @@
 -- What is ready before a call changes anything: the link of a neighbour, and a message of this node.
-use Rattle.std.specs.Prelude.{ℕ, ◌≡◌, ◌<◌, None, Some, length, position}
+use Rattle.std.specs.Prelude.{ℕ, ◌≡◌, ◌<◌, ◌+◌, None, Some, length, position}
 use Rattle.sp_base.specs.declared.id.NodeId.{NodeId}
 use Rattle.sp_msg.specs.Bodies.{HasGoodFieldsIn}
 use Rattle.sp_msg.specs.Views.{signer_of}
@@ -17,6 +17,10 @@ pub record IsAnswered (n : NodeState) (v : NodeId) (place : ℕ) : Type 0 where
   pub left : n.calls < MAX_CALLS
 
 -- ---- a message of this node
+
+-- the node after so many more signatures, as far as its signer goes
+abbrev pub later : ℕ → NodeState → NodeState
+later used n = record n { signer = record n.signer { index = n.signer.index + used } }
 
 -- it is in its ranges, and the signer signs it
 pub record IsReadyBlank (n : NodeState) (blank : Blank) : Type 0 where

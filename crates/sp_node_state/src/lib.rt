@@ -6,6 +6,7 @@
 mod announce;
 mod boot;
 mod document;
+mod on_paths;
 mod priority;
 mod reliable;
 mod signing;
@@ -14,6 +15,7 @@ mod weight;
 
 pub use boot::{NodeConfig, can_boot};
 pub use document::{NewVersion, Publication};
+pub use on_paths::send_krel;
 pub use priority::send_prio;
 pub use reliable::send_rel;
 pub use state::State;

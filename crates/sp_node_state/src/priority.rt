@@ -109,7 +109,14 @@ fn mask_for(
     requires free { prio_refusal state.now (as_send message.now) ≡ Nothing }
     ensures { IsMaskFor state.entry.now (as_send message.now) result }
 {
-    match choose(book, alloc, &state.fixed, &state.core, message) {
+    match choose(
+        book,
+        alloc,
+        &state.fixed,
+        &state.core,
+        message.dst,
+        message.paths,
+    ) {
         Ok(mask) => Ok(mask),
         Err(NoMask::Fewer { found }) => Err(SendRefused::NoPaths { found }),
         Err(NoMask::Memory) => Err(SendRefused::Memory),
@@ -192,24 +199,25 @@ fn admit_own(state: &mut State, ready: ReadyPrio) -> Effects
     effects
 }
 
-/// The edges that a message takes, by the weights in effect.
-fn choose(
+/// The edges that a message to a node takes over so many paths, by the weights in effect.
+pub(crate) fn choose(
     book: &mut PathBook,
     alloc: Global,
     fixed: &Fixed,
     core: &Parts,
-    message: &PrioSend<'_>,
+    dst: NodeId,
+    paths: u8,
 ) -> Result<Mask, NoMask>
     requires topology { IsRunnable fixed.now.topology }
     requires edges { core.now.weights.edges ≡ fixed.now.topology.edges }
     requires small { (edge : ℕ) → effective core.now.weights edge ≤ MAX_WEIGHT }
     requires from { is_node (nodes_of fixed.now.topology) fixed.now.me.0 ≡ true }
-    requires to { is_node (nodes_of fixed.now.topology) message.now.dst.0 ≡ true }
-    requires other { fixed.now.me ≢ message.now.dst }
-    requires few { message.now.paths ≤ MAX_PATHS }
+    requires to { is_node (nodes_of fixed.now.topology) dst.0 ≡ true }
+    requires other { fixed.now.me ≢ dst }
+    requires few { paths ≤ MAX_PATHS }
     ensures mask { IfOk result (λ mask.
-        IsChoice core.now.weights (graph_of fixed.now.topology core.now.weights) fixed.now.me message.now.dst message.now.paths (Over (bits mask))) }
-    ensures fewer { IfErr result (SaysFewer (graph_of fixed.now.topology core.now.weights) fixed.now.me message.now.dst message.now.paths) }
+        IsChoice core.now.weights (graph_of fixed.now.topology core.now.weights) fixed.now.me dst paths (Over (bits mask))) }
+    ensures fewer { IfErr result (SaysFewer (graph_of fixed.now.topology core.now.weights) fixed.now.me dst paths) }
 {
     mask_to(
         book,
@@ -217,8 +225,8 @@ fn choose(
         &fixed.topology,
         &core.weights,
         fixed.me,
-        message.dst,
-        message.paths,
+        dst,
+        paths,
     )
 }
 

@@ -74,7 +74,7 @@ prio_word prios.Seen = answers.Seen
 prio_word prios.BadSig = answers.BadSig
 prio_word prios.New = answers.New
 
--- the answer to an acknowledgement
+-- the answer to an acknowledgement, of either kind of flow
 abbrev pub ack_word : AckAnswer → AnswerWord
 ack_word acks.BadEnd = answers.BadEnd
 ack_word acks.Epoch = answers.Epoch
@@ -83,10 +83,11 @@ ack_word acks.Ahead = answers.Ahead
 ack_word acks.BadSig = answers.BadSig
 ack_word acks.New = answers.New
 
--- the answer to a reliable message
+-- the answer to a reliable message, of either kind of flow
 abbrev pub rel_word : RelAnswer → AnswerWord
 rel_word rels.BadEnd = answers.BadEnd
 rel_word rels.Epoch = answers.Epoch
+rel_word rels.OffMask = answers.OffMask
 rel_word rels.Old = answers.Old
 rel_word rels.Ahead = answers.Ahead
 rel_word rels.Gap = answers.Gap
@@ -116,6 +117,8 @@ item_word (items.Weight answer) = item_words.Weight (weight_word answer)
 item_word (items.Prio answer) = item_words.Prio (prio_word answer)
 item_word (items.Ack answer) = item_words.Ack (ack_word answer)
 item_word (items.Rel answer) = item_words.Rel (rel_word answer)
+item_word (items.Kack answer) = item_words.Kack (ack_word answer)
+item_word (items.Krel answer) = item_words.Krel (rel_word answer)
 item_word (items.Epoch answer) = item_words.Epoch (epoch_word answer)
 item_word (items.Document answer) = item_words.Document (document_word answer)
 
@@ -126,6 +129,7 @@ abbrev pub refused_word : SendRefused → Option Reply
 refused_word (refusals.Full base have) = Some (replies.Full base have)
 refused_word (refusals.Expired now) = Some (replies.Expired now)
 refused_word (refusals.NoPaths found) = Some (replies.NoPaths found)
+refused_word (refusals.Busy paths) = Some (replies.Busy paths)
 refused_word (refusals.Low least) = Some (replies.Low least)
 refused_word (refusals.Spent index) = Some (replies.Spent index)
 refused_word refusals.BadEnd = Some replies.BadEnd

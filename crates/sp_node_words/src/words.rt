@@ -53,6 +53,8 @@ pub fn item_word(item: Item) -> ItemWord
         Item::Prio(answer) => ItemWord::Prio(prio_word(answer)),
         Item::Ack(answer) => ItemWord::Ack(ack_word(answer)),
         Item::Rel(answer) => ItemWord::Rel(rel_word(answer)),
+        Item::Kack(answer) => ItemWord::Kack(ack_word(answer)),
+        Item::Krel(answer) => ItemWord::Krel(rel_word(answer)),
         Item::Epoch(answer) => ItemWord::Epoch(epoch_word(answer)),
         Item::Document(answer) => ItemWord::Document(document_word(answer)),
     }
@@ -102,6 +104,7 @@ fn rel_word(answer: RelAnswer) -> AnswerWord
     match answer {
         RelAnswer::BadEnd => AnswerWord::BadEnd,
         RelAnswer::Epoch => AnswerWord::Epoch,
+        RelAnswer::OffMask => AnswerWord::OffMask,
         RelAnswer::Old => AnswerWord::Old,
         RelAnswer::Ahead => AnswerWord::Ahead,
         RelAnswer::Gap => AnswerWord::Gap,
@@ -156,6 +159,7 @@ pub fn refused_word(refused: SendRefused) -> Reply
         SendRefused::Full { base, have } => Reply::Full { base, have },
         SendRefused::Expired { now } => Reply::Expired { now },
         SendRefused::NoPaths { found } => Reply::NoPaths { found },
+        SendRefused::Busy { paths } => Reply::Busy { paths },
         SendRefused::Low { min } => Reply::Low { min },
         SendRefused::Spent { index } => Reply::Spent { index },
         SendRefused::BadEnd => Reply::BadEnd,

@@ -11,7 +11,6 @@ use Rattle.sp_base.specs.declared.id.Flow.{Flow}
 use Rattle.sp_base.specs.declared.id.NodeId.{NodeId}
 use Rattle.sp_msg.specs.Caused.{Caused}
 use Rattle.sp_msg.specs.declared.effect.Effect.{Effect}
-use Rattle.sp_msg.specs.declared.effect.Effect.TheVariants.{Ended}
 use Rattle.sp_rel.specs.Places.{IsPlace}
 use Rattle.sp_rel.specs.Fates.{AreSoundStill, end_of, ended_if, ended_row, flow_after, is_ended, met_with, row_after, touches}
 use Rattle.sp_rel.specs.declared.fate.Fate.{Fate}
@@ -20,7 +19,8 @@ use Rattle.sp_rel.specs.Rows.{RowState}
 use Rattle.sp_rel.specs.Tables.{IsSoundRow, states}
 use Rattle.sp_rel.specs.declared.place.Place.{Place}
 use Rattle.sp_rules.specs.Flow.{FlowState, IsStanding, ended, ends, is_flow}
-use Rattle.sp_rules.specs.Rel.{ended_effect, ended_where, is_due, is_over}
+use Rattle.sp_rules.specs.Rel.{ended_effect, ended_where, ending, is_due, is_over}
+use Rattle.sp_rules.specs.declared.kflow.FlowKind.{FlowKind}
 use Rattle.sp_rules.specs.Told.{told}
 use Rattle.sp_rel.proofs.SoundLemmas.{sound_at, sound_with}
 use Rattle.sp_rules.proofs.Standing.{standing_at_start, standing_ended}
@@ -29,18 +29,18 @@ use Rattle.sp_rules.proofs.ToldLemmas.{told_both}
 -- ---- what ends
 
 -- an effect for each active flow that ends
-pub end_count_of : (fate : Fate) (rows : List RowState) → count_by (is_ended fate) rows ≡ length (flat_map (end_of fate) (states rows))
-end_count_of fate [] = refl
-end_count_of fate (row ∷ rows) = sum_by-cons (λ r. cond (is_ended fate r) 1 0) row rows ∙ go (is_ended fate row) refl (end_count_of fate rows)
+pub end_count_of : (kind : FlowKind) (fate : Fate) (rows : List RowState) → count_by (is_ended fate) rows ≡ length (flat_map (end_of kind fate) (states rows))
+end_count_of kind fate [] = refl
+end_count_of kind fate (row ∷ rows) = sum_by-cons (λ r. cond (is_ended fate r) 1 0) row rows ∙ go (is_ended fate row) refl (end_count_of kind fate rows)
   where
-    go : (t : Bool) → is_ended fate row ≡ t → count_by (is_ended fate) rows ≡ length (flat_map (end_of fate) (states rows))
-        → cond (is_ended fate row) 1 0 + count_by (is_ended fate) rows ≡ length (flat_map (end_of fate) (states (row ∷ rows)))
+    go : (t : Bool) → is_ended fate row ≡ t → count_by (is_ended fate) rows ≡ length (flat_map (end_of kind fate) (states rows))
+        → cond (is_ended fate row) 1 0 + count_by (is_ended fate) rows ≡ length (flat_map (end_of kind fate) (states (row ∷ rows)))
     go true is rest = rw is (omega (arith, rest))
     go false is rest = rw is (omega (arith, rest))
 
 -- what the rows tell is what their flows do
-pub ended_of_rows : (fate : Fate) (rows : List RowState) → flat_map (end_of fate) (states rows) ≡ flat_map (ended_row fate) rows
-ended_of_rows fate rows = flat_map-map (end_of fate) (λ (row : RowState). row.state) rows
+pub ended_of_rows : (kind : FlowKind) (fate : Fate) (rows : List RowState) → flat_map (end_of kind fate) (states rows) ≡ flat_map (ended_row kind fate) rows
+ended_of_rows kind fate rows = flat_map-map (end_of kind fate) (λ (row : RowState). row.state) rows
 
 -- how many are active, by the flags beside the rows
 pub active_count_of : (rows : List RowState) → count_by (λ flag. flag) (map (λ row. row.state.active) rows) ≡ count_by (λ f. f.active) (states rows)
@@ -51,80 +51,45 @@ active_count_of (row ∷ rows) =
     ∙ sym (sum_by-cons (λ (f : FlowState). cond f.active 1 0) row.state (states rows))
 
 -- no more end than are active
-pub few_end : (fate : Fate) (flows : List FlowState) → length (flat_map (end_of fate) flows) ≤ count_by (λ f. f.active) flows
-few_end fate [] = omega arith
-few_end fate (f ∷ flows) = go (touches fate (ends f)) f.active refl refl (few_end fate flows) (sum_by-cons (λ (g : FlowState). cond g.active 1 0) f flows)
+pub few_end : (kind : FlowKind) (fate : Fate) (flows : List FlowState) → length (flat_map (end_of kind fate) flows) ≤ count_by (λ f. f.active) flows
+few_end kind fate [] = omega arith
+few_end kind fate (f ∷ flows) = go (touches fate (ends f)) f.active refl refl (few_end kind fate flows) (sum_by-cons (λ (g : FlowState). cond g.active 1 0) f flows)
   where
-    go : (t a : Bool) → touches fate (ends f) ≡ t → f.active ≡ a → length (flat_map (end_of fate) flows) ≤ count_by (λ g. g.active) flows
+    go : (t a : Bool) → touches fate (ends f) ≡ t → f.active ≡ a → length (flat_map (end_of kind fate) flows) ≤ count_by (λ g. g.active) flows
         → count_by (λ g. g.active) (f ∷ flows) ≡ cond f.active 1 0 + count_by (λ g. g.active) flows
-        → length (flat_map (end_of fate) (f ∷ flows)) ≤ count_by (λ g. g.active) (f ∷ flows)
+        → length (flat_map (end_of kind fate) (f ∷ flows)) ≤ count_by (λ g. g.active) (f ∷ flows)
     go true true is on rest split =
-        let told : length (end_of fate f) ≡ 1 = rw (is, on) refl in
+        let told : length (end_of kind fate f) ≡ 1 = rw (is, on) refl in
         let one : cond f.active 1 0 ≡ 1 = ap (λ (b : Bool). let n : ℕ = cond b 1 0 in n) on in
         omega (
           arith,
-          ap (λ (es : List Effect). length es) (flat_map-cons (end_of fate) f flows),
-          length-append (end_of fate f) (flat_map (end_of fate) flows),
+          ap (λ (es : List Effect). length es) (flat_map-cons (end_of kind fate) f flows),
+          length-append (end_of kind fate f) (flat_map (end_of kind fate) flows),
           told,
           rest,
           split,
           one,
         )
     go true false is on rest split =
-        let told : length (end_of fate f) ≡ 0 = rw (is, on) refl in
+        let told : length (end_of kind fate f) ≡ 0 = rw (is, on) refl in
         omega (
           arith,
-          ap (λ (es : List Effect). length es) (flat_map-cons (end_of fate) f flows),
-          length-append (end_of fate f) (flat_map (end_of fate) flows),
+          ap (λ (es : List Effect). length es) (flat_map-cons (end_of kind fate) f flows),
+          length-append (end_of kind fate f) (flat_map (end_of kind fate) flows),
           told,
           rest,
           split,
         )
     go false a is on rest split =
-        let told : length (end_of fate f) ≡ 0 = rw is refl in
+        let told : length (end_of kind fate f) ≡ 0 = rw is refl in
         omega (
           arith,
-          ap (λ (es : List Effect). length es) (flat_map-cons (end_of fate) f flows),
-          length-append (end_of fate f) (flat_map (end_of fate) flows),
+          ap (λ (es : List Effect). length es) (flat_map-cons (end_of kind fate) f flows),
+          length-append (end_of kind fate f) (flat_map (end_of kind fate) flows),
           told,
           rest,
           split,
         )
-
--- ---- where nodes are removed, as the rules say it
-
-pub over_flow : (removed : List NodeId) (f : FlowState) → cond (is_over removed (ends f)) (ended_if f) f ≡ ended_where removed f
-over_flow removed f = go (is_over removed (ends f)) f.active refl refl
-  where
-    go : (t a : Bool) → is_over removed (ends f) ≡ t → f.active ≡ a → cond (is_over removed (ends f)) (ended_if f) f ≡ ended_where removed f
-    go true true is on = rw (is, on) refl
-    go true false is on = rw (is, on) refl
-    go false true is on = rw (is, on) refl
-    go false false is on = rw (is, on) refl
-
-pub over_flows : (removed : List NodeId) (flows : List FlowState)
-    → map (λ f. cond (is_over removed (ends f)) (ended_if f) f) flows ≡ map (ended_where removed) flows
-over_flows removed [] = refl
-over_flows removed (f ∷ flows) = rw (over_flow removed f, over_flows removed flows) refl
-
-over_told : (removed : List NodeId) (f : FlowState) → cond (is_over removed (ends f) && f.active) (Ended (ends f) ∷ []) [] ≡ ended_effect removed f
-over_told removed f = go (is_over removed (ends f)) f.active refl refl
-  where
-    go : (t a : Bool) → is_over removed (ends f) ≡ t → f.active ≡ a
-        → cond (is_over removed (ends f) && f.active) (Ended (ends f) ∷ []) [] ≡ ended_effect removed f
-    go true true is on = rw (is, on) refl
-    go true false is on = rw (is, on) refl
-    go false true is on = rw (is, on) refl
-    go false false is on = rw (is, on) refl
-
-pub over_effects : (removed : List NodeId) (flows : List FlowState)
-    → flat_map (λ f. cond (is_over removed (ends f) && f.active) (Ended (ends f) ∷ []) []) flows ≡ flat_map (ended_effect removed) flows
-over_effects removed [] = refl
-over_effects removed (f ∷ flows) =
-    flat_map-cons (λ (g : FlowState). cond (is_over removed (ends g) && g.active) (Ended (ends g) ∷ []) []) f flows
-    ∙ ap (λ (es : List Effect). es ++ flat_map (λ g. cond (is_over removed (ends g) && g.active) (Ended (ends g) ∷ []) []) flows) (over_told removed f)
-    ∙ ap (λ (es : List Effect). ended_effect removed f ++ es) (over_effects removed flows)
-    ∙ sym (flat_map-cons (ended_effect removed) f flows)
 
 -- ---- what is told
 

@@ -3,13 +3,13 @@ use Rattle.std.specs.Prelude.{ℕ, ◌&&◌, Bool, List, [], ◌∷◌, if◌the
 use Rattle.sp_base.specs.declared.id.Flow.{Flow}
 use Rattle.sp_base.specs.declared.id.NodeId.{NodeId}
 use Rattle.sp_msg.specs.declared.effect.Effect.{Effect}
-use Rattle.sp_msg.specs.declared.effect.Effect.TheVariants.{Ended}
 use Rattle.sp_rel.specs.Rows.{RowState, with_state}
 use Rattle.sp_rel.specs.Tables.{AreSound}
 use Rattle.sp_rel.specs.declared.fate.Fate.{Fate}
 use Rattle.sp_rel.specs.declared.fate.Fate.TheVariants as fates
 use Rattle.sp_rules.specs.Flow.{FlowState, ended, ends, no_flow}
-use Rattle.sp_rules.specs.Rel.{is_end, is_over}
+use Rattle.sp_rules.specs.Rel.{ending, is_end, is_over}
+use Rattle.sp_rules.specs.declared.kflow.FlowKind.{FlowKind}
 
 -- it comes over a flow with these ends
 abbrev pub touches : Fate → Flow → Bool
@@ -29,9 +29,9 @@ met_with (fates.Removed nodes) f = ended_if f
 abbrev pub flow_after : Fate → FlowState → FlowState
 flow_after fate f = if touches fate (ends f) then met_with fate f else f
 
--- what is told of it
-abbrev pub end_of : Fate → FlowState → List Effect
-end_of fate f = if touches fate (ends f) && f.active then Ended (ends f) ∷ [] else []
+-- what is told of a flow of this kind by its fate
+abbrev pub end_of : FlowKind → Fate → FlowState → List Effect
+end_of kind fate f = if touches fate (ends f) && f.active then ending kind (ends f) ∷ [] else []
 
 -- ---- rows of flows
 
@@ -39,9 +39,9 @@ end_of fate f = if touches fate (ends f) && f.active then Ended (ends f) ∷ [] 
 abbrev pub is_ended : Fate → RowState → Bool
 is_ended fate row = touches fate (ends row.state) && row.state.active
 
--- what is told of a row by this fate
-abbrev pub ended_row : Fate → RowState → List Effect
-ended_row fate row = end_of fate row.state
+-- what is told of a row of this kind by this fate
+abbrev pub ended_row : FlowKind → Fate → RowState → List Effect
+ended_row kind fate row = end_of kind fate row.state
 
 -- a row after this fate
 abbrev pub row_after : Fate → RowState → RowState

@@ -1,10 +1,12 @@
 // What comes over flows by their ends.
 ghost use Rattle.std.specs.Prelude.{◌≡◌};
 ghost use Rattle.sp_rel.specs.Fates.{touches};
-ghost use Rattle.sp_rules.specs.Rel.{is_one_of};
+ghost use Rattle.sp_rules.specs.Rel.{ending, is_one_of};
 
 use crate::view::is_end;
 use sp_base::{Flow, NodeId};
+use sp_msg::Effect;
+use sp_rules::FlowKind;
 
 /// What comes over flows by their ends.
 #[derive(Clone, Copy, Debug)]
@@ -24,6 +26,16 @@ impl Fate<'_> {
             Fate::Restarted(node) => is_end(*node, flow),
             Fate::Removed(nodes) => is_one_of(nodes, flow.src) || is_one_of(nodes, flow.dst),
         }
+    }
+}
+
+/// What is told of a flow of this kind that ends.
+pub fn ending(kind: FlowKind, flow: Flow) -> Effect
+    ensures { result ≡ ending kind flow }
+{
+    match kind {
+        FlowKind::Plain => Effect::Ended(flow),
+        FlowKind::Paths => Effect::Kended(flow),
     }
 }
 

@@ -6,6 +6,7 @@ ghost use Rattle.sp_rel.specs.Places.{IsPlace};
 ghost use Rattle.sp_rel.specs.declared.place.Place.{Place};
 ghost use Rattle.sp_rules.specs.Rel.{closed, closed_effects, restart_effects, restarted, unheard};
 ghost use Rattle.sp_rules.specs.Told.{told};
+ghost use Rattle.sp_rules.specs.declared.kflow.FlowKind.{FlowKind};
 
 use crate::fate::Fate;
 use crate::flows::Flows;
@@ -13,23 +14,24 @@ use crate::row::FlowRow;
 use crate::table::RelTable;
 use sp_base::{NodeId, push_in_room};
 use sp_msg::Effects;
+use sp_rules::FlowKind;
 
 impl Flows {
     /// How many active flows end where this comes over them.
     pub fn end_count(&self, fate: &Fate<'_>) -> usize
-        ensures count { result ≡ length (flat_map (end_of fate.now) self.now.flows) }
+        ensures count { (kind : FlowKind) → result ≡ length (flat_map (end_of kind fate.now) self.now.flows) }
         ensures few { result < 2 ^ 63 }
     {
         ended_in(self.rows.as_slice(), fate)
     }
 
-    /// It comes over each flow, and those that were active and end are told, in order.
-    pub fn meet(&mut self, fate: &Fate<'_>, effects: &mut Effects)
-        requires { length (flat_map (end_of fate.now) self.old.flows) ≤ effects.old.room }
+    /// It comes over each flow, and those that were active and end are told as flows of this kind, in order.
+    pub fn meet(&mut self, kind: FlowKind, fate: &Fate<'_>, effects: &mut Effects)
+        requires { length (flat_map (end_of kind fate.now) self.old.flows) ≤ effects.old.room }
         ensures flows { self.new ≡ record self.old { flows = map (flow_after fate.now) self.old.flows } }
-        ensures told { effects.new ≡ told effects.old (flat_map (end_of fate.now) self.old.flows) }
+        ensures told { effects.new ≡ told effects.old (flat_map (end_of kind fate.now) self.old.flows) }
     {
-        tell_ended(self.rows.as_slice(), fate, effects);
+        tell_ended(self.rows.as_slice(), kind, fate, effects);
         meet_rows(&mut self.rows, &mut self.active, &mut self.due, fate);
     }
 
@@ -45,21 +47,21 @@ impl Flows {
 impl RelTable {
     /// How many flows end where another life of this node begins: the active ones with it as an end. It takes no memory.
     pub fn ended_count(&self, node: NodeId) -> usize
-        ensures count { result ≡ length (restart_effects self.now node) }
+        ensures count { (kind : FlowKind) → result ≡ length (restart_effects kind self.now node) }
         ensures few { result < 2 ^ 63 }
     {
         self.flows.end_count(&Fate::Restarted(node))
     }
 
     /// Another life of a node began: each flow with it as an end is as before its first message, and no neighbour reported of it. Those of them that were
-    /// active are told, in order. Each place stays that of its flow. It takes no memory.
-    pub fn restart(&mut self, node: NodeId, effects: &mut Effects)
-        requires room { length (restart_effects self.old node) ≤ effects.old.room }
+    /// active are told as flows of this kind, in order. Each place stays that of its flow. It takes no memory.
+    pub fn restart(&mut self, kind: FlowKind, node: NodeId, effects: &mut Effects)
+        requires room { length (restart_effects kind self.old node) ≤ effects.old.room }
         ensures table { self.new ≡ restarted self.old node }
-        ensures told { effects.new ≡ told effects.old (restart_effects self.old node) }
+        ensures told { effects.new ≡ told effects.old (restart_effects kind self.old node) }
         ensures places { (place : Place) → IsPlace self.old.flows place → IsPlace self.new.flows place }
     {
-        self.flows.meet(&Fate::Restarted(node), effects);
+        self.flows.meet(kind, &Fate::Restarted(node), effects);
         self.peers.restart(node);
     }
 
@@ -79,17 +81,17 @@ impl RelTable {
         self.flows.active_count()
     }
 
-    /// From now on these nodes are removed: each active flow with one of them as an end ends, and is told, in order. Its inbox can still be taken. Each place
-    /// stays that of its flow. It takes no memory.
-    pub fn end(&mut self, removed: &[NodeId], effects: &mut Effects)
+    /// From now on these nodes are removed: each active flow with one of them as an end ends, and is told as one of this kind, in order. Its inbox can still
+    /// be taken. Each place stays that of its flow. It takes no memory.
+    pub fn end(&mut self, kind: FlowKind, removed: &[NodeId], effects: &mut Effects)
         requires few { length removed.now ≤ length self.old.nodes }
         requires room { count_by (λ f. f.active) self.old.flows ≤ effects.old.room }
         ensures table { self.new ≡ closed self.old removed.now }
-        ensures told { effects.new ≡ told effects.old (closed_effects self.old removed.now) }
+        ensures told { effects.new ≡ told effects.old (closed_effects kind self.old removed.now) }
         ensures places { (place : Place) → IsPlace self.old.flows place → IsPlace self.new.flows place }
     {
         refill(&mut self.removed, removed);
-        self.flows.meet(&Fate::Removed(removed), effects);
+        self.flows.meet(kind, &Fate::Removed(removed), effects);
     }
 }
 
@@ -121,13 +123,13 @@ fn number_on(flags: &[bool]) -> usize
     flags.iter().filter(|flag| **flag).count()
 }
 
-/// Tells of those flows that are active and end, in order.
-fn tell_ended(rows: &[FlowRow], fate: &Fate<'_>, effects: &mut Effects)
-    requires { length (flat_map (ended_row fate.now) rows.now) ≤ effects.old.room }
-    ensures { effects.new ≡ told effects.old (flat_map (ended_row fate.now) rows.now) }
+/// Tells of those flows of this kind that are active and end, in order.
+fn tell_ended(rows: &[FlowRow], kind: FlowKind, fate: &Fate<'_>, effects: &mut Effects)
+    requires { length (flat_map (ended_row kind fate.now) rows.now) ≤ effects.old.room }
+    ensures { effects.new ≡ told effects.old (flat_map (ended_row kind fate.now) rows.now) }
 {
     'rows: for row in rows {
-        row.tell_end(fate, effects);
+        row.tell_end(kind, fate, effects);
     }
 }
 

@@ -86,7 +86,7 @@ fn delivery(message: Kept) -> Effect
             seq: rel.seq,
             payload: rel.payload,
         },
-        Body::Krel(krel) => Effect::Delivered {
+        Body::Krel(krel) => Effect::DeliveredKrel {
             src: krel.src,
             seq: krel.seq,
             payload: krel.payload,

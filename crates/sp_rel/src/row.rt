@@ -9,11 +9,12 @@ ghost use Rattle.sp_rel.specs.Fates.{ended_row, is_ended, row_after};
 ghost use Rattle.sp_rel.specs.Rows.{IsSeated, with_state};
 
 use crate::change::Change;
-use crate::fate::Fate;
+use crate::fate::{Fate, ending};
 use crate::held::Held;
 use crate::seat::Seat;
 use sp_base::{Bytes, Flow, Four, NodeId};
-use sp_msg::{Body, Effect, Effects, Kept};
+use sp_msg::{Body, Effects, Kept};
+use sp_rules::FlowKind;
 use std::marker::Model;
 use std::mem::size_of;
 
@@ -139,6 +140,16 @@ impl FlowRow {
         self.ack.as_ref()
     }
 
+    /// The first message that waits here for its acknowledgement.
+    pub fn first(&self) -> Option<&Kept>
+        ensures { option_copied result ≡ slice_get self.now.state.at.list 0 }
+    {
+        match &self.held {
+            Held::Relay(buffer) => buffer.first(),
+            _ => None,
+        }
+    }
+
     /// The first messages after this number that are kept here, at most four.
     pub fn messages_after(&self, number: u64) -> Four<&Kept>
         ensures { map (λ message. message.now) result ≡ messages_after self.now.state.at number }
@@ -252,13 +263,13 @@ impl FlowRow {
         fate.touches(self.flow) && self.is_active()
     }
 
-    /// Tells that the flow ends, where it does.
-    pub fn tell_end(&self, fate: &Fate<'_>, effects: &mut Effects)
-        requires { length (ended_row fate.now self.now) ≤ effects.old.room }
-        ensures { effects.new ≡ told effects.old (ended_row fate.now self.now) }
+    /// Tells that the flow of this kind ends, where it does.
+    pub fn tell_end(&self, kind: FlowKind, fate: &Fate<'_>, effects: &mut Effects)
+        requires { length (ended_row kind fate.now self.now) ≤ effects.old.room }
+        ensures { effects.new ≡ told effects.old (ended_row kind fate.now self.now) }
     {
         if self.is_ended(fate) {
-            effects.push(Effect::Ended(self.flow));
+            effects.push(ending(kind, self.flow));
         }
     }
 

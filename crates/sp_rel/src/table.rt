@@ -1,7 +1,7 @@
 // The reliable flows at one node, and where each stands.
-ghost use Rattle.std.specs.Prelude.{◌≡◌, IfErr, IfOk};
+ghost use Rattle.std.specs.Prelude.{◌≡◌, IfErr, IfOk, option_copied};
 ghost use Rattle.sp_rel.specs.Places.{place_in};
-ghost use Rattle.sp_rules.specs.Rel.{AreStanding, are_ends, is_node, position_in, room, start};
+ghost use Rattle.sp_rules.specs.Rel.{AreStanding, are_ends, first_waiting, is_node, is_waiting, own_flow, position_in, room, start};
 
 use crate::fate::is_one_of;
 use crate::flows::Flows;
@@ -9,6 +9,7 @@ use crate::pairs::pairs_of;
 use crate::peers::Peers;
 use crate::place::Place;
 use sp_base::{Cursor, Flow, Memory, NodeId};
+use sp_msg::Kept;
 use sp_rules::RelRefused;
 use std::alloc::Global;
 use std::marker::Model;
@@ -90,10 +91,7 @@ impl RelTable {
     pub fn room(&self, dst: NodeId) -> Result<u64, RelRefused>
         ensures { result ≡ room self.now dst }
     {
-        let flow = Flow {
-            src: self.flows.me(),
-            dst,
-        };
+        let flow = self.own_flow(dst);
         if !self.are_ends(flow, flow.src, dst) {
             return Err(RelRefused::BadEnd);
         }
@@ -105,6 +103,39 @@ impl RelTable {
             });
         }
         Ok(numbers.have + 1)
+    }
+
+    /// The node that the table is of.
+    pub fn me(&self) -> NodeId
+        ensures { result ≡ self.now.me }
+    {
+        self.flows.me()
+    }
+
+    /// Whether messages of a client to a node wait for their acknowledgement.
+    pub fn is_waiting(&self, dst: NodeId) -> bool
+        ensures { result ≡ is_waiting self.now dst }
+    {
+        let numbers = self.flows.numbers(self.flows.place(self.own_flow(dst)));
+        numbers.base < numbers.have
+    }
+
+    /// The first message of a client to a node that waits for its acknowledgement.
+    pub fn first_waiting(&self, dst: NodeId) -> Option<&Kept>
+        ensures { option_copied result ≡ first_waiting self.now dst }
+    {
+        let row = self.flows.row(self.flows.place(self.own_flow(dst)))?;
+        row.first()
+    }
+
+    /// The flow from this node to another.
+    fn own_flow(&self, dst: NodeId) -> Flow
+        ensures { result ≡ own_flow self.now dst }
+    {
+        Flow {
+            src: self.flows.me(),
+            dst,
+        }
     }
 
     /// For the prover alone, it does nothing when it runs: each flow is a position with its messages, within the bound.

@@ -44,15 +44,20 @@ ack_answer right dated acks.Old = if dated then ack.Old else ack.Epoch
 ack_answer right dated acks.Ahead = if dated then ack.Ahead else ack.Epoch
 ack_answer right dated acks.New = if not dated then ack.Epoch else if right then ack.New else ack.BadSig
 
--- a reliable message is answered by its end first, then by its date, and by its signature where it could be new
-abbrev pub rel_answer : (right dated : Bool) → RelJudged → RelAnswer
-rel_answer right dated rels.BadEnd = rel.BadEnd
-rel_answer right dated rels.Old = if dated then rel.Old else rel.Epoch
-rel_answer right dated rels.Ahead = if dated then rel.Ahead else rel.Epoch
-rel_answer right dated rels.Gap = if dated then rel.Gap else rel.Epoch
-rel_answer right dated rels.Full = if dated then rel.Full else rel.Epoch
-rel_answer right dated rels.InboxFull = if dated then rel.InboxFull else rel.Epoch
-rel_answer right dated rels.New = if not dated then rel.Epoch else if right then rel.New else rel.BadSig
+-- what a reliable message is judged, with its signature where it could be new
+abbrev pub rel_said : (right : Bool) → RelJudged → RelAnswer
+rel_said right rels.BadEnd = rel.BadEnd
+rel_said right rels.Old = rel.Old
+rel_said right rels.Ahead = rel.Ahead
+rel_said right rels.Gap = rel.Gap
+rel_said right rels.Full = rel.Full
+rel_said right rels.InboxFull = rel.InboxFull
+rel_said right rels.New = if right then rel.New else rel.BadSig
+
+-- a reliable message is answered by its end first, then by its date, then by the edge that it came over, and by its signature where it could be new
+abbrev pub rel_answer : (right dated over : Bool) → RelJudged → RelAnswer
+rel_answer right dated over rels.BadEnd = rel.BadEnd
+rel_answer right dated over judged = if not dated then rel.Epoch else if not over then rel.OffMask else rel_said right judged
 
 -- an Epoch object is answered by its origin first, then by its boot, and by its signature where it could be new
 abbrev pub epoch_answer : Bool → EpochJudged → EpochAnswer
@@ -66,5 +71,7 @@ is_new (items.Weight weight.New) = true
 is_new (items.Prio prio.New) = true
 is_new (items.Ack ack.New) = true
 is_new (items.Rel rel.New) = true
+is_new (items.Kack ack.New) = true
+is_new (items.Krel rel.New) = true
 is_new (items.Epoch epoch.New) = true
 is_new answer = false

@@ -21,6 +21,7 @@ use Rattle.sp_frame.specs.declared.refused.SectionRefused.{SectionRefused}
 use Rattle.sp_rules.specs.Arts.{Arts, is_right}
 use Rattle.sp_rules.specs.Documents.{after_publish}
 use Rattle.sp_rules.specs.Handle.{Arrival, Handled, handle_all}
+use Rattle.sp_rules.specs.Kflow as kflow
 use Rattle.sp_rules.specs.Link.{Link, after_frame, link_answer}
 use Rattle.sp_rules.specs.Node.{NodeState, call_refusal, called, is_shut_to, kept_or, link_in, version_of, with_link}
 use Rattle.sp_rules.specs.Parts.{Fixed, Parts, changes}
@@ -155,9 +156,17 @@ pieces_where _ pieces = []
 abbrev pub arrival_at : NodeState → NodeId → Arrival
 arrival_at n v = record { fixed = n.fixed; now = n.now; from = v }
 
--- with epochs, what a neighbour reported and acknowledged in its life before is forgotten where another one began
+-- what a neighbour reported and acknowledged is forgotten
+abbrev pub unheard : NodeId → Parts → Parts
+unheard v p = record p {
+  prio = prio.unheard p.prio v.0;
+  rel = rel.unheard p.rel v;
+  kflow = kflow.with_flows p.kflow (rel.unheard p.kflow.flows v);
+}
+
+-- with epochs, so is what it did in its life before, where another one began
 abbrev pub greeted : (epochs risen : Bool) → NodeId → Parts → Parts
-greeted epochs risen v p = if epochs && risen then record p { prio = prio.unheard p.prio v.0; rel = rel.unheard p.rel v } else p
+greeted epochs risen v p = if epochs && risen then unheard v p else p
 
 -- before the pieces are handled
 abbrev pub parts_met : Arts → NodeState → NodeId → List ℕ → Parts

@@ -56,6 +56,14 @@ number_said (bodies.Krel k) = k.seq
 number_said (bodies.Kack a) = a.seq
 number_said _ = 0
 
+-- the boots of its two ends that it names
+abbrev pub boots_said : Body → ℕ × ℕ
+boots_said (bodies.Rel r) = (r.sboot, r.dboot)
+boots_said (bodies.Ack a) = (a.sboot, a.dboot)
+boots_said (bodies.Krel k) = (k.sboot, k.dboot)
+boots_said (bodies.Kack a) = (a.sboot, a.dboot)
+boots_said _ = (0, 0)
+
 -- it is a message of a flow, plain or on K paths
 abbrev pub IsReliable : Body → Type 0
 IsReliable (bodies.Rel r) = Unit {0}

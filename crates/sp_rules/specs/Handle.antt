@@ -10,9 +10,11 @@ use Rattle.sp_msg.specs.declared.effect.Effect.TheVariants.{WeightHeld}
 use Rattle.sp_msg.specs.declared.kept.Kept.{Kept}
 use Rattle.sp_rules.specs.Answers.{ack_answer, epoch_answer, is_new, prio_answer, rel_answer, weight_answer}
 use Rattle.sp_rules.specs.Arts.{Arts}
+use Rattle.sp_rules.specs.Kflow.{came_over}
+use Rattle.sp_rules.specs.Kflow as kflow
 use Rattle.sp_rules.specs.Lives as lives
 use Rattle.sp_rules.specs.Lives.{are_held, is_dated, judge_epoch, origin_said}
-use Rattle.sp_rules.specs.Parts.{Fixed, Parts, is_signed}
+use Rattle.sp_rules.specs.Parts.{Fixed, Parts, flows_of, is_signed, with_flows}
 use Rattle.sp_rules.specs.Pieces.{Piece, WeightPiece, PrioAckPiece, PrioPiece, ReportPiece, AckPiece, RelPiece, EpochPiece}
 use Rattle.sp_rules.specs.Prio.{acked, acked_effects, admit_prio, heard, judge_prio, prio_effects, renewed}
 use Rattle.sp_rules.specs.Rel.{admit_ack, admit_rel, judge_ack_of, judge_rel_of, rel_effects, reported, restart_effects, restarted}
@@ -24,7 +26,10 @@ use Rattle.sp_rules.specs.declared.answers.Item.TheVariants as items
 use Rattle.sp_rules.specs.declared.answers.PrioAnswer.{PrioAnswer}
 use Rattle.sp_rules.specs.declared.answers.PrioAnswer.TheVariants as prios
 use Rattle.sp_rules.specs.declared.answers.RelAnswer.{RelAnswer}
+use Rattle.sp_rules.specs.declared.rel.RelJudged.{RelJudged}
 use Rattle.sp_rules.specs.declared.answers.WeightAnswer.{WeightAnswer}
+use Rattle.sp_rules.specs.declared.kflow.FlowKind.{FlowKind}
+use Rattle.sp_rules.specs.declared.kflow.FlowKind.TheVariants as kinds
 use Rattle.sp_rules.specs.declared.weights.Offer.{Offer}
 use Rattle.sp_rules.specs.declared.weights.Offer.TheVariants as offers
 use Rattle.sp_rules.specs.declared.weights.TheConstants.{MAX_OWN_HEARD}
@@ -88,19 +93,30 @@ prio_handled v answer number o p =
     let taken = where_new (items.Prio answer) o p (record p { prio = admit_prio p.prio o (Some v) }) (prio_effects p.prio o (Some v)) in
     record taken { parts = heard_where answer v number taken.parts }
 
--- ---- acknowledgements and reliable messages
+-- ---- acknowledgements and reliable messages, of flows of either kind
+
+-- the answer to an acknowledgement, as an item
+abbrev pub ack_item : FlowKind → AckAnswer → Item
+ack_item kinds.Plain answer = items.Ack answer
+ack_item kinds.Paths answer = items.Kack answer
+
+-- the answer to a message, as an item
+abbrev pub rel_item : FlowKind → RelAnswer → Item
+rel_item kinds.Plain answer = items.Rel answer
+rel_item kinds.Paths answer = items.Krel answer
 
 -- an acknowledgement: where it is new its flow takes it
-abbrev pub ack_handled : AckAnswer → Kept → Parts → Handled
-ack_handled answer o p = where_new (items.Ack answer) o p (record p { rel = admit_ack p.rel o }) []
+abbrev pub ack_handled : FlowKind → AckAnswer → Kept → Parts → Handled
+ack_handled kind answer o p = where_new (ack_item kind answer) o p (with_flows kind (admit_ack (flows_of kind p) o) p) []
 
 -- a reliable message: where it is new its flow takes it
-abbrev pub rel_handled : RelAnswer → Kept → Parts → Handled
-rel_handled answer o p = where_new (items.Rel answer) o p (record p { rel = admit_rel p.rel o }) (rel_effects p.rel o)
+abbrev pub rel_handled : FlowKind → RelAnswer → Kept → Parts → Handled
+rel_handled kind answer o p =
+    where_new (rel_item kind answer) o p (with_flows kind (admit_rel (flows_of kind p) o) p) (rel_effects (flows_of kind p) o)
 
 -- a report that names other boots than those that are held is dropped
-abbrev pub reported_where : Bool → NodeId → Flow → (base have : ℕ) → Parts → Parts
-reported_where dated v flow base have p = if dated then record p { rel = reported p.rel v flow base have } else p
+abbrev pub reported_where : FlowKind → Bool → NodeId → Flow → (base have : ℕ) → Parts → Parts
+reported_where kind dated v flow base have p = if dated then with_flows kind (reported (flows_of kind p) v flow base have) p else p
 
 -- ---- what a node says of its own start
 
@@ -109,14 +125,23 @@ abbrev pub met : Parts → Kept → Parts
 met p o = record p {
   prio = renewed p.prio (origin_said o.body).0;
   rel = restarted p.rel (origin_said o.body);
+  kflow = kflow.with_flows p.kflow (restarted p.kflow.flows (origin_said o.body));
   lives = lives.held p.lives o;
 }
 
+-- what is told of the flows that end then: of plain ones first
+abbrev pub met_effects : Parts → NodeId → List Effect
+met_effects p v = restart_effects kinds.Plain p.rel v ++ restart_effects kinds.Paths p.kflow.flows v
+
 -- an Epoch object: where it is new the node meets another start, and flows with that end begin anew
 abbrev pub epoch_handled : EpochAnswer → Kept → Parts → Handled
-epoch_handled answer o p = where_new (items.Epoch answer) o p (met p o) (restart_effects p.rel (origin_said o.body))
+epoch_handled answer o p = where_new (items.Epoch answer) o p (met p o) (met_effects p (origin_said o.body))
 
 -- ---- all pieces
+
+-- the answer to a message that was judged so
+abbrev pub rel_answer_to : Arts → Arrival → Parts → RelJudged → Kept → RelAnswer
+rel_answer_to arts at p judged o = rel_answer (is_signed arts at.fixed o) (is_dated p.lives o.body) (came_over p.kflow at.from o.body) judged
 
 -- what the node does with one piece
 abbrev pub handle : Arts → Arrival → Parts → Piece → Handled
@@ -124,11 +149,12 @@ handle arts at p (WeightPiece o) = weight_handled (weight_answer (is_signed arts
 handle arts at p (PrioAckPiece number) = quietly (record p { prio = acked p.prio at.from.0 number }) (acked_effects p.prio at.from.0 number)
 handle arts at p (PrioPiece number o) =
     prio_handled at.from (prio_answer (is_signed arts at.fixed o) (is_dated p.lives o.body) (judge_prio p.prio o.body at.now)) number o p
-handle arts at p (ReportPiece flow sboot dboot base have) = quietly (reported_where (are_held p.lives flow sboot dboot) at.from flow base have p) []
-handle arts at p (AckPiece flow o) =
-    ack_handled (ack_answer (is_signed arts at.fixed o) (is_dated p.lives o.body) (judge_ack_of p.rel flow o.body)) o p
-handle arts at p (RelPiece flow o) =
-    rel_handled (rel_answer (is_signed arts at.fixed o) (is_dated p.lives o.body) (judge_rel_of p.rel flow o.body)) o p
+handle arts at p (ReportPiece kind flow sboot dboot base have) =
+    quietly (reported_where kind (are_held p.lives flow sboot dboot) at.from flow base have p) []
+handle arts at p (AckPiece kind flow o) =
+    ack_handled kind (ack_answer (is_signed arts at.fixed o) (is_dated p.lives o.body) (judge_ack_of (flows_of kind p) flow o.body)) o p
+handle arts at p (RelPiece kind flow o) =
+    rel_handled kind (rel_answer_to arts at p (judge_rel_of (flows_of kind p) flow o.body) o) o p
 handle arts at p (EpochPiece o) = epoch_handled (epoch_answer (is_signed arts at.fixed o) (judge_epoch at.fixed.me p.lives o.body)) o p
 
 -- one after another: each piece meets what those before it left

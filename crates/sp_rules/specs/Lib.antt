@@ -19,6 +19,8 @@ pub mod Arrivals
 pub mod Arts
 pub mod Documents
 pub mod Handle
+pub mod Kflow
+pub mod KflowSends
 pub mod Masks
 pub mod Messages
 pub mod Node

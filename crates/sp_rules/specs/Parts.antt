@@ -12,6 +12,8 @@ use Rattle.sp_topology.specs.Neighbours.{joins, neighbours_from}
 use Rattle.sp_topology.specs.declared.topology.NodeKey.{NodeKey}
 use Rattle.sp_topology.specs.declared.topology.Topology.{Topology}
 use Rattle.sp_rules.specs.Arts.{Arts}
+use Rattle.sp_rules.specs.Kflow.{KState}
+use Rattle.sp_rules.specs.Kflow as kflow
 use Rattle.sp_rules.specs.Lives as lives
 use Rattle.sp_rules.specs.Prio.{PrioState}
 use Rattle.sp_rules.specs.Prio as prio
@@ -20,6 +22,8 @@ use Rattle.sp_rules.specs.Rel as rel
 use Rattle.sp_rules.specs.Topologies.{removed_of, weights_in}
 use Rattle.sp_rules.specs.Weights.{WeightState}
 use Rattle.sp_rules.specs.Weights as weights
+use Rattle.sp_rules.specs.declared.kflow.FlowKind.{FlowKind}
+use Rattle.sp_rules.specs.declared.kflow.FlowKind.TheVariants as kinds
 use Rattle.sp_rules.specs.declared.lives.Life.{Life}
 use Rattle.sp_rules.specs.declared.prio.Neighbour.{Neighbour}
 
@@ -35,13 +39,26 @@ pub record Fixed : Type 0 where
   -- whether nodes run with epochs
   pub epochs : Bool
 
--- what a node keeps of weights, priority messages, reliable flows and other nodes' starts
+-- what a node keeps of weights, priority messages, reliable flows of both kinds, and other nodes' starts
 pub record Parts : Type 0 where
   pub weights : WeightState
   pub prio : PrioState
   pub rel : RelState
+  pub kflow : KState
   pub lives : List Life
   pub origins : List (Option ℕ)
+
+-- ---- the flows
+
+-- those of a kind
+abbrev pub flows_of : FlowKind → Parts → RelState
+flows_of kinds.Plain p = p.rel
+flows_of kinds.Paths p = p.kflow.flows
+
+-- the parts with other states of the flows of a kind
+abbrev pub with_flows : FlowKind → RelState → Parts → Parts
+with_flows kinds.Plain r p = record p { rel = r }
+with_flows kinds.Paths r p = record p { kflow = kflow.with_flows p.kflow r }
 
 -- ---- the topology as a node sees it
 
@@ -66,9 +83,13 @@ place_in (n ∷ nodes) v = if n.id.0 == v.0 then 0 else place_in nodes v + 1
 abbrev pub place_of : Fixed → NodeId → ℕ
 place_of f v = place_in f.topology.nodes v
 
--- other versions of the topology may follow: it says another format than the first
+-- the topology says format 1: no version follows, and no flow goes on paths
+abbrev pub is_first : Fixed → Bool
+is_first f = f.topology.format == FORMAT_1
+
+-- other versions of the topology may follow
 abbrev pub changes : Fixed → Bool
-changes f = not (f.topology.format == FORMAT_1)
+changes f = not (is_first f)
 
 -- ---- signatures
 
@@ -90,11 +111,14 @@ closed p least removed = record p {
   weights = weights.replaced p.weights least;
   prio = prio.closed p.prio least removed;
   rel = rel.closed p.rel removed;
+  kflow = kflow.with_flows p.kflow (rel.closed p.kflow.flows removed);
 }
 
--- what is told where a version closes edges and removes nodes: of stores first, then of flows
+-- what is told where a version closes edges and removes nodes: of stores first, then of plain flows, and then of those on paths
 abbrev pub closed_effects : Parts → List ℕ → List NodeId → List Effect
-closed_effects p least removed = prio.closed_effects p.prio least removed ++ rel.closed_effects p.rel removed
+closed_effects p least removed =
+    prio.closed_effects p.prio least removed
+    ++ (rel.closed_effects kinds.Plain p.rel removed ++ rel.closed_effects kinds.Paths p.kflow.flows removed)
 
 -- ---- the start
 
@@ -108,6 +132,7 @@ bare_parts f buffer store = record {
   weights = weights.start f.topology;
   prio = prio.start f.me.0 (nodes_of f.topology) (map as_neighbour (neighbours_of f)) store;
   rel = rel.start f.me (nodes_of f.topology) (map (λ n. n.0) (neighbours_of f)) buffer;
+  kflow = kflow.start f.me (nodes_of f.topology) (map as_neighbour (neighbours_of f)) buffer;
   lives = lives.start (nodes_of f.topology);
   origins = replicate (length f.topology.nodes) None;
 }

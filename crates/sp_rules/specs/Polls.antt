@@ -1,6 +1,6 @@
 -- A poll: the next frame to a neighbour. It has the document where the neighbour runs under an older version, and nothing where their edge is withdrawn. Else
 -- it carries what is next in turn of each part, and moves each cycle by what it carried.
-use Rattle.std.specs.Prelude.{ℕ, Bool, not, ◌&&◌, List, [], ◌++◌, map, take, None, if◌then◌else◌}
+use Rattle.std.specs.Prelude.{ℕ, Bool, not, ◌&&◌, List, [], ◌++◌, map, take, Option, None, if◌then◌else◌}
 use Rattle.std.specs.Option.{option_map}
 use Rattle.sp_base.specs.Formats.{max_rels}
 use Rattle.sp_base.specs.declared.id.NodeId.{NodeId}
@@ -14,7 +14,8 @@ use Rattle.sp_rules.specs.Link.{advanced, next_head}
 use Rattle.sp_rules.specs.Lives as lives
 use Rattle.sp_rules.specs.Lives.{held_boot}
 use Rattle.sp_rules.specs.Node.{NodeState, call_refusal, called, is_behind, is_shut_to, kept_or, link_in, with_link}
-use Rattle.sp_rules.specs.Parts.{Fixed, Parts, place_of}
+use Rattle.sp_rules.specs.Kflow as kflow
+use Rattle.sp_rules.specs.Parts.{Fixed, Parts, is_first, place_of}
 use Rattle.sp_rules.specs.Prio.{carried, next_prios, peer_in}
 use Rattle.sp_rules.specs.Rel.{served, slot_for}
 use Rattle.sp_rules.specs.Weights.{moved, next}
@@ -30,6 +31,10 @@ dated format lives r = record r { sboot = held_boot lives r.flow.src; dboot = he
 
 -- ---- what is in turn
 
+-- the slot of flows on paths. Format 1 has none
+abbrev pub paths_to : Fixed → Parts → NodeId → Option Report
+paths_to f p v = if is_first f then None else option_map (dated f.topology.format p.lives) (kflow.slot_for p.kflow v)
+
 -- what a frame to a neighbour has where its edge is open
 abbrev pub contents_to : Fixed → Parts → NodeId → Contents
 contents_to f p v = record {
@@ -38,7 +43,7 @@ contents_to f p v = record {
   prio_ack = (peer_in p.prio v.0).heard;
   prios = map as_message (next_prios p.prio v.0);
   slot = option_map (dated f.topology.format p.lives) (slot_for p.rel v);
-  paths = None;
+  paths = paths_to f p v;
   probe = None;
   epoch = lives.next p.lives p.origins (place_of f v);
 }
@@ -49,6 +54,7 @@ polled f p v = record {
   weights = moved p.weights (place_of f v);
   prio = carried p.prio v.0;
   rel = served p.rel v;
+  kflow = kflow.with_flows p.kflow (served p.kflow.flows v);
   lives = p.lives;
   origins = lives.moved p.lives p.origins (place_of f v);
 }

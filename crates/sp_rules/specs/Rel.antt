@@ -22,10 +22,12 @@ use Rattle.sp_msg.specs.declared.body.Body.{Body}
 use Rattle.sp_msg.specs.declared.body.Body.TheVariants as bodies
 use Rattle.sp_msg.specs.declared.body.Kack.{Kack}
 use Rattle.sp_msg.specs.declared.effect.Effect.{Effect}
-use Rattle.sp_msg.specs.declared.effect.Effect.TheVariants.{Delivered, Ended}
+use Rattle.sp_msg.specs.declared.effect.Effect.TheVariants.{Delivered, DeliveredKrel, Ended, Kended}
 use Rattle.sp_msg.specs.declared.kept.Kept.{Kept}
 use Rattle.sp_rules.specs.Flow.{FlowState, IsStanding, no_flow, ends, is_flow, is_full, flow_said, number_said, pushed, received}
 use Rattle.sp_rules.specs.Flow.{acknowledged_by, concluded, after_take, ended}
+use Rattle.sp_rules.specs.declared.kflow.FlowKind.{FlowKind}
+use Rattle.sp_rules.specs.declared.kflow.FlowKind.TheVariants as kinds
 use Rattle.sp_rules.specs.declared.rel.AckJudged.{AckJudged}
 use Rattle.sp_rules.specs.declared.rel.AckJudged.TheVariants as acks
 use Rattle.sp_rules.specs.declared.rel.RelJudged.{RelJudged}
@@ -176,6 +178,14 @@ room r dst =
     else if is_full r.bound f then Err (refusals.Full f.at.base f.at.have)
     else Ok (f.at.have + 1)
 
+-- messages to a node wait for their acknowledgement
+abbrev pub is_waiting : RelState → NodeId → Bool
+is_waiting r dst = let f = flow_in r.flows (own_flow r dst) in nat_lt f.at.base f.at.have
+
+-- the first of them
+abbrev pub first_waiting : RelState → NodeId → Option Kept
+first_waiting r dst = slice_get (flow_in r.flows (own_flow r dst)).at.list 0
+
 -- a message is the next of its flow from this node
 abbrev pub IsNextOwn : RelState → Body → Type 0
 IsNextOwn r (bodies.Rel m) = (m.src ≡ r.me) × (room r m.dst ≡ Ok m.seq)
@@ -257,6 +267,7 @@ admit_rel r message =
 
 -- its delivery is told at the destination
 abbrev pub delivery : Body → Effect
+delivery (bodies.Krel m) = DeliveredKrel m.src m.seq m.payload
 delivery body = Delivered (flow_said body).src (number_said body) (payload_of body)
 
 -- what is told of a new message: at its destination, that it is delivered
@@ -374,13 +385,18 @@ views_less v p = record p { views = map (view_less v) p.views }
 abbrev pub restarted : RelState → NodeId → RelState
 restarted r v = record r { flows = map (flow_less v) r.flows; peers = map (views_less v) r.peers }
 
+-- what is told of a flow of this kind that was active and isn't any more
+abbrev pub ending : FlowKind → Flow → Effect
+ending kinds.Plain flow = Ended flow
+ending kinds.Paths flow = Kended flow
+
 -- those of them that were active end, in order
-abbrev pub ended_by : NodeId → FlowState → List Effect
-ended_by v f = if is_end v (ends f) && f.active then Ended (ends f) ∷ [] else []
+abbrev pub ended_by : FlowKind → NodeId → FlowState → List Effect
+ended_by kind v f = if is_end v (ends f) && f.active then ending kind (ends f) ∷ [] else []
 
 -- what is told where another life of a node begins: each active flow of it ends
-abbrev pub restart_effects : RelState → NodeId → List Effect
-restart_effects r v = flat_map (ended_by v) r.flows
+abbrev pub restart_effects : FlowKind → RelState → NodeId → List Effect
+restart_effects kind r v = flat_map (ended_by kind v) r.flows
 
 -- another life of the neighbour began: it reported nothing
 abbrev pub no_views : RelPeer → RelPeer
@@ -401,12 +417,12 @@ abbrev pub closed : RelState → List NodeId → RelState
 closed r removed = record r { removed = removed; flows = map (ended_where removed) r.flows }
 
 -- what is told of a flow where these nodes are removed
-abbrev pub ended_effect : List NodeId → FlowState → List Effect
-ended_effect removed f = if f.active && is_over removed (ends f) then Ended (ends f) ∷ [] else []
+abbrev pub ended_effect : FlowKind → List NodeId → FlowState → List Effect
+ended_effect kind removed f = if f.active && is_over removed (ends f) then ending kind (ends f) ∷ [] else []
 
 -- in the order of flows
-abbrev pub closed_effects : RelState → List NodeId → List Effect
-closed_effects r removed = flat_map (ended_effect removed) r.flows
+abbrev pub closed_effects : FlowKind → RelState → List NodeId → List Effect
+closed_effects kind r removed = flat_map (ended_effect kind removed) r.flows
 
 -- ---- what always holds
 

@@ -1,4 +1,4 @@
--- One step of a node: what it answers to a call, what that causes, and what is left. There are nine cases.
+-- One step of a node: what it answers to a call, what that causes, and what is left. There are eleven cases.
 use Rattle.std.specs.Prelude.{ℕ, ◌≡◌, List, [], ◌∷◌, ◌++◌, map, Option, None, Some}
 use Rattle.sp_base.specs.declared.id.NodeId.{NodeId}
 use Rattle.sp_msg.specs.declared.effect.Effect.{Effect}
@@ -7,6 +7,8 @@ use Rattle.sp_msg.specs.declared.refused.SendRefused.{SendRefused}
 use Rattle.sp_rules.specs.Arrivals.{after_datagram, before_document, document_at, handled, reply_at}
 use Rattle.sp_rules.specs.Arts.{Arts}
 use Rattle.sp_rules.specs.Documents.{adopted_where, after_publish, document_answer, publish_effects}
+use Rattle.sp_rules.specs.Kflow.{waiting_mask}
+use Rattle.sp_rules.specs.KflowSends.{KSend, after_send_krel, after_take_krel, krel_number, krel_refusal, krel_sent, send_krel_refusal}
 use Rattle.sp_rules.specs.Masks.{Choice, IsChoice, graph_of}
 use Rattle.sp_rules.specs.Node.{NodeState, call_refusal}
 use Rattle.sp_rules.specs.Polls.{after_poll, frame_to}
@@ -33,6 +35,8 @@ pub data Input : Type 0 where
   SetWeight : (peer : NodeId) (weight : ℕ) → Input
   TakeRel : (src : NodeId) → Input
   TakePrio : Input
+  SendKrel : (message : KSend) → Input
+  TakeKrel : (src : NodeId) → Input
   -- the administrator hands a document to the node
   Publish : (document : List ℕ) → Input
 
@@ -115,7 +119,7 @@ datagram_output arts n v bytes = refused_call (call_refusal n v) (arrived arts n
 
 -- what a tick gives
 abbrev pub tick_output : Arts → NodeState → ℕ → Output
-tick_output arts n now = record { reply = Ticked (tick_reply n); effects = tick_effects arts n now; answered = []; adopted = None }
+tick_output arts n now = record { reply = Ticked (tick_reply arts n now); effects = tick_effects arts n now; answered = []; adopted = None }
 
 -- what sending a reliable message gives
 abbrev pub send_rel_output : Arts → NodeState → NodeId → List ℕ → Output
@@ -124,6 +128,10 @@ send_rel_output arts n dst payload = refused_send (rel_refusal n dst) (accepted 
 -- what sending a priority message gives
 abbrev pub send_prio_output : Arts → NodeState → PrioSend → Choice → Output
 send_prio_output arts n m choice = refused_send (send_prio_refusal n m choice) (accepted n.parts.prio.next (prio_sent arts n m choice))
+
+-- what sending a message on paths gives
+abbrev pub send_krel_output : Arts → NodeState → KSend → Choice → Output
+send_krel_output arts n m choice = refused_send (send_krel_refusal n m choice) (accepted (krel_number n m.dst) (krel_sent arts n m choice))
 
 -- what setting a weight gives
 abbrev pub set_weight_output : Arts → NodeState → NodeId → ℕ → Output
@@ -144,12 +152,20 @@ publish_output arts n document = record {
 
 -- ---- the steps
 
--- the one case with a choice: which of the cheapest paths a message takes. They are sought only where nothing else refuses
+-- one of two cases with a choice: which of the cheapest paths a message takes. They are sought only where nothing else refuses
 pub record SendsPrio (arts : Arts) (old : NodeState) (m : PrioSend) (output : Output) (new : NodeState) : Type 0 where
   pub choice : Choice
   pub is_choice : prio_refusal old m ≡ None → IsChoice old.parts.weights (graph_of old.fixed.topology old.parts.weights) old.fixed.me m.dst m.paths choice
   pub output_is : output ≡ send_prio_output arts old m choice
   pub new_is : new ≡ after_send_prio arts old m choice
+
+-- the other one: they are sought only where nothing else refuses, and no message waits whose mask stays
+pub record SendsKrel (arts : Arts) (old : NodeState) (m : KSend) (output : Output) (new : NodeState) : Type 0 where
+  pub choice : Choice
+  pub is_choice : krel_refusal old m ≡ None → waiting_mask old.parts.kflow m.dst ≡ None
+      → IsChoice old.parts.weights (graph_of old.fixed.topology old.parts.weights) old.fixed.me m.dst m.paths choice
+  pub output_is : output ≡ send_krel_output arts old m choice
+  pub new_is : new ≡ after_send_krel arts old m choice
 
 -- from old the node answers the call so, and goes on to new
 abbrev pub NodeStep : Arts → NodeState → Input → Output → NodeState → Type 0
@@ -161,4 +177,6 @@ NodeStep arts old (SendPrio message) output new = SendsPrio arts old message out
 NodeStep arts old (SetWeight peer weight) output new = (output ≡ set_weight_output arts old peer weight) × (new ≡ after_set_weight arts old peer weight)
 NodeStep arts old (TakeRel src) output new = (output ≡ replied (Payload (rel.oldest old.parts.rel src))) × (new ≡ after_take_rel old src)
 NodeStep arts old TakePrio output new = (output ≡ take_prio_output old) × (new ≡ after_take_prio old)
+NodeStep arts old (SendKrel message) output new = SendsKrel arts old message output new
+NodeStep arts old (TakeKrel src) output new = (output ≡ replied (Payload (rel.oldest old.parts.kflow.flows src))) × (new ≡ after_take_krel old src)
 NodeStep arts old (Publish document) output new = (output ≡ publish_output arts old document) × (new ≡ after_publish arts old document)

@@ -53,6 +53,8 @@ pub enum RelAnswer {
     BadEnd,
     /// It names another boot of an end than the one that is held. Normal after a restart. An answer of format 2 alone.
     Epoch,
+    /// It came over an edge that its mask doesn't have. An attack. An answer to a message on paths alone.
+    OffMask,
     /// The message is here, or acknowledged. Normal where slots are repeated.
     Old,
     /// The source hasn't sent it. An attack.
@@ -103,6 +105,8 @@ pub enum Item {
     Prio(PrioAnswer),
     Ack(AckAnswer),
     Rel(RelAnswer),
+    Kack(AckAnswer),
+    Krel(RelAnswer),
     Epoch(EpochAnswer),
     Document(DocumentAnswer),
 }

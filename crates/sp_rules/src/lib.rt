@@ -3,6 +3,7 @@
 #![tactic(auto)]
 
 mod answers;
+mod kflow;
 mod link;
 mod lives;
 mod node;
@@ -16,6 +17,7 @@ mod window;
 pub use answers::{
     AckAnswer, DocumentAnswer, EpochAnswer, Item, PrioAnswer, RelAnswer, WeightAnswer,
 };
+pub use kflow::{FlowKind, KRoom, KSend, PathsTo};
 pub use link::LinkAnswer;
 pub use lives::{EpochJudged, Life};
 pub use node::{LinkReply, MAX_CALLS, NodeRefused, Step, Taken, TickReply};

@@ -6,10 +6,11 @@ use Rattle.sp_base.specs.declared.limits.TheConstants.{MAX_MESSAGES}
 use Rattle.sp_frame.specs.Views.{as_list}
 use Rattle.sp_rules.specs.Flow.{FlowState, ends}
 use Rattle.sp_rules.specs.Node.{NodeState}
-use Rattle.sp_rules.specs.Parts.{neighbours_of, nodes_of}
+use Rattle.sp_rules.specs.Parts.{flows_of, neighbours_of, nodes_of}
 use Rattle.sp_rules.specs.PrioPeer.{PrioPeer}
 use Rattle.sp_rules.specs.Rel.{pairs_of}
 use Rattle.sp_rules.specs.Weights.{held_in, row_for}
+use Rattle.sp_rules.specs.declared.kflow.FlowKind.{FlowKind}
 use Rattle.sp_runs.specs.Settings.{Setting, fixed_of}
 
 -- the ids of the neighbours of a node
@@ -29,9 +30,9 @@ pub record PeerIsBounded (store : ℕ) (q : PrioPeer) : Type 0 where
 
 -- a node's lists and stores are within the bounds of the header
 pub record IsBounded (x : Setting) (u : NodeId) (n : NodeState) : Type 0 where
-  -- each flow has one row
-  pub flows : map ends n.parts.rel.flows ≡ pairs_of (nodes_of x.topology)
-  pub each_flow : All (FlowIsBounded x.buffer) n.parts.rel.flows
+  -- each flow of either kind has one row
+  pub flows : (kind : FlowKind) → map ends (flows_of kind n.parts).flows ≡ pairs_of (nodes_of x.topology)
+  pub each_flow : (kind : FlowKind) → All (FlowIsBounded x.buffer) (flows_of kind n.parts).flows
   -- the inbox and, of each neighbour, one store
   pub inbox : length n.parts.prio.inbox.entries ≤ x.store
   pub peers : map (λ q. q.peer) n.parts.prio.peers ≡ neighbour_ids x u

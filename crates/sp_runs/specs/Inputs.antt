@@ -12,7 +12,7 @@ use Rattle.sp_msg.specs.declared.kept.Kept.{Kept}
 use Rattle.sp_rules.specs.Arts.{Arts}
 use Rattle.sp_rules.specs.Flow.{flow_said}
 use Rattle.sp_rules.specs.Node.{NodeState, link_in}
-use Rattle.sp_rules.specs.Steps.{Input, Poll, Datagram, Publish, Tick, SendRel, SendPrio, SetWeight, TakeRel, TakePrio}
+use Rattle.sp_rules.specs.Steps.{Input, Poll, Datagram, Publish, Tick, SendKrel, SendRel, SendPrio, SetWeight, TakeKrel, TakeRel, TakePrio}
 use Rattle.sp_rules.specs.Topologies.{weights_in}
 use Rattle.sp_runs.specs.Settings.{Setting}
 use Rattle.sp_rules.specs.Lives.{held_boot}
@@ -70,12 +70,18 @@ contents_with weights prios slot =
 abbrev pub slot_alone : List Life → Flow → (base have : ℕ) → Option Kept → List Kept → Contents
 slot_alone lives flow base have ack rels = contents_with [] [] (Some (report_on lives flow base have ack rels))
 
+-- the same of a flow on paths
+abbrev pub paths_alone : List Life → Flow → Option Kept → List Kept → Contents
+paths_alone lives flow ack rels = record (contents_with [] [] None) { paths = Some (report_on lives flow 0 0 ack rels) }
+
 -- one object in its section. What no schedule crafts has none
 abbrev pub object_alone : List Life → Body → Kept → Contents
 object_alone lives (bodies.Prio p) o = contents_with [] ((1, o) ∷ []) None
 object_alone lives (bodies.Rel r) o = slot_alone lives (flow_said (bodies.Rel r)) 0 0 None (o ∷ [])
 object_alone lives (bodies.Ack a) o = slot_alone lives (flow_said (bodies.Ack a)) 0 0 (Some o) []
 object_alone lives (bodies.Weight w) o = contents_with (o ∷ []) [] None
+object_alone lives (bodies.Krel r) o = paths_alone lives (flow_said (bodies.Krel r)) None (o ∷ [])
+object_alone lives (bodies.Kack a) o = paths_alone lives (flow_said (bodies.Kack a)) (Some o) []
 object_alone lives _ o = contents_with [] [] None
 
 -- a frame of this head with these sections, under the tag of this key
@@ -93,6 +99,8 @@ abbrev pub dated : List Life → Body → Body
 dated lives (bodies.Prio p) = bodies.Prio (record p { sboot = held_boot lives p.src })
 dated lives (bodies.Rel r) = bodies.Rel (record r { sboot = held_boot lives r.src; dboot = held_boot lives r.dst })
 dated lives (bodies.Ack a) = bodies.Ack (record a { sboot = held_boot lives a.src; dboot = held_boot lives a.dst })
+dated lives (bodies.Krel r) = bodies.Krel (record r { sboot = held_boot lives r.src; dboot = held_boot lives r.dst })
+dated lives (bodies.Kack a) = bodies.Kack (record a { sboot = held_boot lives a.src; dboot = held_boot lives a.dst })
 dated lives body = body
 
 -- the message with the next signature of the crafting signer of this key
@@ -133,7 +141,9 @@ abbrev pub input_of : Arts → Setting → World → NodeState → Event → Opt
 input_of arts x w n (events.Rel s d payload) = Some (SendRel d payload)
 input_of arts x w n (events.Prio s d prio expiry paths payload) =
     Some (SendPrio (record { dst = d; prio = prio; expiry = expiry; paths = paths; payload = payload }))
+input_of arts x w n (events.Krel s d paths payload) = Some (SendKrel (record { dst = d; paths = paths; payload = payload }))
 input_of arts x w n (events.Take d s) = Some (TakeRel s)
+input_of arts x w n (events.KTake d s) = Some (TakeKrel s)
 input_of arts x w n (events.TakePrio d) = Some TakePrio
 input_of arts x w n (events.Tick u now) = Some (Tick now)
 input_of arts x w n (events.Weight u v weight) = Some (SetWeight v weight)

@@ -6,6 +6,8 @@ use Rattle.sp_base.specs.declared.id.NodeId.{NodeId}
 use Rattle.sp_graph.specs.Walks.{steps}
 use Rattle.sp_rules.specs.Parts.{nodes_of}
 use Rattle.sp_rules.specs.Rel.{pairs_of}
+use Rattle.sp_rules.specs.declared.kflow.FlowKind.{FlowKind}
+use Rattle.sp_rules.specs.declared.kflow.FlowKind.TheVariants as kinds
 use Rattle.sp_runs.specs.Runs.{is_poll, polls}
 use Rattle.sp_runs.specs.Settings.{Setting, is_correct}
 use Rattle.sp_schedule_events.specs.declared.event.Event.{Event}
@@ -13,21 +15,22 @@ use Rattle.sp_schedule_events.specs.declared.event.Event.TheVariants as events
 
 -- ---- how many flows may wait for their turn
 
--- a client of the flow's source sends to its destination
-abbrev pub is_send : Flow → Event → Bool
-is_send flow (events.Rel from to payload) = (from.0 == flow.src.0) && (to.0 == flow.dst.0)
-is_send flow _ = false
+-- a client of the flow's source sends to its destination, by the kind of flows
+abbrev pub is_send : FlowKind → Flow → Event → Bool
+is_send kinds.Plain flow (events.Rel from to payload) = (from.0 == flow.src.0) && (to.0 == flow.dst.0)
+is_send kinds.Paths flow (events.Krel from to paths payload) = (from.0 == flow.src.0) && (to.0 == flow.dst.0)
+is_send kind flow _ = false
 
 -- both of its ends are correct
 abbrev pub has_correct_ends : Setting → Flow → Bool
 has_correct_ends x flow = is_correct x flow.src && is_correct x flow.dst
 
--- So many flows may ever wait for their turn at a node: those between correct nodes that a client sends to among these events, and each that has a
+-- So many flows of a kind may ever wait for their turn at a node: those between correct nodes that a client sends to among these events, and each that has a
 -- compromised end. At least 1
-abbrev pub flow_count : Setting → List Event → ℕ
-flow_count x es =
+abbrev pub flow_count : FlowKind → Setting → List Event → ℕ
+flow_count kind x es =
     let flows = pairs_of (nodes_of x.topology) in
-    max 1 (count_by (λ flow. has_correct_ends x flow && list_any (is_send flow) es) flows + count_by (λ flow. not (has_correct_ends x flow)) flows)
+    max 1 (count_by (λ flow. has_correct_ends x flow && list_any (is_send kind flow) es) flows + count_by (λ flow. not (has_correct_ends x flow)) flows)
 
 -- ---- a sweep
 
@@ -54,13 +57,14 @@ pub record IsSweep (least : ℕ) (u v : NodeId) (before during : List Event) : T
 -- ---- a round
 
 -- a client of d takes what came from s
-abbrev pub is_take : NodeId → NodeId → Event → Bool
-is_take d s (events.Take at from) = (at.0 == d.0) && (from.0 == s.0)
-is_take d s _ = false
+abbrev pub is_take : FlowKind → NodeId → NodeId → Event → Bool
+is_take kinds.Plain d s (events.Take at from) = (at.0 == d.0) && (from.0 == s.0)
+is_take kinds.Paths d s (events.KTake at from) = (at.0 == d.0) && (from.0 == s.0)
+is_take kind d s _ = false
 
 -- The interval serves the hop from u to v for the flow from s to d: it has a sweep from v to u, and wholly after it one from u to v. On the hop to d a client
 -- of d takes before that second sweep.
-pub record IsHopServed (least : ℕ) (s d u v : NodeId) (before during : List Event) : Type 0 where
+pub record IsHopServed (kind : FlowKind) (least : ℕ) (s d u v : NodeId) (before during : List Event) : Type 0 where
   pub early : List Event
   pub back : List Event
   pub between : List Event
@@ -69,15 +73,15 @@ pub record IsHopServed (least : ℕ) (s d u v : NodeId) (before during : List Ev
   pub parts : during ≡ early ++ (back ++ (between ++ (forth ++ late)))
   pub is_back : IsSweep least v u (before ++ early) back
   pub is_forth : IsSweep least u v (before ++ (early ++ (back ++ between))) forth
-  pub take : v ≡ d → IsTrue (list_any (is_take d s) (early ++ (back ++ between)))
+  pub take : v ≡ d → IsTrue (list_any (is_take kind d s) (early ++ (back ++ between)))
 
--- The interval is a complete round of the path for the flow from s to d: each hop is served, in whatever order.
-abbrev pub IsCompleteRound : (least : ℕ) → (s d : NodeId) → List NodeId → (before during : List Event) → Type 0
-IsCompleteRound least s d path before during = All (λ hop. IsHopServed least s d hop.0 hop.1 before during) (steps path)
+-- The interval is a complete round of the path for the flow of this kind from s to d: each hop is served, in whatever order.
+abbrev pub IsCompleteRound : FlowKind → (least : ℕ) → (s d : NodeId) → List NodeId → (before during : List Event) → Type 0
+IsCompleteRound kind least s d path before during = All (λ hop. IsHopServed kind least s d hop.0 hop.1 before during) (steps path)
 
 -- In the events after those before so many complete rounds follow one another. Between two and after the last there may be any events.
-pub data CompleteRounds (least : ℕ) (s d : NodeId) (path : List NodeId) : ℕ → (before after : List Event) → Type 0 where
-  None_left : {before after : List Event} → CompleteRounds least s d path zero before after
+pub data CompleteRounds (kind : FlowKind) (least : ℕ) (s d : NodeId) (path : List NodeId) : ℕ → (before after : List Event) → Type 0 where
+  None_left : {before after : List Event} → CompleteRounds kind least s d path zero before after
   Round : {n : ℕ} {before : List Event} (gap during : List Event) {after : List Event}
-      → IsCompleteRound least s d path (before ++ gap) during → CompleteRounds least s d path n (before ++ (gap ++ during)) after
-      → CompleteRounds least s d path (suc n) before (gap ++ (during ++ after))
+      → IsCompleteRound kind least s d path (before ++ gap) during → CompleteRounds kind least s d path n (before ++ (gap ++ during)) after
+      → CompleteRounds kind least s d path (suc n) before (gap ++ (during ++ after))

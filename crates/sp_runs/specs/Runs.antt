@@ -16,7 +16,7 @@ use Rattle.sp_runs.specs.Forgery.{forged}
 use Rattle.sp_runs.specs.Inputs.{acting, input_of}
 use Rattle.sp_runs.specs.Journals.{Says}
 use Rattle.sp_runs.specs.Lives.{Life, ready}
-use Rattle.sp_runs.specs.Settings.{Setting, is_correct, is_node, may_change}
+use Rattle.sp_runs.specs.Settings.{Setting, has_paths, is_correct, is_node, may_change}
 use Rattle.sp_runs.specs.Worlds.{Crafted, Direction, World, at_start, crafts, frames_in, is_running, node_in, with_craft, with_frame, with_node}
 use Rattle.sp_journal.specs.declared.entry.Entry.{Entry}
 use Rattle.sp_journal.specs.declared.entry.Reply.TheVariants as replies
@@ -125,6 +125,10 @@ AreFields x es (events.Rel s d payload) = IsTrue (is_correct x s) × IsTrue (is_
 AreFields x es (events.Prio s d prio expiry paths payload) =
     IsTrue (is_correct x s) × IsTrue (is_other x s d) × (1 ≤ prio) × (prio ≤ MAX_PRIORITY) × (expiry < 2 ^ 64) × (paths ≤ 8)
     × (length payload ≤ MAX_PAYLOAD_BYTES) × AreBytes payload
+AreFields x es (events.Krel s d paths payload) =
+    IsTrue (has_paths x) × IsTrue (is_correct x s) × IsTrue (is_other x s d) × (1 ≤ paths) × (paths ≤ 8)
+    × (length payload ≤ MAX_PAYLOAD_BYTES) × AreBytes payload
+AreFields x es (events.KTake d s) = IsTrue (has_paths x) × IsTrue (is_correct x d) × IsTrue (is_other x d s)
 AreFields x es (events.Take d s) = IsTrue (is_correct x d) × IsTrue (is_other x d s)
 AreFields x es (events.TakePrio d) = IsTrue (is_correct x d)
 AreFields x es (events.Tick u now) = IsTrue (is_correct x u) × (now < 2 ^ 64)

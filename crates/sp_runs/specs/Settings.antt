@@ -104,6 +104,10 @@ correct_nodes x = filter (is_correct x) (nodes_of x.topology)
 abbrev pub may_change : Setting → Bool
 may_change x = not (x.topology.format == FORMAT_1)
 
+-- there are flows on paths
+abbrev pub has_paths : Setting → Bool
+has_paths x = not (x.topology.format == FORMAT_1)
+
 -- the topology of a version with these weights
 abbrev pub version_of : Setting → (version : ℕ) → (weights : List ℕ) → Topology
 version_of x version weights = record x.topology { version = version; edges = under x.topology.edges weights }

@@ -4,6 +4,8 @@ use Rattle.std.specs.List.{flat_map, zip}
 use Rattle.sp_base.specs.declared.id.NodeId.{NodeId}
 use Rattle.sp_msg.specs.declared.effect.Effect.{Effect}
 use Rattle.sp_msg.specs.declared.effect.Effect.TheVariants as effects
+use Rattle.sp_rules.specs.declared.kflow.FlowKind.{FlowKind}
+use Rattle.sp_rules.specs.declared.kflow.FlowKind.TheVariants as kinds
 use Rattle.sp_journal.specs.declared.entry.Entry.{Entry}
 use Rattle.sp_journal.specs.declared.entry.Reply.{Reply}
 use Rattle.sp_journal.specs.declared.entry.Reply.TheVariants as replies
@@ -23,25 +25,28 @@ told tells es js = flat_map tells (zip es js)
 abbrev pub told_at : {X : Type 0} → NodeId → (Effect → List X) → Event × Entry → List X
 told_at u tells p = if (acting p.0).0 == u.0 then flat_map tells p.1.effects else []
 
--- ---- reliable messages
+-- ---- reliable messages of either kind
 
 -- a client's message from s to d and its number
-abbrev pub accepted_in : NodeId → NodeId → Event → Reply → List Message
-accepted_in s d (events.Rel from to payload) (replies.Accepted seq) = if (from.0 == s.0) && (to.0 == d.0) then (seq, payload) ∷ [] else []
-accepted_in s d _ _ = []
+abbrev pub accepted_in : FlowKind → NodeId → NodeId → Event → Reply → List Message
+accepted_in kinds.Plain s d (events.Rel from to payload) (replies.Accepted seq) = if (from.0 == s.0) && (to.0 == d.0) then (seq, payload) ∷ [] else []
+accepted_in kinds.Paths s d (events.Krel from to paths payload) (replies.Accepted seq) =
+    if (from.0 == s.0) && (to.0 == d.0) then (seq, payload) ∷ [] else []
+accepted_in kind s d _ _ = []
 
 -- accepted from clients of s for d
-abbrev pub sent : List Event → List Entry → NodeId → NodeId → List Message
-sent es js s d = told (λ p. accepted_in s d p.0 p.1.reply) es js
+abbrev pub sent : FlowKind → List Event → List Entry → NodeId → NodeId → List Message
+sent kind es js s d = told (λ p. accepted_in kind s d p.0 p.1.reply) es js
 
 -- a delivery of what came from s
-abbrev pub delivered_by : NodeId → Effect → List Message
-delivered_by s (effects.Delivered src seq payload) = if src.0 == s.0 then (seq, payload) ∷ [] else []
-delivered_by s _ = []
+abbrev pub delivered_by : FlowKind → NodeId → Effect → List Message
+delivered_by kinds.Plain s (effects.Delivered src seq payload) = if src.0 == s.0 then (seq, payload) ∷ [] else []
+delivered_by kinds.Paths s (effects.DeliveredKrel src seq payload) = if src.0 == s.0 then (seq, payload) ∷ [] else []
+delivered_by kind s _ = []
 
 -- delivered at d of what came from s
-abbrev pub delivered : List Event → List Entry → NodeId → NodeId → List Message
-delivered es js s d = told (told_at d (delivered_by s)) es js
+abbrev pub delivered : FlowKind → List Event → List Entry → NodeId → NodeId → List Message
+delivered kind es js s d = told (told_at d (delivered_by kind s)) es js
 
 -- ---- priority messages
 

@@ -276,9 +276,13 @@ end_not z (events.Craft c v key (crafted.Rel r)) = refl
 end_not z (events.Craft c v key (crafted.Ack a)) = refl
 end_not z (events.Craft c v key (crafted.Prio p)) = refl
 end_not z (events.Craft c v key (crafted.Weight w)) = refl
+end_not z (events.Craft c v key (crafted.Krel r)) = refl
+end_not z (events.Craft c v key (crafted.Kack a)) = refl
 end_not z (events.Start u) = refl
 end_not z (events.Stop u) = refl
 end_not z (events.Publish u weights) = refl
+end_not z (events.Krel s d paths payload) = refl
+end_not z (events.KTake d s) = refl
 end_not z (events.CraftDocument c v key version weights) = refl
 
 event_line : (s : Scenario) (es : List Event) (e : Event) → s.graph.nodes ≤ max_nodes s.format → length es < MAX_EVENTS → InRange s es e

@@ -1,7 +1,7 @@
 // A copy of an object.
 ghost use Rattle.std.specs.Prelude.{◌≡◌, IfOk};
 
-use crate::{CraftedObject, CraftedPrio, CraftedRel};
+use crate::{CraftedKrel, CraftedObject, CraftedPrio, CraftedRel};
 use sp_base::{Bytes, Memory};
 use std::alloc::Global;
 
@@ -27,5 +27,13 @@ pub fn copy_object(alloc: Global, object: &CraftedObject) -> Result<CraftedObjec
         })),
         CraftedObject::Ack(ack) => Ok(CraftedObject::Ack(*ack)),
         CraftedObject::Weight(weight) => Ok(CraftedObject::Weight(*weight)),
+        CraftedObject::Krel(krel) => Ok(CraftedObject::Krel(CraftedKrel {
+            src: krel.src,
+            dst: krel.dst,
+            seq: krel.seq,
+            mask: krel.mask,
+            payload: Bytes::copy(alloc, krel.payload.as_slice())?,
+        })),
+        CraftedObject::Kack(kack) => Ok(CraftedObject::Kack(*kack)),
     }
 }

@@ -9,6 +9,6 @@ mod writing;
 
 pub use copying::copy_object;
 pub use form::ObjectForm;
-pub use object::{CraftedAck, CraftedObject, CraftedPrio, CraftedRel};
+pub use object::{CraftedAck, CraftedKrel, CraftedObject, CraftedPrio, CraftedRel};
 pub use reading::{object_form, read_object};
 pub use writing::push_object;

@@ -4,9 +4,12 @@ ghost use Rattle.sp_base.specs.Refusals.{Gives};
 ghost use Rattle.sp_base.specs.Formats.{max_nodes};
 ghost use Rattle.sp_lines.specs.Answers.{Reads};
 ghost use Rattle.sp_lines.specs.Cells.{number_at, same};
-ghost use Rattle.sp_schedule_crafts.specs.Reading.{form_named, line_for, name};
+ghost use Rattle.sp_schedule_crafts.specs.Objects.{has_form};
+ghost use Rattle.sp_schedule_crafts.specs.Reading.{count as form_count, form_among, form_named, line_for, name};
+ghost use Rattle.sp_schedule_crafts.specs.Reading.{name as form_name};
 
-use crate::{CraftedAck, CraftedObject, CraftedPrio, CraftedRel, ObjectForm};
+use crate::form::has_form;
+use crate::{CraftedAck, CraftedKrel, CraftedObject, CraftedPrio, CraftedRel, ObjectForm};
 use sp_base::{
     EdgeId, MAX_PAYLOAD_BYTES, MAX_PRIORITY, MAX_SEQ, MAX_WEIGHT, NodeId, max_edges, max_nodes,
 };
@@ -15,27 +18,49 @@ use sp_msg::{Mask, WeightBody};
 use std::alloc::Global;
 
 /// The name of each form, and how many words stand behind it.
-const OBJECTS: [(&[u8], usize, ObjectForm); 4] = [
+const OBJECTS: [(&[u8], usize, ObjectForm); 6] = [
     (b"rel", 4, ObjectForm::Rel),
     (b"ack", 3, ObjectForm::Ack),
     (b"prio", 7, ObjectForm::Prio),
     (b"weight", 4, ObjectForm::Weight),
+    (b"krel", 5, ObjectForm::Krel),
+    (b"kack", 3, ObjectForm::Kack),
 ];
 
-/// The form with this name and so many words behind it.
-pub fn object_form(name: &[u8], count: usize) -> Option<ObjectForm>
-    ensures { result ≡ form_named name.now count }
+/// The form of a format with this name and so many words behind it.
+pub fn object_form(format: u8, name: &[u8], count: usize) -> Option<ObjectForm>
+    ensures { result ≡ form_named format name.now count }
 {
-    form_in(&OBJECTS, name, count)
+    form_in(&OBJECTS, format, name, count)
 }
 
-/// The form of the first of these rows with this name and count.
-fn form_in(rows: &[(&[u8], usize, ObjectForm)], name: &[u8], count: usize) -> Option<ObjectForm>
-    ensures { result ≡ option_map (λ row. row.2) (find (λ row. same name.now row.0.now && (count == row.1)) rows.now) }
+/// The form that the format has with this name and count, of rows that each have the name and the count of their form.
+fn form_in(
+    rows: &[(&[u8], usize, ObjectForm)],
+    format: u8,
+    name: &[u8],
+    count: usize,
+) -> Option<ObjectForm>
+    requires names { map (λ row. row.0.now) rows.now ≡ map (λ row. form_name row.2) rows.now }
+    requires counts { map (λ row. row.1) rows.now ≡ map (λ row. form_count row.2) rows.now }
+    ensures { result ≡ form_among (map (λ row. row.2) rows.now) format name.now count }
 {
-    let row = rows
-        .iter()
-        .find(|row| named(name, row.0) && count == row.1)?;
+    row_of(rows, format, name, count)
+}
+
+/// The form of the first of these rows with this name and count that the format has.
+fn row_of(
+    rows: &[(&[u8], usize, ObjectForm)],
+    format: u8,
+    name: &[u8],
+    count: usize,
+) -> Option<ObjectForm>
+    ensures { result ≡ option_map (λ row. row.2)
+        (find (λ row. (same name.now row.0.now && (count == row.1)) && has_form format row.2) rows.now) }
+{
+    let row = rows.iter().find(|row| named(name, row.0)
+        && count == row.1
+        && has_form(format, row.2))?;
     Some(row.2)
 }
 
@@ -53,6 +78,8 @@ pub fn read_object(
         ObjectForm::Ack => ack(format, fields),
         ObjectForm::Prio => prio(alloc, format, fields),
         ObjectForm::Weight => weight(format, fields),
+        ObjectForm::Krel => krel(alloc, format, fields),
+        ObjectForm::Kack => kack(format, fields),
     }
 }
 
@@ -134,6 +161,42 @@ fn weight(format: u8, fields: &[&[u8]]) -> Result<CraftedObject, LineRefused>
         seq,
         weight,
     }))
+}
+
+/// `krel S D SEQ MASK HEX`.
+#[tactic(auto, unfolding(crate::specs::Reading::read_form))]
+fn krel(alloc: Global, format: u8, fields: &[&[u8]]) -> Result<CraftedObject, LineRefused>
+    ensures { Reads result (line_for format ObjectForm.Krel (codes "krel" ∷ map (λ w. w.now) fields.now)) }
+{
+    let [src, dst, seq, mask_word, payload] = fields else {
+        return Err(LineRefused::Bad(Fault::Form));
+    };
+    let src = any_id(format, src)?;
+    let dst = any_id(format, dst)?;
+    let seq = ranged(seq, 1, MAX_SEQ)?;
+    let (high, low) = mask(alloc, mask_word, format)?;
+    let payload = bytes(alloc, payload, 0, MAX_PAYLOAD_BYTES)?;
+    Ok(CraftedObject::Krel(CraftedKrel {
+        src,
+        dst,
+        seq,
+        mask: Mask { low, high },
+        payload,
+    }))
+}
+
+/// `kack S D SEQ`.
+#[tactic(auto, unfolding(crate::specs::Reading::read_form))]
+fn kack(format: u8, fields: &[&[u8]]) -> Result<CraftedObject, LineRefused>
+    ensures { Reads result (line_for format ObjectForm.Kack (codes "kack" ∷ map (λ w. w.now) fields.now)) }
+{
+    let [src, dst, seq] = fields else {
+        return Err(LineRefused::Bad(Fault::Form));
+    };
+    let src = any_id(format, src)?;
+    let dst = any_id(format, dst)?;
+    let seq = ranged(seq, 1, MAX_SEQ)?;
+    Ok(CraftedObject::Kack(CraftedAck { src, dst, seq }))
 }
 
 /// The id of a node, which the graph needn't have.

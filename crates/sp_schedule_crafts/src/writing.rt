@@ -5,9 +5,9 @@ ghost use Rattle.std.specs.String.{string_bytes};
 ghost use Rattle.sp_text.specs.Spelling.{hex_word};
 ghost use Rattle.sp_lines.specs.Cells.{mask_word};
 ghost use Rattle.sp_lines.specs.Rows.{after_spaces};
-ghost use Rattle.sp_schedule_crafts.specs.Written.{ack_words, object_words, prio_words, rel_words, weight_words};
+ghost use Rattle.sp_schedule_crafts.specs.Written.{ack_words, krel_words, object_words, prio_words, rel_words, weight_words};
 
-use crate::{CraftedAck, CraftedObject, CraftedPrio, CraftedRel};
+use crate::{CraftedAck, CraftedKrel, CraftedObject, CraftedPrio, CraftedRel};
 use sp_base::Memory;
 use sp_lines::{push_field, push_hex_field, push_mask_field, push_name_field};
 use sp_msg::WeightBody;
@@ -18,9 +18,11 @@ pub fn push_object(out: &mut String, format: u8, object: &CraftedObject) -> Resu
 {
     match object {
         CraftedObject::Rel(rel) => push_rel(out, rel),
-        CraftedObject::Ack(ack) => push_ack(out, ack),
+        CraftedObject::Ack(ack) => push_ack(out, "ack", ack),
         CraftedObject::Prio(prio) => push_prio(out, format, prio),
         CraftedObject::Weight(weight) => push_weight(out, weight),
+        CraftedObject::Krel(krel) => push_krel(out, format, krel),
+        CraftedObject::Kack(kack) => push_ack(out, "kack", kack),
     }
 }
 
@@ -34,10 +36,11 @@ fn push_rel(out: &mut String, rel: &CraftedRel) -> Result<(), Memory>
     push_hex_field(out, rel.payload.as_slice())
 }
 
-fn push_ack(out: &mut String, ack: &CraftedAck) -> Result<(), Memory>
-    ensures { OnOk result (string_bytes out.new ≡ string_bytes out.old ++ after_spaces (ack_words ack.now)) }
+/// Appends an acknowledgement of this name.
+fn push_ack(out: &mut String, name: &str, ack: &CraftedAck) -> Result<(), Memory>
+    ensures { OnOk result (string_bytes out.new ≡ string_bytes out.old ++ after_spaces (ack_words name.now ack.now)) }
 {
-    push_name_field(out, "ack")?;
+    push_name_field(out, name)?;
     push_field(out, u64::from(ack.src.0))?;
     push_field(out, u64::from(ack.dst.0))?;
     push_field(out, ack.seq)
@@ -72,4 +75,15 @@ fn push_weight(out: &mut String, weight: &WeightBody) -> Result<(), Memory>
     push_field(out, u64::from(weight.edge.0))?;
     push_field(out, weight.seq)?;
     push_field(out, u64::from(weight.weight))
+}
+
+fn push_krel(out: &mut String, format: u8, krel: &CraftedKrel) -> Result<(), Memory>
+    ensures { OnOk result (string_bytes out.new ≡ string_bytes out.old ++ after_spaces (krel_words format krel.now)) }
+{
+    push_name_field(out, "krel")?;
+    push_field(out, u64::from(krel.src.0))?;
+    push_field(out, u64::from(krel.dst.0))?;
+    push_field(out, krel.seq)?;
+    push_mask_field(out, format, krel.mask.high, krel.mask.low)?;
+    push_hex_field(out, krel.payload.as_slice())
 }

@@ -82,6 +82,8 @@ counted_more es rows (events.Craft c b key body) counted u v = counted u v ∙ s
 counted_more es rows (events.CraftStatus c b s d base have) counted u v = counted u v ∙ sym (polls-other es (events.CraftStatus c b s d base have) u v refl)
 counted_more es rows (events.Start a) counted u v = counted u v ∙ sym (polls-other es (events.Start a) u v refl)
 counted_more es rows (events.Stop a) counted u v = counted u v ∙ sym (polls-other es (events.Stop a) u v refl)
+counted_more es rows (events.Krel s d paths payload) counted u v = counted u v ∙ sym (polls-other es (events.Krel s d paths payload) u v refl)
+counted_more es rows (events.KTake d s) counted u v = counted u v ∙ sym (polls-other es (events.KTake d s) u v refl)
 counted_more es rows (events.Publish a weights) counted u v = counted u v ∙ sym (polls-other es (events.Publish a weights) u v refl)
 counted_more es rows (events.CraftDocument c b key version weights) counted u v =
     counted u v ∙ sym (polls-other es (events.CraftDocument c b key version weights) u v refl)

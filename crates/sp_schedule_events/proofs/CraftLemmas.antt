@@ -2,7 +2,6 @@
 use Rattle.std.proofs.Common.{◌≡◌, ◌<◌, ◌≤◌, ℕ, suc, get_or, ◌==◌, ◌&&◌, Bool, true, false, cond, List, [], ◌∷◌, Option, Some, None, Result, Ok, Err, Bor, refl}
 use Rattle.std.proofs.Common.{sym, subst, ◌∙◌, ap, arith, inl, inr, drop, take, length, map, if◌then◌else◌}
 use Rattle.std.specs.Prelude.{◌-◌, ◌^◌, codes, find, option_map}
-use Rattle.std.specs.Option.{option_or}
 use Rattle.std.proofs.lemmas.Bool.{cases_Bool, and_parts}
 use Rattle.std.proofs.lemmas.Bool.Decides.{nat_tests}
 use Rattle.std.proofs.lemmas.List.{take_all}
@@ -10,7 +9,7 @@ use Rattle.sp_base.specs.Refusals.{◌>>=◌}
 use Rattle.sp_schedule_crafts.specs.declared.object.CraftedObject.{CraftedObject}
 use Rattle.sp_text.specs.Spelling.{Word}
 use Rattle.sp_lines.specs.Cells.{Bytes, Cell, Mask, Name, Number, Numbers, Tested, number_at, same, tested_at}
-use Rattle.sp_lines.specs.Rows.{agrees, fits, row_at}
+use Rattle.sp_lines.specs.Rows.{Values, agrees, fits, row_at}
 use Rattle.sp_lines.specs.declared.fault.Fault.{Fault}
 use Rattle.sp_lines.specs.declared.fault.Fault.TheVariants as faults
 use Rattle.sp_lines.proofs.Words.{same_self, same_words}
@@ -24,12 +23,11 @@ use Rattle.sp_schedule_events.specs.EventLines.{form_for, if_joined, read_event,
 use Rattle.sp_schedule_events.specs.Names.{crafted_event, line_for, line_where}
 use Rattle.sp_schedule_events.specs.Scenarios.{are_joined, has_documents, is_correct}
 use Rattle.sp_schedule_events.specs.Table as forms
-use Rattle.sp_schedule_events.specs.Table.{Form, cells, document_forms, has_status, life_forms}
+use Rattle.sp_schedule_events.specs.Table.{Form, cells, has_form}
 use Rattle.sp_schedule_events.specs.declared.event.Event.{Event}
 use Rattle.sp_schedule_events.specs.declared.event.Event.TheVariants as events
 use Rattle.sp_schedule_events.specs.declared.scenario.Scenario.{Scenario}
-use Rattle.sp_schedule_events.proofs.NameLemmas.{by_name, in_parts, no_lives, none_of_two, one_form, one_less, one_of_two, plain_forms, same_search, starts}
-use Rattle.sp_schedule_events.proofs.NameLemmas.{starts_so, where_had}
+use Rattle.sp_schedule_events.proofs.NameLemmas.{by_name, found_fits, one_form, one_less, same_search, starts, starts_so}
 
 -- ---- which row
 
@@ -95,6 +93,10 @@ object_row s objs.Prio c v key name fields =
     row_of (forms.node s) (forms.correct s) (forms.node s) (codes "prio") (rest s.format objs.Prio) tt c v key name fields refl
 object_row s objs.Weight c v key name fields =
     row_of (forms.node s) (forms.correct s) (forms.node s) (codes "weight") (rest s.format objs.Weight) tt c v key name fields refl
+object_row s objs.Krel c v key name fields =
+    row_of (forms.node s) (forms.correct s) (forms.node s) (codes "krel") (rest s.format objs.Krel) tt c v key name fields refl
+object_row s objs.Kack c v key name fields =
+    row_of (forms.node s) (forms.correct s) (forms.node s) (codes "kack") (rest s.format objs.Kack) tt c v key name fields refl
 
 document_row : (s : Scenario) (c v key name : Word) (fields : List Word)
     → starts (cells s forms.CraftDocument) (codes "craft" ∷ c ∷ v ∷ key ∷ name ∷ fields) ≡ (same name (codes "document") && (length fields == 2))
@@ -109,24 +111,23 @@ find_mapped test g (f ∷ all) = elim (cases_Bool (test (g f))) [
   | inr t ↦ rw t (find_mapped test g all)
 ]
 
--- the row of a crafted line that is no report: that of an object, or of a document in format 2
+-- the row of a crafted line that is no report: that of a document, or of an object of the format
 craft_form : (s : Scenario) (c v key name : Word) (fields : List Word) → same key (codes "status") ≡ false
     → form_for s (codes "craft" ∷ c ∷ v ∷ key ∷ name ∷ fields)
-    ≡ option_or (option_map forms.Craft (reading.form_named name (length fields)))
-    (if has_documents s then cond (same name (codes "document") && (length fields == 2)) (Some forms.CraftDocument) None else None)
+    ≡ cond ((same name (codes "document") && (length fields == 2)) && has_documents s) (Some forms.CraftDocument)
+    (option_map forms.Craft (reading.form_named s.format name (length fields)))
 craft_form s c v key name fields other =
-    by_name s (codes "craft") (c ∷ v ∷ key ∷ name ∷ fields) other ∙ in_parts s test
-    ∙ ap (λ (o : Option Form). option_or o (option_or (find test (life_forms s.epochs)) (find test (document_forms (has_documents s)))))
+    by_name s (codes "craft") (c ∷ v ∷ key ∷ name ∷ fields) other
+    ∙ ap (λ (t : Bool). cond (t && has_documents s) (Some forms.CraftDocument) (find test (map forms.Craft objects.forms)))
+    (document_row s c v key name fields)
+    ∙ ap (cond ((same name (codes "document") && (length fields == 2)) && has_documents s) (Some forms.CraftDocument))
     (find_mapped test forms.Craft objects.forms
     ∙ ap (option_map forms.Craft)
-    (same_search (λ o. test (forms.Craft o)) (λ o. same name (reading.name o) && (length fields == reading.count o)) (λ o. object_row s o c v key name fields)
-    objects.forms))
-    ∙ ap (option_or (option_map forms.Craft (reading.form_named name (length fields))))
-    (no_lives s test refl refl ∙ one_of_two (has_documents s) test forms.Publish forms.CraftDocument
-    ∙ ap (λ (t : Bool). if has_documents s then cond t (Some forms.CraftDocument) None else None) (document_row s c v key name fields))
+    (same_search (λ o. test (forms.Craft o)) (λ o. (same name (reading.name o) && (length fields == reading.count o)) && objects.has_form s.format o)
+    (λ o. ap (λ (t : Bool). t && objects.has_form s.format o) (object_row s o c v key name fields)) objects.forms))
   where
     test : Form → Bool
-    test form = starts (cells s form) (codes "craft" ∷ c ∷ v ∷ key ∷ name ∷ fields)
+    test form = starts (cells s form) (codes "craft" ∷ c ∷ v ∷ key ∷ name ∷ fields) && has_form s form
 
 -- ---- what the row says
 
@@ -156,34 +157,48 @@ object_read format objs.Rel name fields is = rw (fits_named fields (codes "rel")
 object_read format objs.Ack name fields is = rw (fits_named fields (codes "ack") (rest format objs.Ack) tt is) refl
 object_read format objs.Prio name fields is = rw (fits_named fields (codes "prio") (rest format objs.Prio) tt is) refl
 object_read format objs.Weight name fields is = rw (fits_named fields (codes "weight") (rest format objs.Weight) tt is) refl
+object_read format objs.Krel name fields is = rw (fits_named fields (codes "krel") (rest format objs.Krel) tt is) refl
+object_read format objs.Kack name fields is = rw (fits_named fields (codes "kack") (rest format objs.Kack) tt is) refl
+
+-- an object is of its form
+form_back : (format : ℕ) (o : ObjectForm) (xs : Values (objects.cells format o)) → objects.form_of (objects.object_of format o xs) ≡ o
+form_back format objs.Rel xs = refl
+form_back format objs.Ack xs = refl
+form_back format objs.Prio xs = refl
+form_back format objs.Weight xs = refl
+form_back format objs.Krel xs = refl
+form_back format objs.Kack xs = refl
 
 craft_read : (s : Scenario) (es : List Event) (o : ObjectForm) (c v key name : Word) (fields : List Word) → (length fields == reading.count o) ≡ true
+    → objects.has_form s.format o ≡ true
     → read_form s es (forms.Craft o) (codes "craft" ∷ c ∷ v ∷ key ∷ name ∷ fields) ≡ crafted_event s c v key o fields
 unfolding read_form reading.read_form
-craft_read s es o c v key name fields count =
+craft_read s es o c v key name fields count has =
     steps (number_at 1 s.graph.nodes c) (tested_at 1 s.graph.nodes (is_correct s) v) (number_at 1 s.graph.nodes key)
     (row_at (objects.cells s.format o) (name ∷ fields)) (λ xs. if_joined s es (event_of s (forms.Craft o) xs)) (objects.object_of s.format o)
-    (λ from to signer object. if are_joined s from to then Ok (events.Craft (id from) (id to) (id signer) object) else Err faults.Range) (λ a b k n. refl)
+    (λ from to signer object. if are_joined s from to then Ok (events.Craft (id from) (id to) (id signer) object) else Err faults.Range)
+    (λ a b k n. ap (λ (t : Bool). made a b k (objects.object_of s.format o n) (t && are_joined s a b)) (of_format n))
     ∙ ap
     (λ (r : Result CraftedObject Fault).
     number_at 1 s.graph.nodes c >>= λ from. tested_at 1 s.graph.nodes (is_correct s) v >>= λ to. number_at 1 s.graph.nodes key >>= λ signer.
     r >>= λ object. if are_joined s from to then Ok (events.Craft (id from) (id to) (id signer) object) else Err faults.Range)
     (sym (object_read s.format o name fields count))
-
--- the form that was found has so many words
-found_count : (name : Word) (count : ℕ) (o : ObjectForm) → reading.form_named name count ≡ Some o → (count == reading.count o) ≡ true
-found_count name count o is = go objects.forms is
   where
-    go : (all : List ObjectForm) → find (λ f. same name (reading.name f) && (count == reading.count f)) all ≡ Some o → (count == reading.count o) ≡ true
-    go [] none = absurd cc
-    go (f ∷ all) some = elim (cases_Bool (same name (reading.name f) && (count == reading.count f))) [
-      | inl t ↦
-          let here : Some f ≡ Some o = rw t at some in
-          let same_form : f ≡ o = cc in
-          let parts = and_parts (same name (reading.name f)) (count == reading.count f) t in
-          rw same_form at parts.1
-      | inr t ↦ go all (rw t at some)
-    ]
+    made : ℕ → ℕ → ℕ → CraftedObject → Bool → Result Event Fault
+    made a b k object good = if good then Ok (events.Craft (id a) (id b) (id k) object) else Err faults.Range
+
+    of_format : (n : Values (objects.cells s.format o)) → objects.has_form s.format (objects.form_of (objects.object_of s.format o n)) ≡ true
+    of_format n = ap (λ (f : ObjectForm). objects.has_form s.format f) (form_back s.format o n) ∙ has
+
+-- the form that was found has so many words, and is of the format
+found_form : (format : ℕ) (name : Word) (count : ℕ) (o : ObjectForm) → reading.form_named format name count ≡ Some o
+    → ((count == reading.count o) ≡ true) × (objects.has_form format o ≡ true)
+found_form format name count o is =
+    let both = and_parts (same name (reading.name o) && (count == reading.count o)) (objects.has_form format o) (found_fits test objects.forms o is) in
+    ((and_parts (same name (reading.name o)) (count == reading.count o) both.0).1, both.1)
+  where
+    test : ObjectForm → Bool
+    test f = (same name (reading.name f) && (count == reading.count f)) && objects.has_form format f
 
 -- a line with a report
 pub reported : (s : Scenario) (es : List Event) (c v key name : Word) (fields : List Word) → same key (codes "status") ≡ true
@@ -193,7 +208,8 @@ reported s es c v key name fields is =
     ≡ line_for s es forms.CraftStatus (codes "craft" ∷ c ∷ v ∷ codes "status" ∷ name ∷ fields))
     (sym (same_words key (codes "status") is))
     (one_form s es forms.CraftStatus (codes "craft") (c ∷ v ∷ codes "status" ∷ name ∷ fields)
-    (ap (λ (t : Bool). cond t (Some forms.CraftStatus) None) (starts_so (cells s forms.CraftStatus) (codes "craft") (c ∷ v ∷ codes "status" ∷ name ∷ fields))))
+    (ap (λ (t : Bool). cond (t && true) (Some forms.CraftStatus) None)
+    (starts_so (cells s forms.CraftStatus) (codes "craft") (c ∷ v ∷ codes "status" ∷ name ∷ fields))))
 
 -- a line with a document
 pub documented : (s : Scenario) (es : List Event) (c v key name : Word) (fields : List Word) → same key (codes "status") ≡ false
@@ -205,30 +221,27 @@ documented s es c v key name fields other is =
     (λ (x : Word). read_event s es (codes "craft" ∷ c ∷ v ∷ key ∷ x ∷ fields)
     ≡ line_where (has_documents s) s es forms.CraftDocument (codes "craft" ∷ c ∷ v ∷ key ∷ codes "document" ∷ fields))
     (sym (same_words name (codes "document") is))
-    (where_had s es forms.CraftDocument (codes "craft") (c ∷ v ∷ key ∷ codes "document" ∷ fields) (has_documents s)
+    (one_form s es forms.CraftDocument (codes "craft") (c ∷ v ∷ key ∷ codes "document" ∷ fields)
     (craft_form s c v key (codes "document") fields other
-    ∙ ap (λ (t : Bool). if has_documents s then cond t (Some forms.CraftDocument) None else None) (sym (document_row s c v key (codes "document") fields))))
+    ∙ ap (λ (t : Bool). cond (t && has_documents s) (Some forms.CraftDocument) None) (sym (document_row s c v key (codes "document") fields))))
 
 -- a line with an object
 pub crafted : (s : Scenario) (es : List Event) (c v key name : Word) (fields : List Word) (o : ObjectForm)
-    → same key (codes "status") ≡ false → reading.form_named name (length fields) ≡ Some o
+    → same key (codes "status") ≡ false → same name (codes "document") ≡ false → reading.form_named s.format name (length fields) ≡ Some o
     → read_event s es (codes "craft" ∷ c ∷ v ∷ key ∷ name ∷ fields) ≡ crafted_event s c v key o fields
-crafted s es c v key name fields o other is =
-    let found : form_for s (codes "craft" ∷ c ∷ v ∷ key ∷ name ∷ fields) ≡ Some (forms.Craft o) = craft_form s c v key name fields other ∙ rw is refl in
-    rw found (craft_read s es o c v key name fields (found_count name (length fields) o is))
-
-no_row : (has : Bool) → (if has then cond false (Some forms.CraftDocument) None else None) ≡ None
-no_row true = refl
-no_row false = refl
+crafted s es c v key name fields o other no_document is =
+    let found : form_for s (codes "craft" ∷ c ∷ v ∷ key ∷ name ∷ fields) ≡ Some (forms.Craft o) =
+    craft_form s c v key name fields other ∙ rw (is, no_document) refl in
+    let form = found_form s.format name (length fields) o is in
+    ap (λ (f : Option Form). read_for s es f (codes "craft" ∷ c ∷ v ∷ key ∷ name ∷ fields)) found ∙ craft_read s es o c v key name fields form.0 form.1
 
 -- none of these
 pub uncrafted : (s : Scenario) (es : List Event) (c v key name : Word) (fields : List Word)
-    → same key (codes "status") ≡ false → same name (codes "document") ≡ false → reading.form_named name (length fields) ≡ None
+    → same key (codes "status") ≡ false → same name (codes "document") ≡ false → reading.form_named s.format name (length fields) ≡ None
     → read_event s es (codes "craft" ∷ c ∷ v ∷ key ∷ name ∷ fields) ≡ Err faults.Form
 uncrafted s es c v key name fields other no_document is =
-    let found : form_for s (codes "craft" ∷ c ∷ v ∷ key ∷ name ∷ fields) ≡ None =
-    craft_form s c v key name fields other ∙ rw (is, no_document) (no_row (has_documents s)) in
-    rw found refl
+    let found : form_for s (codes "craft" ∷ c ∷ v ∷ key ∷ name ∷ fields) ≡ None = craft_form s c v key name fields other ∙ rw (is, no_document) refl in
+    ap (λ (f : Option Form). read_for s es f (codes "craft" ∷ c ∷ v ∷ key ∷ name ∷ fields)) found
 
 -- too few words
 pub crafted_few : (s : Scenario) (es : List Event) (words : List (Bor Word)) → length words < 4
@@ -236,24 +249,14 @@ pub crafted_few : (s : Scenario) (es : List Event) (words : List (Bor Word)) →
 crafted_few s es words few =
     ap (λ (found : Option Form). read_for s es found (codes "craft" ∷ map (λ w. w.now) words)) (none_fits words few)
   where
-    test : List Word → Form → Bool
-    test xs form = starts (cells s form) (codes "craft" ∷ xs)
-
-    no_form : (xs : List Word) → has_status xs ≡ false → find (test xs) plain_forms ≡ None → test xs forms.CraftDocument ≡ false
-        → form_for s (codes "craft" ∷ xs) ≡ None
-    no_form xs other plain document =
-        by_name s (codes "craft") xs other ∙ in_parts s (test xs)
-        ∙ ap (λ (o : Option Form). option_or o (option_or (find (test xs) (life_forms s.epochs)) (find (test xs) (document_forms (has_documents s))))) plain
-        ∙ no_lives s (test xs) refl refl ∙ none_of_two (has_documents s) (test xs) forms.Publish forms.CraftDocument refl document
-
     three : (a b c : Word) (t : Bool) → same c (codes "status") ≡ t → form_for s (codes "craft" ∷ a ∷ b ∷ c ∷ []) ≡ None
     three a b c true is = rw is refl
-    three a b c false is = no_form (a ∷ b ∷ c ∷ []) is refl refl
+    three a b c false is = by_name s (codes "craft") (a ∷ b ∷ c ∷ []) is
 
     none_fits : (ws : List (Bor Word)) → length ws < 4 → form_for s (codes "craft" ∷ map (λ w. w.now) ws) ≡ None
-    none_fits [] few = no_form [] refl refl refl
-    none_fits (a ∷ []) few = no_form (a.now ∷ []) refl refl refl
-    none_fits (a ∷ b ∷ []) few = no_form (a.now ∷ b.now ∷ []) refl refl refl
+    none_fits [] few = by_name s (codes "craft") [] refl
+    none_fits (a ∷ []) few = by_name s (codes "craft") (a.now ∷ []) refl
+    none_fits (a ∷ b ∷ []) few = by_name s (codes "craft") (a.now ∷ b.now ∷ []) refl
     none_fits (a ∷ b ∷ c ∷ []) few = three a.now b.now c.now (same c.now (codes "status")) refl
     none_fits (a ∷ b ∷ c ∷ d ∷ more) few = absurd (omega (arith, few))
 

@@ -1,9 +1,8 @@
 -- Events, their rows and their words.
-use Rattle.std.proofs.Common.{◌≡◌, ℕ, ◌<◌, ◌≤◌, ◌+◌, ◌^◌, ◌-◌, ◌==◌, Bool, true, false, List, [], ◌∷◌, ◌++◌, length, Option, Some, None, Ok, Err, refl, sym}
-use Rattle.std.proofs.Common.{subst, ◌∙◌, arith, inl, inr, if◌then◌else◌}
+use Rattle.std.proofs.Common.{◌≡◌, ℕ, ◌<◌, ◌≤◌, ◌+◌, ◌^◌, ◌-◌, ◌==◌, Bool, true, false, List, [], ◌∷◌, length, Option, Some, None, Ok, Err, refl, sym}
+use Rattle.std.proofs.Common.{subst, ◌∙◌, ap, arith, cond, inl, inr, if◌then◌else◌}
 use Rattle.std.specs.Prelude.{◌&&◌, codes, find, nat_le, nat_lt, not}
 use Rattle.std.specs.List.{list_all}
-use Rattle.std.proofs.lemmas.List.Folds.{find-append}
 use Rattle.std.specs.Fmt.{decimal}
 use Rattle.std.specs.Str.Parse.{AllDigits}
 use Rattle.std.proofs.lemmas.Fmt.{decimal_is_IsNumeral}
@@ -28,15 +27,15 @@ use Rattle.sp_lines.proofs.TextLemmas.{IsGoodLine}
 use Rattle.sp_lines.proofs.WidthLemmas.{good_cells, good_row_line}
 use Rattle.sp_lines.proofs.Words.{same_words}
 use Rattle.sp_schedule_crafts.specs.declared.form.ObjectForm.TheVariants as objects
-use Rattle.sp_schedule_events.specs.Events.{event_of, event_words, form_of, is_joined, values_of}
+use Rattle.sp_schedule_events.specs.Events.{event_of, event_words, form_of, has_object, is_joined, values_of}
 use Rattle.sp_schedule_events.specs.EventLines.{InRange, form_for, if_joined, read_event, read_for, read_form}
 use Rattle.sp_schedule_events.specs.Documents.{may_craft, may_publish, published}
 use Rattle.sp_schedule_events.specs.Lives.{is_started, may_act}
-use Rattle.sp_schedule_events.specs.Scenarios.{are_joined, has_documents}
-use Rattle.sp_schedule_events.proofs.NameLemmas.{no_lives}
+use Rattle.sp_schedule_events.specs.Scenarios.{are_joined, differ, has_documents, has_paths}
+use Rattle.sp_schedule_events.proofs.NameLemmas.{found_fits}
 use Rattle.sp_schedule_events.specs.Laws.{EventsHaveOneLine}
 use Rattle.sp_schedule_events.specs.Table as forms
-use Rattle.sp_schedule_events.specs.Table.{Form, cells, document_forms, life_forms}
+use Rattle.sp_schedule_events.specs.Table.{Form, cells, has_form, is_report}
 use Rattle.sp_schedule_events.specs.declared.scenario.Scenario.{Scenario}
 use Rattle.sp_schedule_events.specs.declared.event.Event.{Event}
 use Rattle.sp_schedule_events.specs.declared.event.Event.TheVariants as events
@@ -60,9 +59,13 @@ event_back z (events.Craft c v key (crafted.Rel r)) = refl
 event_back z (events.Craft c v key (crafted.Ack a)) = refl
 event_back z (events.Craft c v key (crafted.Prio p)) = refl
 event_back z (events.Craft c v key (crafted.Weight w)) = refl
+event_back z (events.Craft c v key (crafted.Krel r)) = refl
+event_back z (events.Craft c v key (crafted.Kack a)) = refl
 event_back z (events.Start u) = refl
 event_back z (events.Stop u) = refl
 event_back z (events.Publish u weights) = refl
+event_back z (events.Krel s d paths payload) = refl
+event_back z (events.KTake d s) = refl
 event_back z (events.CraftDocument c v key version weights) = refl
 
 -- the words of a row's values are those of its event, which are in the same ranges
@@ -86,9 +89,13 @@ of_form s (forms.Craft objects.Rel) xs = record { words = refl; ranges = λ are.
 of_form s (forms.Craft objects.Ack) xs = record { words = refl; ranges = λ are. are }
 of_form s (forms.Craft objects.Prio) xs = record { words = refl; ranges = λ are. are }
 of_form s (forms.Craft objects.Weight) xs = record { words = refl; ranges = λ are. are }
+of_form s (forms.Craft objects.Krel) xs = record { words = refl; ranges = λ are. are }
+of_form s (forms.Craft objects.Kack) xs = record { words = refl; ranges = λ are. are }
 of_form s forms.Start xs = record { words = refl; ranges = λ are. are }
 of_form s forms.Stop xs = record { words = refl; ranges = λ are. are }
 of_form s forms.Publish xs = record { words = refl; ranges = λ are. are }
+of_form s forms.Krel xs = record { words = refl; ranges = λ are. are }
+of_form s forms.KTake xs = record { words = refl; ranges = λ are. are }
 of_form s forms.CraftDocument xs = record { words = refl; ranges = λ are. are }
 
 -- ---- the row that an event's words fit
@@ -121,32 +128,30 @@ edges_small format = elim (cases_Bool (format == FORMAT_1)) [
 key_small : (s : Scenario) → s.graph.nodes ≤ max_nodes s.format → (n : ℕ) → n ≤ s.graph.nodes → n < 2 ^ 64
 key_small s few n below = omega (arith, few, below, nodes_small s.format)
 
--- the form that one of two is, where a scenario has these
-had : (has : Bool) (test : Form → Bool) (a b found : Form) → has ≡ true → find test (a ∷ b ∷ []) ≡ Some found
-    → find test (if has then a ∷ b ∷ [] else []) ≡ Some found
-had true test a b found is at = at
-had false test a b found is at = absurd cc
+-- the form of words that aren't those of a report
+again : (s : Scenario) (words : List Word) (found : Form) → is_report words ≡ false
+    → find (λ f. fits (cells s f) words && has_form s f) forms.forms ≡ Some found → form_for s words ≡ Some found
+again s words found other is =
+    ap (λ (report : Bool). find (λ f. fits (cells s f) words && has_form s f) (if report then forms.CraftStatus ∷ [] else forms.forms)) other ∙ is
 
--- of a life: the forms of documents come after it
-life_form : (s : Scenario) (test : Form → Bool) (found : Form) → s.epochs ≡ true → find test (forms.Start ∷ forms.Stop ∷ []) ≡ Some found
-    → find test (life_forms s.epochs ++ document_forms (has_documents s)) ≡ Some found
-life_form s test found is at =
-    find-append test (life_forms s.epochs) (document_forms (has_documents s)) ∙ rw (had s.epochs test forms.Start forms.Stop found is at) refl
-
--- of a document
-document_form : (s : Scenario) (test : Form → Bool) (found : Form) → has_documents s ≡ true → test forms.Start ≡ false → test forms.Stop ≡ false
-    → find test (forms.Publish ∷ forms.CraftDocument ∷ []) ≡ Some found → find test (life_forms s.epochs ++ document_forms (has_documents s)) ≡ Some found
-document_form s test found is start stop at =
-    find-append test (life_forms s.epochs) (document_forms (has_documents s)) ∙ no_lives s test start stop
-    ∙ had (has_documents s) test forms.Publish forms.CraftDocument found is at
+-- the form that fits is the one, where the scenario has it
+had : (form : Form) (has : Bool) → has ≡ true → cond has (Some form) None ≡ Some form
+had form has is = ap (λ (t : Bool). cond t (Some form) None) is
 
 -- an object is no report
-object_again : (s : Scenario) (c v key : NodeId) (o : CraftedObject) → s.graph.nodes ≤ max_nodes s.format → key.0 ≤ s.graph.nodes
+object_again : (s : Scenario) (c v key : NodeId) (o : CraftedObject) → s.graph.nodes ≤ max_nodes s.format → key.0 ≤ s.graph.nodes → has_object s o ≡ true
     → form_for s (event_words s (events.Craft c v key o)) ≡ Some (forms.Craft (crafts.form_of o))
-object_again z c v key (crafted.Rel r) few below = rw (not_status key.0 (key_small z few key.0 below)) refl
-object_again z c v key (crafted.Ack a) few below = rw (not_status key.0 (key_small z few key.0 below)) refl
-object_again z c v key (crafted.Prio p) few below = rw (not_status key.0 (key_small z few key.0 below)) refl
-object_again z c v key (crafted.Weight w) few below = rw (not_status key.0 (key_small z few key.0 below)) refl
+object_again z c v key o few below has =
+    again z (event_words z (events.Craft c v key o)) (forms.Craft (crafts.form_of o)) (not_status key.0 (key_small z few key.0 below)) (go o has)
+  where
+    go : (o : CraftedObject) → has_object z o ≡ true
+        → find (λ f. fits (cells z f) (event_words z (events.Craft c v key o)) && has_form z f) forms.forms ≡ Some (forms.Craft (crafts.form_of o))
+    go (crafted.Rel x) has = had (forms.Craft objects.Rel) (crafts.has_form z.format objects.Rel) has
+    go (crafted.Ack x) has = had (forms.Craft objects.Ack) (crafts.has_form z.format objects.Ack) has
+    go (crafted.Prio x) has = had (forms.Craft objects.Prio) (crafts.has_form z.format objects.Prio) has
+    go (crafted.Weight x) has = had (forms.Craft objects.Weight) (crafts.has_form z.format objects.Weight) has
+    go (crafted.Krel x) has = had (forms.Craft objects.Krel) (crafts.has_form z.format objects.Krel) has
+    go (crafted.Kack x) has = had (forms.Craft objects.Kack) (crafts.has_form z.format objects.Kack) has
 
 form_again : (s : Scenario) (es : List Event) (e : Event) → s.graph.nodes ≤ max_nodes s.format → InRange s es e
     → form_for s (event_words s e) ≡ Some (form_of e)
@@ -161,27 +166,18 @@ form_again z es (events.Pass u v n) few is = refl
 form_again z es (events.Flip u v n back bit) few is = refl
 form_again z es (events.Inject u v bytes) few is = refl
 form_again z es (events.CraftStatus c v s d base have) few is = refl
-form_again z es (events.Craft c v key o) few is = object_again z c v key o few is.values.2.3.1
-form_again z es (events.Start u) few is =
-    life_form z (λ f. fits (cells z f) (event_words z (events.Start u))) forms.Start (and_parts z.epochs (not (is_started es u.0)) is.may).0 refl
-form_again z es (events.Stop u) few is =
-    life_form z (λ f. fits (cells z f) (event_words z (events.Stop u))) forms.Stop (and_parts z.epochs (is_started es u.0) is.may).0 refl
+form_again z es (events.Craft c v key o) few is =
+    object_again z c v key o few is.values.2.3.1 (and_parts (has_object z o) (are_joined z c.0 v.0) is.joined).0
+form_again z es (events.Start u) few is = had forms.Start z.epochs (and_parts z.epochs (not (is_started es u.0)) is.may).0
+form_again z es (events.Stop u) few is = had forms.Stop z.epochs (and_parts z.epochs (is_started es u.0) is.may).0
 form_again z es (events.Publish u weights) few is =
-    document_form z (λ f. fits (cells z f) (event_words z (events.Publish u weights))) forms.Publish
-    (and_parts (has_documents z) (may_publish z (published es) weights) is.joined).0 refl refl refl
+    had forms.Publish (has_documents z) (and_parts (has_documents z) (may_publish z (published es) weights) is.joined).0
+form_again z es (events.Krel s d paths payload) few is = had forms.Krel (has_paths z) (and_parts (has_paths z) (differ s.0 d.0) is.joined).0
+form_again z es (events.KTake d s) few is = had forms.KTake (has_paths z) (and_parts (has_paths z) (differ d.0 s.0) is.joined).0
 form_again z es (events.CraftDocument c v key version weights) few is =
-    rw (not_status key (key_small z few key is.values.2.3.1))
-    (document_form z (λ f. fits (cells z f) (event_words z (events.CraftDocument c v key version weights))) forms.CraftDocument
-    (and_parts (has_documents z) (are_joined z c.0 v.0 && may_craft z (published es) key version weights) is.joined).0 refl refl refl)
-
--- the row that was found is fitted
-found_fits : {F : Type 0} (test : F → Bool) (all : List F) (found : F) → find test all ≡ Some found → test found ≡ true
-found_fits test [] found is = absurd cc
-found_fits test (x ∷ all) found is =
-    elim (cases_Bool (test x)) [
-      | inl passes ↦ (let here : Some x ≡ Some found = rw passes at is in let same_form : x ≡ found = cc in rw same_form at passes)
-      | inr fails ↦ found_fits test all found (rw fails at is)
-    ]
+    again z (event_words z (events.CraftDocument c v key version weights)) forms.CraftDocument (not_status key (key_small z few key is.values.2.3.1))
+    (had forms.CraftDocument (has_documents z)
+    (and_parts (has_documents z) (are_joined z c.0 v.0 && may_craft z (published es) key version weights) is.joined).0)
 
 -- ---- good rows
 
@@ -212,10 +208,14 @@ good_places s form few = go form
     go forms.CraftStatus = rw room refl
     go (forms.Craft objects.Rel) = rw (room, ids) refl
     go (forms.Craft objects.Ack) = rw (room, ids) refl
+    go (forms.Craft objects.Kack) = rw (room, ids) refl
     go (forms.Craft objects.Prio) = rw (room, ids) refl
+    go (forms.Craft objects.Krel) = rw (room, ids) refl
     go (forms.Craft objects.Weight) = rw (room, ids, edges) refl
     go forms.Start = rw room refl
     go forms.Stop = rw room refl
+    go forms.Krel = rw room refl
+    go forms.KTake = rw room refl
     go forms.Publish = rw room refl
     go forms.CraftDocument = rw room refl
 
@@ -247,13 +247,20 @@ short_row s form few = go form
     go forms.CraftStatus = record { some = refl; short = refl }
     go (forms.Craft objects.Rel) = record { some = refl; short = refl }
     go (forms.Craft objects.Ack) = record { some = refl; short = refl }
+    go (forms.Craft objects.Kack) = record { some = refl; short = refl }
     go (forms.Craft objects.Prio) = elim (cases_Bool (s.format == FORMAT_1)) [
+      | inl one ↦ record { some = refl; short = rw one refl }
+      | inr two ↦ record { some = refl; short = rw two refl }
+    ]
+    go (forms.Craft objects.Krel) = elim (cases_Bool (s.format == FORMAT_1)) [
       | inl one ↦ record { some = refl; short = rw one refl }
       | inr two ↦ record { some = refl; short = rw two refl }
     ]
     go (forms.Craft objects.Weight) = record { some = refl; short = refl }
     go forms.Start = record { some = refl; short = refl }
     go forms.Stop = record { some = refl; short = refl }
+    go forms.Krel = record { some = refl; short = refl }
+    go forms.KTake = record { some = refl; short = refl }
     go forms.Publish = record { some = refl; short = grind (arith, nat_tests, narrow (length s.graph.edges) few) }
     go forms.CraftDocument = record { some = refl; short = grind (arith, nat_tests, narrow (length s.graph.edges) few) }
 
@@ -294,7 +301,9 @@ event_read : (s : Scenario) (es : List Event) (words : List Word) (e : Event) �
     → read_for s es found words ≡ Ok e
     → InRange s es e × (words ≡ event_words s e)
 event_read s es words e None is read = absurd cc
-event_read s es words e (Some form) is read = form_read s es form words e (found_fits (λ f. fits (cells s f) words) (forms.forms_for s words) form is) read
+event_read s es words e (Some form) is read =
+    let fit = found_fits (λ f. fits (cells s f) words && has_form s f) (forms.forms_for words) form is in
+    form_read s es form words e (and_parts (fits (cells s form) words) (has_form s form) fit).0 read
 
 event_back_read : (s : Scenario) (es : List Event) (e : Event) → s.graph.nodes ≤ max_nodes s.format → InRange s es e → read_event s es (event_words s e) ≡ Ok e
 unfolding read_form

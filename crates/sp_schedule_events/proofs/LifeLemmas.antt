@@ -69,6 +69,8 @@ flagged_more es flags (events.Flip a b number back bit) are = same_flags es flag
 flagged_more es flags (events.Inject a b bytes) are = same_flags es flags (events.Inject a b bytes) are (λ u was. refl)
 flagged_more es flags (events.Craft c b key body) are = same_flags es flags (events.Craft c b key body) are (λ u was. refl)
 flagged_more es flags (events.CraftStatus c b s d base have) are = same_flags es flags (events.CraftStatus c b s d base have) are (λ u was. refl)
+flagged_more es flags (events.Krel s d paths payload) are = same_flags es flags (events.Krel s d paths payload) are (λ u was. refl)
+flagged_more es flags (events.KTake d s) are = same_flags es flags (events.KTake d s) are (λ u was. refl)
 flagged_more es flags (events.Publish a weights) are = same_flags es flags (events.Publish a weights) are (λ u was. refl)
 flagged_more es flags (events.CraftDocument c b key version weights) are =
     same_flags es flags (events.CraftDocument c b key version weights) are (λ u was. refl)

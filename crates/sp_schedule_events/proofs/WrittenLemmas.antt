@@ -1,8 +1,7 @@
 -- What is written of an event is its line.
-use Rattle.std.proofs.Common.{◌≡◌, ℕ, List, [], ◌∷◌, ◌++◌, refl, sym, ap, ◌∙◌, append_assoc, append-nil}
+use Rattle.std.proofs.Common.{◌≡◌, ℕ, List, [], ◌∷◌, ◌++◌, refl, sym, ap, ◌∙◌, append_assoc}
 use Rattle.std.specs.List.{join_with_byte}
 use Rattle.sp_schedule_crafts.specs.declared.object.CraftedObject.TheVariants as crafted
-use Rattle.sp_text.specs.Spelling.{Word}
 use Rattle.sp_lines.specs.Rows.{after_spaces, line_text}
 use Rattle.sp_lines.proofs.WrittenLemmas.{after_append, joined}
 use Rattle.sp_schedule_events.specs.Events.{event_words}
@@ -28,9 +27,13 @@ same_words z (events.Craft c v key (crafted.Rel r)) = refl
 same_words z (events.Craft c v key (crafted.Ack a)) = refl
 same_words z (events.Craft c v key (crafted.Prio p)) = refl
 same_words z (events.Craft c v key (crafted.Weight w)) = refl
+same_words z (events.Craft c v key (crafted.Krel r)) = refl
+same_words z (events.Craft c v key (crafted.Kack a)) = refl
 same_words z (events.Start u) = refl
 same_words z (events.Stop u) = refl
 same_words z (events.Publish u weights) = refl
+same_words z (events.Krel s d paths payload) = refl
+same_words z (events.KTake d s) = refl
 same_words z (events.CraftDocument c v key version weights) = refl
 
 -- a name and its fields, written one after the other, and a newline

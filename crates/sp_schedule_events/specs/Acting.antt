@@ -20,4 +20,6 @@ acting (events.CraftStatus c v s d base have) = v
 acting (events.Start u) = u
 acting (events.Stop u) = u
 acting (events.Publish u weights) = u
+acting (events.Krel s d paths payload) = s
+acting (events.KTake d s) = d
 acting (events.CraftDocument c v key version weights) = v

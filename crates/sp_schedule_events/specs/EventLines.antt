@@ -1,19 +1,19 @@
 -- What the line of an event says: the event, or the first fault in its order.
-use Rattle.std.specs.Prelude.{◌≡◌, ◌&&◌, true, List, Option, Some, None, Result, Ok, Err, if◌then◌else◌}
+use Rattle.std.specs.Prelude.{◌≡◌, ◌&&◌, true, List, find, Option, Some, None, Result, Ok, Err, if◌then◌else◌}
 use Rattle.sp_base.specs.Refusals.{◌>>=◌}
 use Rattle.sp_text.specs.Spelling.{Word}
-use Rattle.sp_lines.specs.Rows.{AreIn, form_among, row_at}
+use Rattle.sp_lines.specs.Rows.{AreIn, fits, row_at}
 use Rattle.sp_lines.specs.declared.fault.Fault.{Fault}
 use Rattle.sp_lines.specs.declared.fault.Fault.TheVariants as faults
 use Rattle.sp_schedule_events.specs.Events.{event_of, form_of, is_joined, values_of}
 use Rattle.sp_schedule_events.specs.Lives.{may_act}
-use Rattle.sp_schedule_events.specs.Table.{Form, cells, forms_for}
+use Rattle.sp_schedule_events.specs.Table.{Form, cells, forms_for, has_form}
 use Rattle.sp_schedule_events.specs.declared.scenario.Scenario.{Scenario}
 use Rattle.sp_schedule_events.specs.declared.event.Event.{Event}
 
--- the form whose row the words fit
+-- the form of the scenario whose row the words fit
 abbrev pub form_for : Scenario → List Word → Option Form
-form_for s words = form_among (cells s) (forms_for s words) words
+form_for s words = find (λ form. fits (cells s form) words && has_form s form) (forms_for words)
 
 -- the rules that join fields come last: on the line itself, and on who is started
 abbrev pub if_joined : Scenario → List Event → Event → Result Event Fault

@@ -4,8 +4,9 @@ use Rattle.sp_text.specs.Spelling.{Word}
 use Rattle.sp_lines.specs.Rows.{Values, spelled}
 use Rattle.sp_schedule_crafts.specs.Objects as objects
 use Rattle.sp_schedule_crafts.specs.Objects.{id}
+use Rattle.sp_schedule_crafts.specs.declared.object.CraftedObject.{CraftedObject}
 use Rattle.sp_schedule_events.specs.Documents.{may_craft, may_publish, published}
-use Rattle.sp_schedule_events.specs.Scenarios.{are_joined, differ, has_documents}
+use Rattle.sp_schedule_events.specs.Scenarios.{are_joined, differ, has_documents, has_paths}
 use Rattle.sp_schedule_events.specs.Table as forms
 use Rattle.sp_schedule_events.specs.Table.{Form, cells}
 use Rattle.sp_schedule_events.specs.declared.scenario.Scenario.{Scenario}
@@ -28,6 +29,8 @@ event_of s forms.CraftStatus x = events.CraftStatus (id x.0) (id x.1.0) (id x.1.
 event_of s forms.Start x = events.Start (id x.0)
 event_of s forms.Stop x = events.Stop (id x.0)
 event_of s forms.Publish x = events.Publish (id x.0) x.1.0
+event_of s forms.Krel x = events.Krel (id x.0) (id x.1.0) x.1.1.0 x.1.1.1.0
+event_of s forms.KTake x = events.KTake (id x.0) (id x.1.0)
 event_of s forms.CraftDocument x = events.CraftDocument (id x.0) (id x.1.0) x.1.1.0 x.1.1.1.0 x.1.1.1.1.0
 event_of s (forms.Craft object) x = events.Craft (id x.0) (id x.1.0) (id x.1.1.0) (objects.object_of s.format object x.1.1.1)
 
@@ -49,6 +52,8 @@ form_of (events.Start u) = forms.Start
 form_of (events.Stop u) = forms.Stop
 form_of (events.Publish u weights) = forms.Publish
 form_of (events.CraftDocument c v key version weights) = forms.CraftDocument
+form_of (events.Krel s d paths payload) = forms.Krel
+form_of (events.KTake d s) = forms.KTake
 
 -- its values in that row
 abbrev pub values_of : (s : Scenario) (e : Event) → Values (cells s (form_of e))
@@ -68,6 +73,8 @@ values_of z (events.Start u) = (u.0, tt)
 values_of z (events.Stop u) = (u.0, tt)
 values_of z (events.Publish u weights) = (u.0, (weights, tt))
 values_of z (events.CraftDocument c v key version weights) = (c.0, (v.0, (key, (version, (weights, tt)))))
+values_of z (events.Krel s d paths payload) = (s.0, (d.0, (paths, (payload, tt))))
+values_of z (events.KTake d s) = (d.0, (s.0, tt))
 
 -- the words of an event. They are the same in each scenario of a format
 abbrev pub event_words : Scenario → Event → List Word
@@ -88,6 +95,10 @@ polls es u v = length (filter (is_poll u v) es)
 abbrev pub is_polled : List Event → ℕ → ℕ → ℕ → Bool
 is_polled es u v n = nat_le 1 n && nat_le n (polls es u v)
 
+-- the format has the object
+abbrev pub has_object : Scenario → CraftedObject → Bool
+has_object s object = objects.has_form s.format (objects.form_of object)
+
 -- the fields of an event go together
 abbrev pub is_joined : Scenario → List Event → Event → Bool
 is_joined s es (events.Rel a b payload) = differ a.0 b.0
@@ -101,9 +112,11 @@ is_joined s es (events.Pass u v n) = is_polled es u.0 v.0 n
 is_joined s es (events.Flip u v n back bit) = is_polled es u.0 v.0 n
 is_joined s es (events.Inject u v bytes) = are_joined s u.0 v.0
 is_joined s es (events.CraftStatus c v a b base have) = are_joined s c.0 v.0 && differ a.0 b.0
-is_joined s es (events.Craft c v key object) = are_joined s c.0 v.0
+is_joined s es (events.Craft c v key object) = has_object s object && are_joined s c.0 v.0
 is_joined s es (events.Start u) = true
 is_joined s es (events.Stop u) = true
 is_joined s es (events.Publish u weights) = has_documents s && may_publish s (published es) weights
 is_joined s es (events.CraftDocument c v key version weights) =
     has_documents s && (are_joined s c.0 v.0 && may_craft s (published es) key version weights)
+is_joined s es (events.Krel a b paths payload) = has_paths s && differ a.0 b.0
+is_joined s es (events.KTake a b) = has_paths s && differ a.0 b.0

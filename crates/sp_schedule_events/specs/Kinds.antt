@@ -26,6 +26,12 @@ IsAsked (events.Tick u now) = Unit {0}
 IsAsked (events.Weight u v weight) = Unit {0}
 IsAsked _ = ⊥
 
+-- a client asks for something of a flow on paths
+abbrev pub IsOnPaths : Event → Type 0
+IsOnPaths (events.Krel s d paths payload) = Unit {0}
+IsOnPaths (events.KTake d s) = Unit {0}
+IsOnPaths _ = ⊥
+
 -- the administrator's document is handed to a node, or a compromised node sends one
 abbrev pub IsOfDocument : Event → Type 0
 IsOfDocument (events.Publish u weights) = Unit {0}

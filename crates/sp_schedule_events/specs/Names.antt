@@ -33,12 +33,14 @@ name lines.Craft = codes "craft"
 name lines.Start = codes "start"
 name lines.Stop = codes "stop"
 name lines.Publish = codes "publish"
+name lines.Krel = codes "krel"
+name lines.KTake = codes "ktake"
 
 -- all lines
 abbrev pub names : List LineName
 names =
     lines.Rel ∷ lines.Prio ∷ lines.Take ∷ lines.TakePrio ∷ lines.Tick ∷ lines.Weight ∷ lines.Poll ∷ lines.Pass ∷ lines.Flip ∷ lines.Inject ∷ lines.Craft
-    ∷ lines.Start ∷ lines.Stop ∷ lines.Publish ∷ []
+    ∷ lines.Start ∷ lines.Stop ∷ lines.Publish ∷ lines.Krel ∷ lines.KTake ∷ []
 
 -- the line with this first word
 abbrev pub line_named : Word → Option LineName

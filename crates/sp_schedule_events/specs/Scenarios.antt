@@ -24,3 +24,7 @@ differ a b = not (a == b)
 -- the administrator signs documents in format 2 alone
 abbrev pub has_documents : Scenario → Bool
 has_documents s = not (s.format == FORMAT_1)
+
+-- there are flows on paths in format 2 alone
+abbrev pub has_paths : Scenario → Bool
+has_paths s = not (s.format == FORMAT_1)

@@ -9,17 +9,19 @@
 --
 --     start U                            publish U LIST
 --     stop U                             craft C V KEY document N LIST
+--     krel S D K HEX                     ktake D S
 --
 -- The key of a crafted object may be that of any node, and the key of a document also 0, the administrator's. LIST has a weight for each edge, 0 for one that
--- is withdrawn, or is `same` for the last list that was published. Nodes start and stop in a scenario with epochs alone, and documents are of format 2.
-use Rattle.std.specs.Prelude.{◌-◌, ◌^◌, ◌&&◌, Bool, false, List, [], ◌∷◌, ◌++◌, length, map, codes, if◌then◌else◌}
+-- is withdrawn, or is `same` for the last list that was published. Nodes start and stop in a scenario with epochs alone. Documents and flows on paths are of
+-- format 2.
+use Rattle.std.specs.Prelude.{◌-◌, ◌^◌, ◌&&◌, Bool, true, false, List, [], ◌∷◌, length, map, codes, if◌then◌else◌}
 use Rattle.sp_base.specs.declared.limits.TheConstants.{MAX_PRIORITY, MAX_WEIGHT}
 use Rattle.sp_text.specs.Spelling.{Word}
 use Rattle.sp_lines.specs.Cells.{Bytes, Cell, Name, Number, Numbers, Tested, same}
 use Rattle.sp_schedule_crafts.specs.Objects as objects
 use Rattle.sp_schedule_crafts.specs.Objects.{any_number, payload}
 use Rattle.sp_schedule_crafts.specs.declared.form.ObjectForm.{ObjectForm}
-use Rattle.sp_schedule_events.specs.Scenarios.{has_documents, is_correct}
+use Rattle.sp_schedule_events.specs.Scenarios.{has_documents, has_paths, is_correct}
 use Rattle.sp_schedule_events.specs.declared.scenario.Scenario.{Scenario}
 
 -- the forms of an event's line
@@ -40,6 +42,8 @@ pub data Form : Type 0 where
   Stop : Form
   Publish : Form
   CraftDocument : Form
+  Krel : Form
+  KTake : Form
 
 -- ---- places
 
@@ -76,22 +80,27 @@ cells s Stop = Name (codes "stop") ∷ correct s ∷ []
 cells s Publish = Name (codes "publish") ∷ correct s ∷ weights s ∷ []
 cells s CraftDocument =
     Name (codes "craft") ∷ node s ∷ correct s ∷ Number 0 s.graph.nodes ∷ Name (codes "document") ∷ Number 1 (2 ^ 32 - 1) ∷ weights s ∷ []
+cells s Krel = Name (codes "krel") ∷ correct s ∷ node s ∷ Number 1 8 ∷ payload ∷ []
+cells s KTake = Name (codes "ktake") ∷ correct s ∷ node s ∷ []
 
 -- ---- the forms of a scenario
 
--- the forms of starts and stops, where there are some
-abbrev pub life_forms : (epochs : Bool) → List Form
-life_forms epochs = if epochs then Start ∷ Stop ∷ [] else []
-
--- the forms of documents, where there are some
-abbrev pub document_forms : (documents : Bool) → List Form
-document_forms documents = if documents then Publish ∷ CraftDocument ∷ [] else []
-
 -- all but the report
-abbrev pub forms : Scenario → List Form
-forms s =
-    Rel ∷ Prio ∷ Take ∷ TakePrio ∷ Tick ∷ Weight ∷ Poll ∷ Pass ∷ Flip ∷ Inject
-    ∷ (map Craft objects.forms ++ (life_forms s.epochs ++ document_forms (has_documents s)))
+abbrev pub forms : List Form
+forms =
+    Rel ∷ Prio ∷ Take ∷ TakePrio ∷ Tick ∷ Weight ∷ Poll ∷ Pass ∷ Flip ∷ Inject ∷ Start ∷ Stop ∷ Publish ∷ Krel ∷ KTake ∷ CraftDocument
+    ∷ map Craft objects.forms
+
+-- those that a scenario has
+abbrev pub has_form : Scenario → Form → Bool
+has_form s Start = s.epochs
+has_form s Stop = s.epochs
+has_form s Publish = has_documents s
+has_form s CraftDocument = has_documents s
+has_form s Krel = has_paths s
+has_form s KTake = has_paths s
+has_form s (Craft object) = objects.has_form s.format object
+has_form s form = true
 
 -- the word `status` in the place of a key is that of a report, whatever comes after it
 abbrev pub has_status : List Word → Bool
@@ -104,5 +113,5 @@ is_report (name ∷ words) = same name (codes "craft") && has_status words
 is_report [] = false
 
 -- those that words may have
-abbrev pub forms_for : Scenario → List Word → List Form
-forms_for s words = if is_report words then CraftStatus ∷ [] else forms s
+abbrev pub forms_for : List Word → List Form
+forms_for words = if is_report words then CraftStatus ∷ [] else forms

@@ -29,6 +29,8 @@ event_name (events.Craft c v key object) = codes "craft"
 event_name (events.Start u) = codes "start"
 event_name (events.Stop u) = codes "stop"
 event_name (events.Publish u weights) = codes "publish"
+event_name (events.Krel s d paths payload) = codes "krel"
+event_name (events.KTake d s) = codes "ktake"
 event_name (events.CraftDocument c v key version weights) = codes "craft"
 
 -- the node that acts, and the other node or the moment
@@ -48,6 +50,8 @@ front_words (events.Craft c v key object) = pair_words c v
 front_words (events.Start u) = decimal u.0 ∷ []
 front_words (events.Stop u) = decimal u.0 ∷ []
 front_words (events.Publish u weights) = decimal u.0 ∷ []
+front_words (events.Krel s d paths payload) = pair_words s d
+front_words (events.KTake d s) = pair_words d s
 front_words (events.CraftDocument c v key version weights) = pair_words c v
 
 -- what comes after these
@@ -67,6 +71,8 @@ back_words format (events.Craft c v key object) = decimal key.0 ∷ object_words
 back_words format (events.Start u) = []
 back_words format (events.Stop u) = []
 back_words format (events.Publish u weights) = numbers_word weights ∷ []
+back_words format (events.Krel s d paths payload) = decimal paths ∷ hex_word payload ∷ []
+back_words format (events.KTake d s) = []
 back_words format (events.CraftDocument c v key version weights) = decimal key ∷ codes "document" ∷ decimal version ∷ numbers_word weights ∷ []
 
 -- all words of an event

@@ -41,7 +41,7 @@ fn crafted(
     if named(name, b"document") {
         return document(line, c, v, key, fields);
     }
-    let Some(form) = object_form(name, fields.len()) else {
+    let Some(form) = object_form(line.scenario.format, name, fields.len()) else {
         return Err(LineRefused::Bad(Fault::Form));
     };
     object(line, c, v, key, form, fields)

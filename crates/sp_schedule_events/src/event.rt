@@ -104,4 +104,16 @@ pub enum Event {
         version: u32,
         weights: Option<Listed<u32>>,
     },
+    /// A client of `s` sends a payload of at most 1,024 bytes to `d` on their flow on paths, over so many disjoint ones: 1 to 8.
+    Krel {
+        s: NodeId,
+        d: NodeId,
+        paths: u8,
+        payload: Bytes,
+    },
+    /// A client of `d` takes the oldest message of the flow on paths from `s` that was delivered and not taken yet.
+    KTake {
+        d: NodeId,
+        s: NodeId,
+    },
 }

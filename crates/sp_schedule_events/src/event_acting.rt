@@ -11,8 +11,8 @@ impl Event {
         ensures { result ≡ acting self.now }
     {
         match self {
-            Event::Rel { s, .. } | Event::Prio { s, .. } => *s,
-            Event::Take { d, .. } | Event::TakePrio { d } => *d,
+            Event::Rel { s, .. } | Event::Prio { s, .. } | Event::Krel { s, .. } => *s,
+            Event::Take { d, .. } | Event::TakePrio { d } | Event::KTake { d, .. } => *d,
             Event::Tick { u, .. } | Event::Weight { u, .. } | Event::Poll { u, .. } => *u,
             Event::Pass { v, .. } | Event::Flip { v, .. } | Event::Inject { v, .. } => *v,
             Event::Craft { v, .. } | Event::CraftStatus { v, .. } => *v,

@@ -1,6 +1,6 @@
 // A copy of an event, by the kinds of events.
 ghost use Rattle.std.specs.Prelude.{◌≡◌, IfOk};
-ghost use Rattle.sp_schedule_events.specs.Kinds.{IsAsked, IsCraft, IsOfDocument, IsOfFrame};
+ghost use Rattle.sp_schedule_events.specs.Kinds.{IsAsked, IsCraft, IsOfDocument, IsOfFrame, IsOnPaths};
 
 use crate::Event;
 use sp_base::{Bytes, Listed, Memory};
@@ -24,6 +24,7 @@ impl Event {
             }
             Event::Craft { .. } | Event::CraftStatus { .. } => copy_craft(alloc, self),
             Event::Publish { .. } | Event::CraftDocument { .. } => copy_of_document(alloc, self),
+            Event::Krel { .. } | Event::KTake { .. } => copy_on_paths(alloc, self),
             Event::Start { u } => Ok(Event::Start { u: *u }),
             Event::Stop { u } => Ok(Event::Stop { u: *u }),
         }
@@ -64,6 +65,28 @@ fn copy_asked(alloc: Global, event: &Event) -> Result<Event, Memory>
             v: *v,
             weight: *weight,
         }),
+        _ => unreachable!(),
+    }
+}
+
+/// The same of what a client asks of a flow on paths.
+fn copy_on_paths(alloc: Global, event: &Event) -> Result<Event, Memory>
+    requires { IsOnPaths event.now }
+    ensures { IfOk result (λ copied. copied ≡ event.now) }
+{
+    match event {
+        Event::Krel {
+            s,
+            d,
+            paths,
+            payload,
+        } => Ok(Event::Krel {
+            s: *s,
+            d: *d,
+            paths: *paths,
+            payload: Bytes::copy(alloc, payload.as_slice())?,
+        }),
+        Event::KTake { d, s } => Ok(Event::KTake { d: *d, s: *s }),
         _ => unreachable!(),
     }
 }

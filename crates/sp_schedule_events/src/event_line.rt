@@ -1,5 +1,5 @@
 // The lines of what clients and the clock do, a row of the table each.
-ghost use Rattle.std.specs.Prelude.{◌≡◌, ◌∷◌, codes, map};
+ghost use Rattle.std.specs.Prelude.{◌≡◌, ◌∷◌, [], codes, map};
 ghost use Rattle.sp_lines.specs.Answers.{Reads};
 ghost use Rattle.sp_schedule_events.specs.Names.{line_for};
 ghost use Rattle.sp_schedule_events.specs.Table as forms;
@@ -12,13 +12,21 @@ use sp_base::{MAX_PAYLOAD_BYTES, MAX_PRIORITY, MAX_WEIGHT};
 use sp_lines::{bytes, ranged};
 
 /// `rel S D HEX`.
-#[tactic(auto, unfolding(crate::specs::EventLines::read_form))]
 pub fn rel(line: &LineOf<'_>, words: &[&[u8]]) -> Result<Event, LineRefused>
     ensures { Reads result (line_for line.now.scenario.now line.now.before.now forms.Rel (codes "rel" ∷ map (λ w. w.now) words.now)) }
 {
-    let [s, d, payload] = words else {
-        return Err(LineRefused::Bad(Fault::Form));
-    };
+    match words {
+        [s, d, payload] => rel_of(line, s, d, payload),
+        _ => Err(LineRefused::Bad(Fault::Form)),
+    }
+}
+
+/// The event of these words.
+#[tactic(auto, unfolding(crate::specs::EventLines::read_form))]
+fn rel_of(line: &LineOf<'_>, s: &[u8], d: &[u8], payload: &[u8]) -> Result<Event, LineRefused>
+    ensures { Reads result (line_for line.now.scenario.now line.now.before.now forms.Rel
+        (codes "rel" ∷ s.now ∷ d.now ∷ payload.now ∷ [])) }
+{
     let s = correct(line.scenario, s)?;
     let d = node(line.scenario, d)?;
     let payload = bytes(line.alloc, payload, 0, MAX_PAYLOAD_BYTES)?;
@@ -29,13 +37,29 @@ pub fn rel(line: &LineOf<'_>, words: &[&[u8]]) -> Result<Event, LineRefused>
 }
 
 /// `prio S D P EXPIRY K HEX`.
-#[tactic(auto, unfolding(crate::specs::EventLines::read_form))]
 pub fn prio(line: &LineOf<'_>, words: &[&[u8]]) -> Result<Event, LineRefused>
     ensures { Reads result (line_for line.now.scenario.now line.now.before.now forms.Prio (codes "prio" ∷ map (λ w. w.now) words.now)) }
 {
-    let [s, d, prio, expiry, paths, payload] = words else {
-        return Err(LineRefused::Bad(Fault::Form));
-    };
+    match words {
+        [s, d, prio, expiry, paths, payload] => prio_of(line, s, d, prio, expiry, paths, payload),
+        _ => Err(LineRefused::Bad(Fault::Form)),
+    }
+}
+
+/// The event of these words.
+#[tactic(auto, unfolding(crate::specs::EventLines::read_form))]
+fn prio_of(
+    line: &LineOf<'_>,
+    s: &[u8],
+    d: &[u8],
+    prio: &[u8],
+    expiry: &[u8],
+    paths: &[u8],
+    payload: &[u8],
+) -> Result<Event, LineRefused>
+    ensures { Reads result (line_for line.now.scenario.now line.now.before.now forms.Prio
+        (codes "prio" ∷ s.now ∷ d.now ∷ prio.now ∷ expiry.now ∷ paths.now ∷ payload.now ∷ [])) }
+{
     let s = correct(line.scenario, s)?;
     let d = node(line.scenario, d)?;
     let prio = ranged(prio, 1, u64::from(MAX_PRIORITY))? as u8;
@@ -92,13 +116,21 @@ pub fn tick(line: &LineOf<'_>, words: &[&[u8]]) -> Result<Event, LineRefused>
 }
 
 /// `weight U V W`.
-#[tactic(auto, unfolding(crate::specs::EventLines::read_form))]
 pub fn weight(line: &LineOf<'_>, words: &[&[u8]]) -> Result<Event, LineRefused>
     ensures { Reads result (line_for line.now.scenario.now line.now.before.now forms.Weight (codes "weight" ∷ map (λ w. w.now) words.now)) }
 {
-    let [u, v, weight] = words else {
-        return Err(LineRefused::Bad(Fault::Form));
-    };
+    match words {
+        [u, v, weight] => weight_of(line, u, v, weight),
+        _ => Err(LineRefused::Bad(Fault::Form)),
+    }
+}
+
+/// The event of these words.
+#[tactic(auto, unfolding(crate::specs::EventLines::read_form))]
+fn weight_of(line: &LineOf<'_>, u: &[u8], v: &[u8], weight: &[u8]) -> Result<Event, LineRefused>
+    ensures { Reads result (line_for line.now.scenario.now line.now.before.now forms.Weight
+        (codes "weight" ∷ u.now ∷ v.now ∷ weight.now ∷ [])) }
+{
     let u = correct(line.scenario, u)?;
     let v = node(line.scenario, v)?;
     let weight = ranged(weight, 1, u64::from(MAX_WEIGHT))? as u32;

@@ -6,6 +6,7 @@ ghost use Rattle.sp_text.specs.Spelling.{hex_word};
 ghost use Rattle.sp_lines.specs.Cells.{numbers_word};
 ghost use Rattle.sp_lines.specs.Rows.{after_spaces, line_text};
 ghost use Rattle.sp_schedule_events.specs.Events.{event_words};
+ghost use Rattle.sp_schedule_events.specs.Kinds.{IsCraft};
 ghost use Rattle.sp_schedule_events.specs.Written.{back_words, event_name, front_words, pair_words};
 
 use crate::{Event, Scenario};
@@ -43,6 +44,8 @@ fn event_name(event: &Event) -> &'static str
         Event::Start { .. } => "start",
         Event::Stop { .. } => "stop",
         Event::Publish { .. } => "publish",
+        Event::Krel { .. } => "krel",
+        Event::KTake { .. } => "ktake",
     }
 }
 
@@ -51,8 +54,10 @@ fn push_front(out: &mut String, event: &Event) -> Result<(), Memory>
     ensures { OnOk result (string_bytes out.new ≡ string_bytes out.old ++ after_spaces (front_words event.now)) }
 {
     match event {
-        Event::Rel { s, d, .. } | Event::Prio { s, d, .. } => push_pair(out, *s, *d),
-        Event::Take { d, s } => push_pair(out, *d, *s),
+        Event::Rel { s, d, .. } | Event::Prio { s, d, .. } | Event::Krel { s, d, .. } => {
+            push_pair(out, *s, *d)
+        }
+        Event::Take { d, s } | Event::KTake { d, s } => push_pair(out, *d, *s),
         Event::TakePrio { d } => push_field(out, u64::from(d.0)),
         Event::Start { u } | Event::Stop { u } | Event::Publish { u, .. } => {
             push_field(out, u64::from(u.0))
@@ -82,8 +87,10 @@ fn push_back(out: &mut String, format: u8, event: &Event) -> Result<(), Memory>
             payload,
             ..
         } => push_prio(out, *prio, *expiry, *paths, payload.as_slice()),
-        Event::Take { .. } | Event::TakePrio { .. } | Event::Tick { .. } => Ok(()),
-        Event::Poll { .. } | Event::Start { .. } | Event::Stop { .. } => Ok(()),
+        Event::Krel { paths, payload, .. } => push_paths(out, *paths, payload.as_slice()),
+        Event::Take { .. } | Event::TakePrio { .. } | Event::KTake { .. } => Ok(()),
+        Event::Tick { .. } | Event::Poll { .. } => Ok(()),
+        Event::Start { .. } | Event::Stop { .. } => Ok(()),
         Event::Weight { weight, .. } => push_field(out, u64::from(*weight)),
         Event::Pass { number, .. } => push_field(out, u64::from(*number)),
         Event::Flip {
@@ -93,6 +100,23 @@ fn push_back(out: &mut String, format: u8, event: &Event) -> Result<(), Memory>
             ..
         } => push_flip(out, *number, *back, *bit),
         Event::Inject { bytes, .. } => push_hex_field(out, bytes.as_slice()),
+        Event::Craft { .. } | Event::CraftStatus { .. } => push_craft(out, format, event),
+        Event::Publish { weights, .. } => push_numbers_field(out, weights),
+        Event::CraftDocument {
+            key,
+            version,
+            weights,
+            ..
+        } => push_document(out, *key, *version, weights),
+    }
+}
+
+/// Appends what comes after the nodes of a crafted frame.
+fn push_craft(out: &mut String, format: u8, event: &Event) -> Result<(), Memory>
+    requires { IsCraft event.now }
+    ensures { OnOk result (string_bytes out.new ≡ string_bytes out.old ++ after_spaces (back_words format event.now)) }
+{
+    match event {
         Event::Craft { key, object, .. } => {
             push_field(out, u64::from(key.0))?;
             push_object(out, format, object)
@@ -104,13 +128,7 @@ fn push_back(out: &mut String, format: u8, event: &Event) -> Result<(), Memory>
             have,
             ..
         } => push_status(out, *s, *d, *base, *have),
-        Event::Publish { weights, .. } => push_numbers_field(out, weights),
-        Event::CraftDocument {
-            key,
-            version,
-            weights,
-            ..
-        } => push_document(out, *key, *version, weights),
+        _ => unreachable!(),
     }
 }
 
@@ -143,6 +161,14 @@ fn push_prio(
 {
     push_field(out, u64::from(prio))?;
     push_field(out, expiry)?;
+    push_field(out, u64::from(paths))?;
+    push_hex_field(out, payload)
+}
+
+/// Appends what comes after the nodes of a message on paths.
+fn push_paths(out: &mut String, paths: u8, payload: &[u8]) -> Result<(), Memory>
+    ensures { OnOk result (string_bytes out.new ≡ string_bytes out.old ++ after_spaces (decimal paths ∷ hex_word payload.now ∷ [])) }
+{
     push_field(out, u64::from(paths))?;
     push_hex_field(out, payload)
 }

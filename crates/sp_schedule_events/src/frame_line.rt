@@ -1,5 +1,5 @@
 // The lines of frames that are made, arrive, are changed on their way, or are made up.
-ghost use Rattle.std.specs.Prelude.{◌≡◌, ◌∷◌, codes, map};
+ghost use Rattle.std.specs.Prelude.{◌≡◌, ◌∷◌, [], codes, map};
 ghost use Rattle.sp_lines.specs.Answers.{Reads};
 ghost use Rattle.sp_schedule_events.specs.Names.{line_for};
 ghost use Rattle.sp_schedule_events.specs.Table as forms;
@@ -30,13 +30,21 @@ pub fn poll(line: &LineOf<'_>, words: &[&[u8]]) -> Result<Event, LineRefused>
 }
 
 /// `pass U V NUMBER`.
-#[tactic(auto, unfolding(crate::specs::EventLines::read_form))]
 pub fn pass(line: &LineOf<'_>, words: &[&[u8]]) -> Result<Event, LineRefused>
     ensures { Reads result (line_for line.now.scenario.now line.now.before.now forms.Pass (codes "pass" ∷ map (λ w. w.now) words.now)) }
 {
-    let [u, v, number] = words else {
-        return Err(LineRefused::Bad(Fault::Form));
-    };
+    match words {
+        [u, v, number] => pass_of(line, u, v, number),
+        _ => Err(LineRefused::Bad(Fault::Form)),
+    }
+}
+
+/// The event of these words.
+#[tactic(auto, unfolding(crate::specs::EventLines::read_form))]
+fn pass_of(line: &LineOf<'_>, u: &[u8], v: &[u8], number: &[u8]) -> Result<Event, LineRefused>
+    ensures { Reads result (line_for line.now.scenario.now line.now.before.now forms.Pass
+        (codes "pass" ∷ u.now ∷ v.now ∷ number.now ∷ [])) }
+{
     let u = correct(line.scenario, u)?;
     let v = correct(line.scenario, v)?;
     let number = ranged(number, 0, u64::MAX)?;
@@ -51,13 +59,28 @@ pub fn pass(line: &LineOf<'_>, words: &[&[u8]]) -> Result<Event, LineRefused>
 }
 
 /// `flip U V NUMBER BACK BIT`.
-#[tactic(auto, unfolding(crate::specs::EventLines::read_form))]
 pub fn flip(line: &LineOf<'_>, words: &[&[u8]]) -> Result<Event, LineRefused>
     ensures { Reads result (line_for line.now.scenario.now line.now.before.now forms.Flip (codes "flip" ∷ map (λ w. w.now) words.now)) }
 {
-    let [u, v, number, back, bit] = words else {
-        return Err(LineRefused::Bad(Fault::Form));
-    };
+    match words {
+        [u, v, number, back, bit] => flip_of(line, u, v, number, back, bit),
+        _ => Err(LineRefused::Bad(Fault::Form)),
+    }
+}
+
+/// The event of these words.
+#[tactic(auto, unfolding(crate::specs::EventLines::read_form))]
+fn flip_of(
+    line: &LineOf<'_>,
+    u: &[u8],
+    v: &[u8],
+    number: &[u8],
+    back: &[u8],
+    bit: &[u8],
+) -> Result<Event, LineRefused>
+    ensures { Reads result (line_for line.now.scenario.now line.now.before.now forms.Flip
+        (codes "flip" ∷ u.now ∷ v.now ∷ number.now ∷ back.now ∷ bit.now ∷ [])) }
+{
     let u = correct(line.scenario, u)?;
     let v = correct(line.scenario, v)?;
     let number = ranged(number, 0, u64::MAX)?;
@@ -76,13 +99,21 @@ pub fn flip(line: &LineOf<'_>, words: &[&[u8]]) -> Result<Event, LineRefused>
 }
 
 /// `inject U V HEX`.
-#[tactic(auto, unfolding(crate::specs::EventLines::read_form))]
 pub fn inject(line: &LineOf<'_>, words: &[&[u8]]) -> Result<Event, LineRefused>
     ensures { Reads result (line_for line.now.scenario.now line.now.before.now forms.Inject (codes "inject" ∷ map (λ w. w.now) words.now)) }
 {
-    let [u, v, word] = words else {
-        return Err(LineRefused::Bad(Fault::Form));
-    };
+    match words {
+        [u, v, word] => inject_of(line, u, v, word),
+        _ => Err(LineRefused::Bad(Fault::Form)),
+    }
+}
+
+/// The event of these words.
+#[tactic(auto, unfolding(crate::specs::EventLines::read_form))]
+fn inject_of(line: &LineOf<'_>, u: &[u8], v: &[u8], word: &[u8]) -> Result<Event, LineRefused>
+    ensures { Reads result (line_for line.now.scenario.now line.now.before.now forms.Inject
+        (codes "inject" ∷ u.now ∷ v.now ∷ word.now ∷ [])) }
+{
     let u = node(line.scenario, u)?;
     let v = correct(line.scenario, v)?;
     let bytes = bytes(line.alloc, word, 0, MAX_DATAGRAM_BYTES)?;

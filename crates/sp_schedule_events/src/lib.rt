@@ -16,6 +16,7 @@ mod life_line;
 mod line_of;
 mod lines;
 mod nodes;
+mod path_line;
 mod poll_counts;
 mod published;
 mod scenario;

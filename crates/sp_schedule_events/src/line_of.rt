@@ -19,6 +19,8 @@ pub enum LineName {
     Start,
     Stop,
     Publish,
+    Krel,
+    KTake,
 }
 
 /// What a line is read with: memory, the scenario, and the events before it.

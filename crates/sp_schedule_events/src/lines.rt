@@ -11,12 +11,13 @@ use crate::event_line::{prio, rel, take, takep, tick, weight};
 use crate::frame_line::{flip, inject, pass, poll};
 use crate::life_line::{start, stop};
 use crate::line_of::{LineName, LineOf};
+use crate::path_line::{krel, ktake};
 use crate::{Event, Fault, LineRefused, Scenario, Timeline};
 use sp_lines::named;
 use std::alloc::Global;
 
 /// The first word of each line.
-const NAMES: [(&[u8], LineName); 14] = [
+const NAMES: [(&[u8], LineName); 16] = [
     (b"rel", LineName::Rel),
     (b"prio", LineName::Prio),
     (b"take", LineName::Take),
@@ -31,6 +32,8 @@ const NAMES: [(&[u8], LineName); 14] = [
     (b"start", LineName::Start),
     (b"stop", LineName::Stop),
     (b"publish", LineName::Publish),
+    (b"krel", LineName::Krel),
+    (b"ktake", LineName::KTake),
 ];
 
 /// The event of a line that may come after those before it, or why there is none.
@@ -75,6 +78,8 @@ fn event_named(line: &LineOf<'_>, name: &[u8], words: &[&[u8]]) -> Result<Event,
         LineName::Start => start(line, words),
         LineName::Stop => stop(line, words),
         LineName::Publish => publish(line, words),
+        LineName::Krel => krel(line, words),
+        LineName::KTake => ktake(line, words),
     }
 }
 

@@ -1,8 +1,8 @@
-// What a line asks of its scenario: any node of it, a correct one, and whether it has documents.
+// What a line asks of its scenario: any node of it, a correct one, and whether it has documents and flows on paths.
 ghost use Rattle.std.specs.Prelude.{◌≡◌};
 ghost use Rattle.sp_base.specs.Refusals.{Gives};
 ghost use Rattle.sp_lines.specs.Cells.{number_at, tested_at};
-ghost use Rattle.sp_schedule_events.specs.Scenarios.{has_documents, is_bad, is_correct};
+ghost use Rattle.sp_schedule_events.specs.Scenarios.{has_documents, has_paths, is_bad, is_correct};
 
 use crate::Scenario;
 use sp_base::{FORMAT_1, NodeId};
@@ -38,6 +38,13 @@ pub fn correct(scenario: &Scenario, word: &[u8]) -> Result<NodeId, Fault>
 /// Whether the administrator signs documents: in format 2.
 pub fn has_documents(scenario: &Scenario) -> bool
     ensures { result ≡ has_documents scenario.now }
+{
+    scenario.format != FORMAT_1
+}
+
+/// Whether there are flows on paths: in format 2.
+pub fn has_paths(scenario: &Scenario) -> bool
+    ensures { result ≡ has_paths scenario.now }
 {
     scenario.format != FORMAT_1
 }

@@ -8,7 +8,7 @@ ghost use Rattle.sp_node_format.specs.PolledFrames.{most_signature};
 ghost use Rattle.sp_outside.specs.declared.wire.TheConstants.{DATAGRAM_BYTES};
 ghost use Rattle.sp_rules.specs.Steps.{Datagram, Poll, Tick};
 ghost use Rattle.sp_service_station.specs.Stations.{Gives, frame_of, indexes_of, reserved};
-ghost use Rattle.sp_service_turns.specs.Indexes.{AreReserved, UsesOne};
+ghost use Rattle.sp_service_turns.specs.Indexes.{AreReserved, UsesAtMost};
 ghost use Rattle.sp_service_station.specs.Texts.{answer_text};
 
 use sp_base::{Bytes, Memory, NodeId};
@@ -47,7 +47,7 @@ pub fn request(
     port: u16,
     bytes: &[u8],
 ) -> Result<Bytes, Memory>
-    ensures uses { IfOk result (λ _. UsesOne (indexes_of local.old.node.state) (indexes_of local.new.node.state)) }
+    ensures uses { IfOk result (λ _. UsesAtMost 1 (indexes_of local.old.node.state) (indexes_of local.new.node.state)) }
     ensures handled { IfOk result (λ reply. tables.Datagram AnswersBy clients.old port bytes.now reply clients.new local.old local.new) }
     ensures within { IfOk result (λ reply. length reply ≤ DATAGRAM_BYTES) }
     ensures fixed { local.new.node.state.fixed ≡ local.old.node.state.fixed }
@@ -83,10 +83,10 @@ pub fn reserve(node: &mut Node, upto: u64)
     }
 }
 
-/// The clock says so.
-#[tactic(auto, using(sp_node::proofs::FixedStays::fixed_by_tick, crate::proofs::Uses::uses_one))]
+/// The clock says so. Two acknowledgements are signed at most.
+#[tactic(auto, using(sp_node::proofs::FixedStays::fixed_by_tick, crate::proofs::Uses::uses))]
 pub fn tick(alloc: Global, node: &mut Node, now: u64) -> Result<Bytes, Memory>
-    ensures uses { IfOk result (λ _. UsesOne (indexes_of node.old.state) (indexes_of node.new.state)) }
+    ensures uses { IfOk result (λ _. UsesAtMost 2 (indexes_of node.old.state) (indexes_of node.new.state)) }
     ensures gives { IfOk result (λ answer. Gives answer_text node.old.state (Tick now) answer node.new.state) }
     ensures fixed { node.new.state.fixed ≡ node.old.state.fixed }
 {
@@ -97,9 +97,9 @@ pub fn tick(alloc: Global, node: &mut Node, now: u64) -> Result<Bytes, Memory>
 }
 
 /// A datagram comes from a neighbour. A node that it doesn't answer gives nothing.
-#[tactic(auto, using(sp_node::proofs::FixedStays::fixed_by_datagram, crate::proofs::Uses::uses_one))]
+#[tactic(auto, using(sp_node::proofs::FixedStays::fixed_by_datagram, crate::proofs::Uses::uses))]
 pub fn datagram(alloc: Global, node: &mut Node, from: NodeId, bytes: &[u8]) -> Result<Bytes, Memory>
-    ensures uses { IfOk result (λ _. UsesOne (indexes_of node.old.state) (indexes_of node.new.state)) }
+    ensures uses { IfOk result (λ _. UsesAtMost 0 (indexes_of node.old.state) (indexes_of node.new.state)) }
     ensures gives { IfOk result (λ answer. Gives answer_text node.old.state (Datagram from bytes.now) answer node.new.state) }
     ensures fixed { node.new.state.fixed ≡ node.old.state.fixed }
 {
@@ -111,10 +111,10 @@ pub fn datagram(alloc: Global, node: &mut Node, from: NodeId, bytes: &[u8]) -> R
 }
 
 /// The next frame for a neighbour. A node that isn't called gives nothing.
-#[tactic(auto, using(sp_node::proofs::FixedStays::fixed_by_poll, crate::proofs::Stays::polled_is_short, crate::proofs::Uses::uses_one))]
+#[tactic(auto, using(sp_node::proofs::FixedStays::fixed_by_poll, crate::proofs::Stays::polled_is_short, crate::proofs::Uses::uses))]
 pub fn poll(alloc: Global, node: &mut Node, to: NodeId) -> Result<Bytes, Memory>
     requires { node.old.state.fixed.signature_len ≤ most_signature }
-    ensures uses { IfOk result (λ _. UsesOne (indexes_of node.old.state) (indexes_of node.new.state)) }
+    ensures uses { IfOk result (λ _. UsesAtMost 0 (indexes_of node.old.state) (indexes_of node.new.state)) }
     ensures gives { IfOk result (λ frame. Gives frame_of node.old.state (Poll to) frame node.new.state) }
     ensures within { IfOk result (λ frame. length frame ≤ DATAGRAM_BYTES) }
     ensures fixed { node.new.state.fixed ≡ node.old.state.fixed }

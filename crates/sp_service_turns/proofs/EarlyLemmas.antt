@@ -10,7 +10,7 @@ use Rattle.sp_recording.specs.declared.line.Line.{Line}
 use Rattle.sp_recording.specs.declared.line.Line.TheVariants as lines
 use Rattle.sp_service_turns.specs.Done.{Done, Gets, Overheard, Restocked, Served, Ticked}
 use Rattle.sp_service_turns.specs.Early.{BeginsLine, Early, EarlyCame, EarlyClient, EarlyOverlay, EarlyPoll, EarlyRestock, EarlyTick, GetsFront, IfBroken}
-use Rattle.sp_service_turns.specs.Indexes.{UsesOne}
+use Rattle.sp_service_turns.specs.Indexes.{UsesAtMost}
 use Rattle.sp_service_turns.specs.Inputs.{Datagram, Input, Poll, Request, Steps, Tick}
 use Rattle.sp_service_turns.specs.Outside.{KeptFile, Outside, Text}
 use Rattle.sp_service_turns.specs.Turns.{Moves, Turn, calls_of, client_lines, lines_of, node_at, overlay_line, overlay_lines, poll_lines, reserve_lines}
@@ -250,7 +250,7 @@ module _ {N : Type 0} (steps : Steps N) (indexes : N → Indexes) (peers : List 
             text = lines.text;
           }
 
-      module _ (tick_uses : UsesOne (indexes n0) (indexes n1)) (overlay_uses : UsesOne (indexes n1) (indexes n2)) {n3 : N} {w2 : Option (List Call)} {b3 : Text}
+      module _ (tick_uses : UsesAtMost 2 (indexes n0) (indexes n1)) (overlay_uses : UsesAtMost 0 (indexes n1) (indexes n2)) {n3 : N} {w2 : Option (List Call)} {b3 : Text}
           {y : ℕ}
           (s : Served steps n2 n3 w1 w2 b2 b3 y) where
         but_its_poll : Done steps indexes peers None n n3 keys keys_now (seen w0 c0 b f) (seen w2 c1 b3 f0) (x + y + 0)

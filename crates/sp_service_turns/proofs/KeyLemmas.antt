@@ -20,7 +20,7 @@ use Rattle.sp_outside.specs.Disk.{Disk}
 use Rattle.sp_recording.specs.declared.line.Line.TheVariants as lines
 use Rattle.sp_service_turns.specs.Done.{Gets, Restocked}
 use Rattle.sp_service_turns.specs.Early.{EarlyRestock, GetsFront, IfBroken}
-use Rattle.sp_service_turns.specs.Indexes.{AreReserved, HaveLeft, UsesOne, are_few, next_bound, reserved_by}
+use Rattle.sp_service_turns.specs.Indexes.{AreReserved, HaveLeft, UsesAtMost, are_few, next_bound, reserved_by}
 use Rattle.sp_service_turns.specs.Inputs.{Reserve, Steps}
 use Rattle.sp_service_turns.specs.Keys.{HoldsKeys, IfKeysEnd, IfKeysEndBy, IsEnd, KeepsKeys, KeysGoOn, NoMore, Reserves}
 use Rattle.sp_service_turns.specs.Outside.{KeptFile, Text}
@@ -66,9 +66,9 @@ stocked i j ordered less reserved =
     go true e = inl (grind (arith, nat_tests, ordered))
     go false e = inr (grind (arith, nat_tests))
 
-pub left_after : (n : ℕ) (i j : Indexes) → UsesOne i j → HaveLeft (n + 1) i → HaveLeft n j
-left_after n i j uses (inl left) = inl (omega (arith, left, uses.index, uses.bound))
-left_after n i j uses (inr all) = inr (omega (arith, all, uses.bound, uses.total))
+pub left_after : (used n : ℕ) (i j : Indexes) → UsesAtMost used i j → HaveLeft (used + n) i → HaveLeft n j
+left_after used n i j uses (inl left) = inl (omega (arith, left, uses.index, uses.bound))
+left_after used n i j uses (inr all) = inr (omega (arith, all, uses.bound, uses.total))
 
 pub left_less : (n : ℕ) (i : Indexes) → HaveLeft (n + 1) i → HaveLeft n i
 left_less n i (inl left) = inl (omega (arith, left))
@@ -187,8 +187,8 @@ reserved_held told old new i j upto stands same few upto_is is numbered reserved
 pub less_than_total : (keys : KeyState) (i : Indexes) → keys.bound ≡ i.bound → are_few i ≡ true → keys.bound < i.total
 less_than_total keys i same few = let less = below i few in omega (arith, same, less)
 
-pub held_on : (told : Option Disk) (keys : KeyState) (i j : Indexes) → HoldsKeys told keys i → UsesOne i j → HoldsKeys told keys j
-held_on told keys i j held uses = record { stands = held.stands; bound = held.bound ∙ sym uses.bound; serial = held.serial }
+pub held_on : (told : Option Disk) (keys : KeyState) (used : ℕ) (i j : Indexes) → HoldsKeys told keys i → UsesAtMost used i j → HoldsKeys told keys j
+held_on told keys used i j held uses = record { stands = held.stands; bound = held.bound ∙ sym uses.bound; serial = held.serial }
 
 pub on_again : (a b c : KeyState) (t u v : Option Disk) → KeysGoOn a b t u → KeysGoOn b c u v → KeysGoOn a c t v
 on_again a b c t u v before after = record {

@@ -6,7 +6,7 @@ use Rattle.sp_outside.specs.declared.side.Side.TheVariants.{Client}
 use Rattle.sp_service_turns.specs.Done.{Came, Done, Gets, IsOverheard, IsServed, Overheard, PolledNext, Restocked, Served, Ticked}
 use Rattle.sp_service_turns.specs.Outside.{KeptFile, Text}
 use Rattle.sp_keystate.specs.declared.key_state.KeyState.{KeyState}
-use Rattle.sp_service_turns.specs.Indexes.{HaveLeft, UsesOne}
+use Rattle.sp_service_turns.specs.Indexes.{HaveLeft, UsesAtMost}
 use Rattle.sp_service_turns.specs.declared.indexes.Indexes.{Indexes}
 use Rattle.sp_service_turns.specs.Inputs.{Steps}
 use Rattle.sp_service_turns.specs.Turns.{Hears, HearsFrom, Polls, Replies, Turn, client_lines, lost_in, lost_poll, lost_reply, node_at, overlay_line}
@@ -82,7 +82,7 @@ frames steps None old new w0 w1 before after lost h =
 pub whole : {N : Type 0} (steps : Steps N) (indexes : N → Indexes) (peers : List Peer) (polled : Option Peer) (n n0 n1 n2 n3 n4 : N) (keys keys_now : KeyState)
     (f f0 : KeptFile)
     (w0 w1 w2 w3 : Option (List Call)) (c0 c1 : Option (List ℕ)) (b b0 b1 b2 b3 b4 : Text) (x y z : ℕ) → Restocked steps indexes n n0 keys keys_now f f0 b b0
-    → Ticked steps n0 n1 c0 c1 b0 b1 → UsesOne (indexes n0) (indexes n1) → Overheard steps peers n1 n2 w0 w1 b1 b2 x → UsesOne (indexes n1) (indexes n2)
+    → Ticked steps n0 n1 c0 c1 b0 b1 → UsesAtMost 2 (indexes n0) (indexes n1) → Overheard steps peers n1 n2 w0 w1 b1 b2 x → UsesAtMost 0 (indexes n1) (indexes n2)
     → Served steps n2 n3 w1 w2 b2 b3 y → PolledNext steps polled n3 n4 w2 w3 b3 b4 z
     → Done steps indexes peers polled n n4 keys keys_now (record { wire = w0; clock = c0; text = b; file = f })
     (record { wire = w3; clock = c1; text = b4; file = f0 }) (x + y + z)
@@ -106,8 +106,7 @@ whole steps indexes peers polled n n0 n1 n2 n3 n4 keys keys_now f f0 w0 w1 w2 w3
     let served : Tells w1 w2 ((Received Client client.got ∷ []) ++ reply_calls r.reply r.is_replied client.got) =
     tells_on w1 client.wire_between w2 (Received Client client.got ∷ []) (reply_calls r.reply r.is_replied client.got) client.calls r.calls in
     let left : HaveLeft 4 (indexes n0) = restock.left in
-    let after_tick = left_after 3 (indexes n0) (indexes n1) tick_uses left in
-    let after_overlay = left_after 2 (indexes n1) (indexes n2) overlay_uses after_tick in
+    let after_tick = left_after 2 2 (indexes n0) (indexes n1) tick_uses left in
     record {
       t = t;
       moves = record {
@@ -121,8 +120,8 @@ whole steps indexes peers polled n n0 n1 n2 n3 n4 keys keys_now f f0 w0 w1 w2 w3
         overlay = a.hears;
         client = r.replies;
         poll = f.polls;
-        tick_supplied = left_less 1 (indexes n0) (left_less 2 (indexes n0) (left_less 3 (indexes n0) left));
-        client_supplied = left_less 1 (indexes n2) after_overlay;
+        tick_supplied = left_less 2 (indexes n0) (left_less 3 (indexes n0) left);
+        client_supplied = left_after 0 2 (indexes n1) (indexes n2) overlay_uses after_tick;
       };
       calls = tells_on w0 w1 w3 _ _ overlay.calls (tells_on w1 w2 w3 _ _ served f.calls);
       reading = tick.reading;

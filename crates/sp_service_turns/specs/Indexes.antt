@@ -20,9 +20,9 @@ reserved_by i = if are_few i then Some (next_bound i) else None
 abbrev pub HaveLeft : ℕ → Indexes → Type 0
 HaveLeft n i = (i.index + n ≤ i.bound) ⊎ (i.total ≤ i.bound)
 
--- one index was used at most, and none was reserved
-pub record UsesOne (old new : Indexes) : Type 0 where
-  pub index : new.index ≤ old.index + 1
+-- so many indexes were used at most, and none was reserved
+pub record UsesAtMost (n : ℕ) (old new : Indexes) : Type 0 where
+  pub index : new.index ≤ old.index + n
   pub bound : new.bound ≡ old.bound
   pub total : new.total ≡ old.total
 

@@ -139,8 +139,8 @@ pub record Moves {N : Type 0} (steps : Steps N) (indexes : N → Indexes) (peers
   pub client : Replies steps t.reply after_overlay t.client after_client
   pub poll : Polls steps t.frame after_client polled new
   -- what may sign is never asked for while an index is left that isn't reserved yet
-  pub tick_supplied : HaveLeft 1 (indexes after_reserve)
-  pub client_supplied : HaveLeft 1 (indexes after_overlay)
+  pub tick_supplied : HaveLeft 2 (indexes after_reserve)
+  pub client_supplied : HaveLeft 2 (indexes after_overlay)
 
 -- ---- what is lost
 

@@ -4,7 +4,7 @@ ghost use Rattle.sp_outside.specs.declared.wire.TheConstants.{DATAGRAM_BYTES};
 ghost use Rattle.sp_outside.specs.Calls.{Received, Tells};
 ghost use Rattle.sp_service_turns.specs.Keys.{IfKeysEnd};
 ghost use Rattle.sp_service_turns.specs.Done.{Came, Overheard, Replied, SentOne, Served, Ticked};
-ghost use Rattle.sp_service_turns.specs.Indexes.{UsesOne};
+ghost use Rattle.sp_service_turns.specs.Indexes.{UsesAtMost};
 ghost use Rattle.sp_service_turns.specs.Early.{EarlyCame, EarlyClient, EarlyOverlay, EarlyReply, EarlyTick};
 ghost use Rattle.sp_service_turns.specs.Hearing.{IsWithin, heard_in};
 ghost use Rattle.sp_service_turns.specs.Turns.{node_at};
@@ -26,7 +26,7 @@ pub fn tick<N: Core, C: Clock, K: Sink>(
     clock: &mut C,
     sink: &mut K,
 ) -> Result<(), Ended>
-    ensures uses { OnOk result (UsesOne (N.indexes node.old) (N.indexes node.new)) }
+    ensures uses { OnOk result (UsesAtMost 2 (N.indexes node.old) (N.indexes node.new)) }
     ensures ticked { OnOk result (Ticked N.steps node.old node.new (C.told clock.old) (C.told clock.new) (K.contents sink.old) (K.contents sink.new)) }
     ensures early { OnErr result (EarlyTick N.steps node.old (C.told clock.old) (C.told clock.new) (K.contents sink.old) (K.contents sink.new)) }
     ensures sink { SinkFaults result (K.faults sink.old) (K.faults sink.new) }
@@ -72,7 +72,7 @@ pub fn overlay<N: Core, W: Wire, K: Sink>(
     buf: &mut [u8],
 ) -> Result<u32, Ended>
     requires { DATAGRAM_BYTES ≤ length buf.old }
-    ensures uses { IfOk result (λ _. UsesOne (N.indexes node.old) (N.indexes node.new)) }
+    ensures uses { IfOk result (λ _. UsesAtMost 0 (N.indexes node.old) (N.indexes node.new)) }
     ensures heard { IfOk result (λ lost. Overheard N.steps peers.now node.old node.new (W.told wire.old) (W.told wire.new)
         (K.contents sink.old) (K.contents sink.new) lost) }
     ensures early { OnErr result (EarlyOverlay N.steps peers.now node.old (W.told wire.old) (W.told wire.new)
@@ -100,7 +100,7 @@ fn came<N: Core, K: Sink>(
     bytes: &[u8],
     sink: &mut K,
 ) -> Result<(), Ended>
-    ensures uses { OnOk result (UsesOne (N.indexes node.old) (N.indexes node.new)) }
+    ensures uses { OnOk result (UsesAtMost 0 (N.indexes node.old) (N.indexes node.new)) }
     ensures came { OnOk result (Came N.steps (node_at peers.now port) node.old port bytes.now node.new (K.contents sink.old) (K.contents sink.new)) }
     ensures early { OnErr result (EarlyCame N.steps (node_at peers.now port) node.old port bytes.now (K.contents sink.old) (K.contents sink.new)) }
     ensures sink { SinkFaults result (K.faults sink.old) (K.faults sink.new) }
@@ -121,7 +121,7 @@ fn arrived<N: Core, K: Sink>(
     bytes: &[u8],
     sink: &mut K,
 ) -> Result<(), Ended>
-    ensures uses { OnOk result (UsesOne (N.indexes node.old) (N.indexes node.new)) }
+    ensures uses { OnOk result (UsesAtMost 0 (N.indexes node.old) (N.indexes node.new)) }
     ensures came { OnOk result (Came N.steps (Some from) node.old port bytes.now node.new (K.contents sink.old) (K.contents sink.new)) }
     ensures early { OnErr result (EarlyCame N.steps (Some from) node.old port bytes.now (K.contents sink.old) (K.contents sink.new)) }
     ensures sink { SinkFaults result (K.faults sink.old) (K.faults sink.new) }
@@ -147,7 +147,7 @@ pub fn client<N: Core, W: Wire, K: Sink>(
     buf: &mut [u8],
 ) -> Result<u32, Ended>
     requires { DATAGRAM_BYTES ≤ length buf.old }
-    ensures uses { IfOk result (λ _. UsesOne (N.indexes node.old) (N.indexes node.new)) }
+    ensures uses { IfOk result (λ _. UsesAtMost 1 (N.indexes node.old) (N.indexes node.new)) }
     ensures served { IfOk result (λ lost. Served N.steps node.old node.new (W.told wire.old) (W.told wire.new)
         (K.contents sink.old) (K.contents sink.new) lost) }
     ensures early { OnErr result (EarlyClient N.steps node.old (W.told wire.old) (W.told wire.new) (K.contents sink.old) (K.contents sink.new)) }
@@ -171,7 +171,7 @@ fn answer<N: Core, W: Wire, K: Sink>(
     wire: &mut W,
     sink: &mut K,
 ) -> Result<u32, Ended>
-    ensures uses { IfOk result (λ _. UsesOne (N.indexes node.old) (N.indexes node.new)) }
+    ensures uses { IfOk result (λ _. UsesAtMost 1 (N.indexes node.old) (N.indexes node.new)) }
     ensures replied { IfOk result (λ lost. Replied N.steps node.old port bytes.now node.new (W.told wire.old) (W.told wire.new)
         (K.contents sink.old) (K.contents sink.new) lost) }
     ensures silent { OnErr result (W.told wire.new ≡ W.told wire.old) }

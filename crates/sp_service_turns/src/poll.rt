@@ -2,7 +2,7 @@
 ghost use Rattle.std.specs.Prelude.{◌≡◌, ◌<◌, ◌^◌, IfOk, OnErr, Some, length};
 ghost use Rattle.sp_service_turns.specs.Keys.{IfKeysEnd};
 ghost use Rattle.sp_service_turns.specs.Done.{Polled, PolledNext};
-ghost use Rattle.sp_service_turns.specs.Indexes.{UsesOne};
+ghost use Rattle.sp_service_turns.specs.Indexes.{UsesAtMost};
 ghost use Rattle.sp_service_turns.specs.Early.{EarlyPoll};
 ghost use Rattle.sp_service_turns.specs.Runs.{polled_by};
 ghost use Rattle.sp_service_turns.specs.Sinks.{SinkFaults};
@@ -24,7 +24,7 @@ fn poll<N: Core, W: Wire, K: Sink>(
     wire: &mut W,
     sink: &mut K,
 ) -> Result<u32, Ended>
-    ensures uses { IfOk result (λ _. UsesOne (N.indexes node.old) (N.indexes node.new)) }
+    ensures uses { IfOk result (λ _. UsesAtMost 0 (N.indexes node.old) (N.indexes node.new)) }
     ensures polled { IfOk result (λ lost. Polled N.steps node.old peer node.new (W.told wire.old) (W.told wire.new)
         (K.contents sink.old) (K.contents sink.new) lost) }
     ensures silent { OnErr result (W.told wire.new ≡ W.told wire.old) }
@@ -52,7 +52,7 @@ pub fn poll_next<N: Core, W: Wire, K: Sink>(
     wire: &mut W,
     sink: &mut K,
 ) -> Result<u32, Ended>
-    ensures uses { IfOk result (λ _. UsesOne (N.indexes node.old) (N.indexes node.new)) }
+    ensures uses { IfOk result (λ _. UsesAtMost 0 (N.indexes node.old) (N.indexes node.new)) }
     ensures polled { IfOk result (λ lost. PolledNext N.steps polled node.old node.new (W.told wire.old) (W.told wire.new)
         (K.contents sink.old) (K.contents sink.new) lost) }
     ensures silent { OnErr result (W.told wire.new ≡ W.told wire.old) }

@@ -21,12 +21,13 @@ use Rattle.sp_hss.specs.KeyTree.{public_key, signature, total}
 use Rattle.sp_hss.specs.SeedKey.{SeedKey}
 use Rattle.sp_lms.specs.declared.param.LmsParam.{LmsParam}
 use Rattle.sp_msg.specs.declared.effect.Effect.{Effect}
-use Rattle.sp_node_format.specs.Format.{document_of as as_document}
-use Rattle.sp_node_state.specs.Boots.{IsBootable, Says, started_of, told_at_start}
+use Rattle.sp_node.specs.Life.{Life}
+use Rattle.sp_node_format.specs.Format.{document_of as as_document, format_of}
+use Rattle.sp_node_state.specs.Boots.{IsBootable, Says, booted_of, fixed_of, started_of, told_at_start}
 use Rattle.sp_node_state.specs.declared.boot.NodeConfig.{NodeConfig}
-use Rattle.sp_rules.specs.Node.{NodeState, start_effects, started}
+use Rattle.sp_rules.specs.Node.{NodeState, announced, start_effects, started}
 use Rattle.sp_rules.specs.Arts.{Document}
-use Rattle.sp_rules.specs.Parts.{nodes_of}
+use Rattle.sp_rules.specs.Parts.{Fixed, nodes_of}
 use Rattle.sp_rules.specs.Topologies.{weights_in}
 use Rattle.laws_runs_format.specs.Arts.{arts_of}
 use Rattle.sp_runs.specs.Scenarios.{IsHeader, admin_seed, document_of, edge_key, node_key, node_seed, numbered, setting_of, topology_of, unsigned_of}
@@ -223,6 +224,24 @@ at_start s u start config own config_is own_is =
     ∙ ap (λ (keys : List (List ℕ)). started (arts_of (setting_of s)) (fixed_at (setting_of s) u start.boot)
     (signer_from (setting_of s) u start.index start.bound) keys s.limits.buffer s.limits.store)
     (map_of_map (λ k. k.1) (λ n. (n.1, edge_key s.seed n.1.0)) (neighbours_from u.0 0 s.graph.edges))
+
+-- what is fixed in a life stays at its start
+same_fixed : (c : NodeConfig) (own : NodeSigner) (boot : ℕ) → (started_of c own boot).fixed ≡ fixed_of c boot
+same_fixed c own boot = go c.epochs
+  where
+    go : (epochs : Bool) → (cond epochs (announced (format_of (fixed_of c boot)) (booted_of c own boot)) (booted_of c own boot)).fixed ≡ fixed_of c boot
+    go true = refl
+    go false = refl
+
+-- so a node that starts has the id that it is configured with, and its boot
+pub own_id : (s : Scenario) (u : NodeId) (start : Started) (config : NodeConfig) (own : NodeSigner) (n : Life) → config ≡ config_of s u
+    → n ≡ record { state = started_of config own start.boot; checks = 0; tags = 0 } → n.state.fixed.me ≡ u
+own_id s u start config own n config_is is =
+    ap (λ (l : Life). l.state.fixed.me) is ∙ ap (λ (f : Fixed). f.me) (same_fixed config own start.boot) ∙ ap (λ (c : NodeConfig). c.me) config_is
+
+pub own_boot : (start : Started) (config : NodeConfig) (own : NodeSigner) (n : Life)
+    → n ≡ record { state = started_of config own start.boot; checks = 0; tags = 0 } → n.state.fixed.boot ≡ start.boot
+own_boot start config own n is = ap (λ (l : Life). l.state.fixed.boot) is ∙ ap (λ (f : Fixed). f.boot) (same_fixed config own start.boot)
 
 pub told_there : (s : Scenario) (u : NodeId) (start : Started) (config : NodeConfig) (effects : List Effect) → config ≡ config_of s u
     → effects ≡ told_at_start config start.boot → effects ≡ start_effects (arts_of (setting_of s)) (fixed_at (setting_of s) u start.boot)

@@ -153,8 +153,8 @@ dated_good format lives (bodies.Ack a) small good =
     ack_is_good format (record a { sboot = held_boot lives a.src; dboot = held_boot lives a.dst })
     (record { src = old.src; dst = old.dst; sboot = small a.src; dboot = small a.dst; seq = old.seq })
 dated_good format lives (bodies.Weight w) small good = good
-dated_good format lives (bodies.Krel k) small good = good
-dated_good format lives (bodies.Kack k) small good = good
+dated_good format lives (bodies.Krel r) small good = (good.0, (good.1.0, (good.1.1.0, (small r.src, (small r.dst, good.1.1.1.1.1)))))
+dated_good format lives (bodies.Kack a) small good = (good.0, (good.1.0, (good.1.1.0, (small a.src, (small a.dst, good.1.1.1.1.1)))))
 dated_good format lives (bodies.Epoch o) small good = good
 
 pub said_good : (s : Scenario) (es : List Event) (js : List Entry) (w : World) (e : Event) (c v key : NodeId) (object : CraftedObject)

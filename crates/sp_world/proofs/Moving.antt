@@ -9,7 +9,8 @@ use Rattle.laws_runs_format.specs.Arts.{arts_of}
 use Rattle.sp_node_format.specs.Format.{format_of}
 use Rattle.sp_rules.specs.Node.{NodeState, extended}
 use Rattle.sp_rules.specs.Parts.{Fixed}
-use Rattle.sp_rules.specs.Steps.{Datagram, Frame, Input, NodeStep, Output, Poll, Publish, Reply, SendPrio, SendRel, SetWeight, TakePrio, TakeRel, Tick, replied}
+use Rattle.sp_rules.specs.Steps.{Datagram, Frame, Input, NodeStep, Output, Poll, Publish, Reply, SendKrel, SendPrio, SendRel, SetWeight, TakeKrel, TakePrio}
+use Rattle.sp_rules.specs.Steps.{TakeRel, Tick, replied}
 use Rattle.sp_runs.specs.Forgery.{forged, has_forged_tag}
 use Rattle.sp_runs.specs.Inputs.{acting, flipped, input_of}
 use Rattle.sp_runs.specs.Journals.{Says}
@@ -56,8 +57,10 @@ same_parts keys a b c d f g p q one two three four = rw (one, two, three, four) 
 -- it makes no frame
 asked_is_no_poll : (w : World) (e : Event) (document : List ℕ) (input : Input) → asked document e ≡ Some input → next_frame w e ≡ 0
 asked_is_no_poll w (events.Rel s d payload) document input is = refl
+asked_is_no_poll w (events.Krel s d paths payload) document input is = refl
 asked_is_no_poll w (events.Prio s d prio expiry paths payload) document input is = refl
 asked_is_no_poll w (events.Take d s) document input is = refl
+asked_is_no_poll w (events.KTake d s) document input is = refl
 asked_is_no_poll w (events.TakePrio d) document input is = refl
 asked_is_no_poll w (events.Tick u now) document input is = refl
 asked_is_no_poll w (events.Weight u v weight) document input is = refl
@@ -75,8 +78,10 @@ asked_is_no_poll w (events.Stop u) document input is = absurd (cc)
 asked_keeps_frames : (ds : List Direction) (e : Event) (document : List ℕ) (input : Input) (reply : Reply) → asked document e ≡ Some input
     → directions_after ds e reply ≡ ds
 asked_keeps_frames ds (events.Rel s d payload) document input reply is = refl
+asked_keeps_frames ds (events.Krel s d paths payload) document input reply is = refl
 asked_keeps_frames ds (events.Prio s d prio expiry paths payload) document input reply is = refl
 asked_keeps_frames ds (events.Take d s) document input reply is = refl
+asked_keeps_frames ds (events.KTake d s) document input reply is = refl
 asked_keeps_frames ds (events.TakePrio d) document input reply is = refl
 asked_keeps_frames ds (events.Tick u now) document input reply is = refl
 asked_keeps_frames ds (events.Weight u v weight) document input reply is = refl
@@ -93,8 +98,10 @@ asked_keeps_frames ds (events.Stop u) document input reply is = absurd (cc)
 
 asked_crafts_none : (crafted : List Crafted) (e : Event) (document : List ℕ) (input : Input) → asked document e ≡ Some input → crafted_after crafted e ≡ crafted
 asked_crafts_none crafted (events.Rel s d payload) document input is = refl
+asked_crafts_none crafted (events.Krel s d paths payload) document input is = refl
 asked_crafts_none crafted (events.Prio s d prio expiry paths payload) document input is = refl
 asked_crafts_none crafted (events.Take d s) document input is = refl
+asked_crafts_none crafted (events.KTake d s) document input is = refl
 asked_crafts_none crafted (events.TakePrio d) document input is = refl
 asked_crafts_none crafted (events.Tick u now) document input is = refl
 asked_crafts_none crafted (events.Weight u v weight) document input is = refl
@@ -116,6 +123,9 @@ no_tag x w n (events.Rel s d payload) document input is =
 no_tag x w n (events.Prio s d prio expiry paths payload) document input is =
     subst (λ (i : Input). has_forged_tag (arts_of x) x w n i ≡ false)
     (same_Some (SendPrio (record { dst = d; prio = prio; expiry = expiry; paths = paths; payload = payload })) input is) refl
+no_tag x w n (events.Krel s d paths payload) document input is =
+    subst (λ (i : Input). has_forged_tag (arts_of x) x w n i ≡ false) (same_Some (SendKrel (record { dst = d; paths = paths; payload = payload })) input is) refl
+no_tag x w n (events.KTake d s) document input is = subst (λ (i : Input). has_forged_tag (arts_of x) x w n i ≡ false) (same_Some (TakeKrel s) input is) refl
 no_tag x w n (events.Take d s) document input is = subst (λ (i : Input). has_forged_tag (arts_of x) x w n i ≡ false) (same_Some (TakeRel s) input is) refl
 no_tag x w n (events.TakePrio d) document input is = subst (λ (i : Input). has_forged_tag (arts_of x) x w n i ≡ false) (same_Some TakePrio input is) refl
 no_tag x w n (events.Tick u now) document input is = subst (λ (i : Input). has_forged_tag (arts_of x) x w n i ≡ false) (same_Some (Tick now) input is) refl
@@ -216,8 +226,10 @@ arrival_is_no_poll w (events.CraftStatus c v s d base have) is = refl
 arrival_is_no_poll w (events.CraftDocument c v key version weights) is = refl
 arrival_is_no_poll w (events.Publish u weights) is = absurd is
 arrival_is_no_poll w (events.Rel s d payload) is = absurd is
+arrival_is_no_poll w (events.Krel s d paths payload) is = absurd is
 arrival_is_no_poll w (events.Prio s d prio expiry paths payload) is = absurd is
 arrival_is_no_poll w (events.Take d s) is = absurd is
+arrival_is_no_poll w (events.KTake d s) is = absurd is
 arrival_is_no_poll w (events.TakePrio d) is = absurd is
 arrival_is_no_poll w (events.Tick u now) is = absurd is
 arrival_is_no_poll w (events.Weight u v weight) is = absurd is
@@ -234,8 +246,10 @@ arrival_keeps_frames ds (events.CraftStatus c v s d base have) reply is = refl
 arrival_keeps_frames ds (events.CraftDocument c v key version weights) reply is = refl
 arrival_keeps_frames ds (events.Publish u weights) reply is = absurd is
 arrival_keeps_frames ds (events.Rel s d payload) reply is = absurd is
+arrival_keeps_frames ds (events.Krel s d paths payload) reply is = absurd is
 arrival_keeps_frames ds (events.Prio s d prio expiry paths payload) reply is = absurd is
 arrival_keeps_frames ds (events.Take d s) reply is = absurd is
+arrival_keeps_frames ds (events.KTake d s) reply is = absurd is
 arrival_keeps_frames ds (events.TakePrio d) reply is = absurd is
 arrival_keeps_frames ds (events.Tick u now) reply is = absurd is
 arrival_keeps_frames ds (events.Weight u v weight) reply is = absurd is
@@ -252,8 +266,10 @@ arrival_publishes_none (events.CraftStatus c v s d base have) is = refl
 arrival_publishes_none (events.CraftDocument c v key version weights) is = refl
 arrival_publishes_none (events.Publish u weights) is = absurd is
 arrival_publishes_none (events.Rel s d payload) is = refl
+arrival_publishes_none (events.Krel s d paths payload) is = refl
 arrival_publishes_none (events.Prio s d prio expiry paths payload) is = refl
 arrival_publishes_none (events.Take d s) is = refl
+arrival_publishes_none (events.KTake d s) is = refl
 arrival_publishes_none (events.TakePrio d) is = refl
 arrival_publishes_none (events.Tick u now) is = refl
 arrival_publishes_none (events.Weight u v weight) is = refl
@@ -283,8 +299,10 @@ same_world x w v n e ds crafted published = go e
     go (events.CraftStatus c d a b base have) = refl
     go (events.Inject a b bytes) = refl
     go (events.Rel a b payload) = refl
+    go (events.Krel a b paths payload) = refl
     go (events.Prio a b prio expiry paths payload) = refl
     go (events.Take a b) = refl
+    go (events.KTake a b) = refl
     go (events.TakePrio a) = refl
     go (events.Tick a now) = refl
     go (events.Weight a b weight) = refl
@@ -301,8 +319,10 @@ same_input x w b upto (events.CraftDocument c d key version weights) = refl
 same_input x w b upto (events.Publish a weights) = refl
 same_input x w b upto (events.Inject a c bytes) = refl
 same_input x w b upto (events.Rel a c payload) = refl
+same_input x w b upto (events.Krel a c paths payload) = refl
 same_input x w b upto (events.Prio a c prio expiry paths payload) = refl
 same_input x w b upto (events.Take a c) = refl
+same_input x w b upto (events.KTake a c) = refl
 same_input x w b upto (events.TakePrio a) = refl
 same_input x w b upto (events.Tick a now) = refl
 same_input x w b upto (events.Weight a c weight) = refl

@@ -133,8 +133,10 @@ module _ (s : Scenario) (es : List Event) (js : List Entry) (w : World) (e : Eve
       go : (f : Event) → AreFields (setting_of s) es f → CanHandOut s (published es) f
       go (events.Publish u weights) range = (few, may_hand_out weights range.1 range.2)
       go (events.Rel a b payload) range = tt
+      go (events.Krel a b paths payload) range = tt
       go (events.Prio a b prio expiry paths payload) range = tt
       go (events.Take a b) range = tt
+      go (events.KTake a b) range = tt
       go (events.TakePrio a) range = tt
       go (events.Tick a now) range = tt
       go (events.Weight a b weight) range = tt

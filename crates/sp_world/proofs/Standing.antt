@@ -46,8 +46,10 @@ use Rattle.sp_world_steps.specs.Members.{CanAsk, CanCall}
 
 pub actor_is_correct : (x : Setting) (es : List Event) (e : Event) → AreFields x es e → IsTrue (is_correct x (acting e))
 actor_is_correct x es (events.Rel s d payload) range = range.0
+actor_is_correct x es (events.Krel s d paths payload) range = range.1
 actor_is_correct x es (events.Prio s d prio expiry paths payload) range = range.0
 actor_is_correct x es (events.Take d s) range = range.0
+actor_is_correct x es (events.KTake d s) range = range.1
 actor_is_correct x es (events.TakePrio d) range = range
 actor_is_correct x es (events.Tick u now) range = range.0
 actor_is_correct x es (events.Weight u v weight) range = range.0
@@ -72,8 +74,10 @@ sender_is_near x es (events.CraftStatus c v s d base have) is range = range.1
 sender_is_near x es (events.CraftDocument c v key version weights) is range = range.1
 sender_is_near x es (events.Publish u weights) is range = absurd is
 sender_is_near x es (events.Rel s d payload) is range = absurd is
+sender_is_near x es (events.Krel s d paths payload) is range = absurd is
 sender_is_near x es (events.Prio s d prio expiry paths payload) is range = absurd is
 sender_is_near x es (events.Take d s) is range = absurd is
+sender_is_near x es (events.KTake d s) is range = absurd is
 sender_is_near x es (events.TakePrio d) is range = absurd is
 sender_is_near x es (events.Tick u now) is range = absurd is
 sender_is_near x es (events.Weight u v weight) is range = absurd is
@@ -85,8 +89,10 @@ sender_is_near x es (events.Stop u) is range = absurd is
 pub asked_reaches : (x : Setting) (es : List Event) (w : World) (n : NodeState) (e : Event) (document : List ℕ) (input : Input)
     → IsHanded x w.published e document → asked document e ≡ Some input → input_of (arts_of x) x w n e ≡ Some input
 asked_reaches x es w n (events.Rel s d payload) document input handed is = is
+asked_reaches x es w n (events.Krel s d paths payload) document input handed is = is
 asked_reaches x es w n (events.Prio s d prio expiry paths payload) document input handed is = is
 asked_reaches x es w n (events.Take d s) document input handed is = is
+asked_reaches x es w n (events.KTake d s) document input handed is = is
 asked_reaches x es w n (events.TakePrio d) document input handed is = is
 asked_reaches x es w n (events.Tick u now) document input handed is = is
 asked_reaches x es w n (events.Weight u v weight) document input handed is = is
@@ -104,8 +110,10 @@ asked_reaches x es w n (events.Stop u) document input handed is = absurd (cc)
 -- something is asked by each event that brings nothing, and is no poll, no start and no stop
 pub asks : (document : List ℕ) (e : Event) → IsOther e → (IsArrival e → ⊥) → ((u v : NodeId) → e ≡ events.Poll u v → ⊥) → asked document e ≡ None → ⊥
 asks document (events.Rel s d payload) other call poll none = absurd (cc)
+asks document (events.Krel s d paths payload) other call poll none = absurd (cc)
 asks document (events.Prio s d prio expiry paths payload) other call poll none = absurd (cc)
 asks document (events.Take d s) other call poll none = absurd (cc)
+asks document (events.KTake d s) other call poll none = absurd (cc)
 asks document (events.TakePrio d) other call poll none = absurd (cc)
 asks document (events.Tick u now) other call poll none = absurd (cc)
 asks document (events.Weight u v weight) other call poll none = absurd (cc)

@@ -107,8 +107,10 @@ other_is_down old e entry last nobody apart reply effects made = record {
     none_missed : (f : Event) → ((u v : NodeId) → f ≡ events.Poll u v → ⊥) → old.directions ≡ directions_missed old.directions f
     none_missed (events.Poll u v) apart = absurd (apart u v refl)
     none_missed (events.Rel a b payload) apart = refl
+    none_missed (events.Krel a b paths payload) apart = refl
     none_missed (events.Prio a b prio expiry paths payload) apart = refl
     none_missed (events.Take a b) apart = refl
+    none_missed (events.KTake a b) apart = refl
     none_missed (events.TakePrio a) apart = refl
     none_missed (events.Tick a now) apart = refl
     none_missed (events.Weight a b weight) apart = refl

@@ -17,6 +17,7 @@ use Rattle.sp_frame.specs.Ranges.{IsContentsIn, IsNumbered, IsReport, Later}
 use Rattle.sp_frame.specs.Reliable.{Report}
 use Rattle.sp_frame.specs.Sections.{Contents, sections_of_in}
 use Rattle.sp_frame.specs.Views.{as_list}
+use Rattle.sp_frame.specs.declared.kind.Kind.{Kind}
 use Rattle.sp_frame.specs.declared.kind.Kind.TheVariants as kinds
 use Rattle.sp_frame.specs.declared.refused.SectionRefused.{SectionRefused}
 use Rattle.sp_msg.specs.Bodies.{HasGoodFieldsIn}
@@ -32,6 +33,8 @@ use Rattle.sp_rules.specs.Parts.{Fixed}
 use Rattle.sp_rules.specs.Pieces.{AckPiece, EpochPiece, Piece, PrioAckPiece, RelPiece, WeightPiece, pieces_of, prio_piece, slot_pieces}
 use Rattle.sp_rules.specs.Steps.{Arrived, Output, Reply, arrived, document_items, refused_call}
 use Rattle.sp_rules.specs.declared.answers.Item.{Item}
+use Rattle.sp_rules.specs.declared.kflow.FlowKind.{FlowKind}
+use Rattle.sp_rules.specs.declared.kflow.FlowKind.TheVariants as flow_kinds
 use Rattle.sp_rules.specs.declared.node.LinkReply.{LinkReply}
 use Rattle.sp_rules.specs.declared.node.LinkReply.TheVariants as replies
 use Rattle.sp_rules.specs.declared.node.Step.{Step}
@@ -58,21 +61,27 @@ abbrev slot_objects : Option Report → List Kept
 slot_objects None = []
 slot_objects (Some r) = as_list r.ack ++ r.rels
 
-of_slot : (slot : Option Report) → objects_in (slot_pieces slot) ≡ slot_objects slot
-of_slot None = refl
-of_slot (Some r) =
-    objects_both (map (AckPiece r.flow) (as_list r.ack)) (map (RelPiece r.flow) r.rels)
-    ∙ ap₂ (λ (xs ys : List Kept). xs ++ ys) (of_each (AckPiece r.flow) (λ o. refl) (as_list r.ack)) (of_each (RelPiece r.flow) (λ o. refl) r.rels)
+of_slot : (kind : FlowKind) (slot : Option Report) → objects_in (slot_pieces kind slot) ≡ slot_objects slot
+of_slot kind None = refl
+of_slot kind (Some r) =
+    objects_both (map (AckPiece kind r.flow) (as_list r.ack)) (map (RelPiece kind r.flow) r.rels)
+    ∙ ap₂ (λ (xs ys : List Kept). xs ++ ys) (of_each (AckPiece kind r.flow) (λ o. refl) (as_list r.ack))
+    (of_each (RelPiece kind r.flow) (λ o. refl) r.rels)
 
-of_contents : (s : Contents) → objects_in (pieces_of s) ≡ s.weights ++ (map (λ m. m.1) s.prios ++ (slot_objects s.slot ++ as_list s.epoch))
+of_contents : (s : Contents) → objects_in (pieces_of s)
+    ≡ s.weights ++ (map (λ m. m.1) s.prios ++ (slot_objects s.slot ++ (slot_objects s.paths ++ as_list s.epoch)))
 of_contents s =
     let epoch = map EpochPiece (as_list s.epoch) in
-    objects_both (map WeightPiece s.weights) (PrioAckPiece s.prio_ack ∷ (map prio_piece s.prios ++ (slot_pieces s.slot ++ epoch)))
+    let paths = slot_pieces flow_kinds.Paths s.paths in
+    let plain = slot_pieces flow_kinds.Plain s.slot in
+    objects_both (map WeightPiece s.weights) (PrioAckPiece s.prio_ack ∷ (map prio_piece s.prios ++ (plain ++ (paths ++ epoch))))
     ∙ ap₂ (λ (xs ys : List Kept). xs ++ ys) (of_each WeightPiece (λ o. refl) s.weights)
-    (objects_both (map prio_piece s.prios) (slot_pieces s.slot ++ epoch)
+    (objects_both (map prio_piece s.prios) (plain ++ (paths ++ epoch))
     ∙ ap₂ (λ (xs ys : List Kept). xs ++ ys) (of_numbered s.prios)
-    (objects_both (slot_pieces s.slot) epoch
-    ∙ ap₂ (λ (xs ys : List Kept). xs ++ ys) (of_slot s.slot) (of_each EpochPiece (λ o. refl) (as_list s.epoch))))
+    (objects_both plain (paths ++ epoch)
+    ∙ ap₂ (λ (xs ys : List Kept). xs ++ ys) (of_slot flow_kinds.Plain s.slot)
+    (objects_both paths epoch
+    ∙ ap₂ (λ (xs ys : List Kept). xs ++ ys) (of_slot flow_kinds.Paths s.paths) (of_each EpochPiece (λ o. refl) (as_list s.epoch)))))
 
 -- ---- they are few, and good
 
@@ -95,19 +104,30 @@ few_rels format = go (format == FORMAT_1)
     go true = omega arith
     go false = omega arith
 
-ack_is : (format len : ℕ) (o : Option Kept) → IfSome o (IsObject format kinds.Ack len) → (length (as_list o) ≤ 1) × All (IsGood format) (as_list o)
-ack_is format len None is = (omega arith, All-nil (IsGood format))
-ack_is format len (Some o) is = (omega arith, All-cons (IsGood format) o [] is.fields (All-nil (IsGood format)))
+ack_is : (format : ℕ) (kind : Kind) (len : ℕ) (o : Option Kept) → IfSome o (IsObject format kind len)
+    → (length (as_list o) ≤ 1) × All (IsGood format) (as_list o)
+ack_is format kind len None is = (omega arith, All-nil (IsGood format))
+ack_is format kind len (Some o) is = (omega arith, All-cons (IsGood format) o [] is.fields (All-nil (IsGood format)))
+
+-- a slot with at most so many messages
+report_is : (format : ℕ) (acks messages : Kind) (len few : ℕ) (r : Report) → most format messages ≤ few → IsReport format acks messages len r
+    → (length (slot_objects (Some r)) ≤ 1 + few) × All (IsGood format) (slot_objects (Some r))
+report_is format acks messages len few r at_most is =
+    let ack = ack_is format acks len r.ack is.ack in
+    let rels = All-weaker (IsObject format messages len) (IsGood format) (λ o h. h.fields) r.rels is.rels in (
+      omega (arith, ack.0, is.few, at_most, length-append (as_list r.ack) r.rels),
+      All-append (IsGood format) (as_list r.ack) r.rels ack.1 rels,
+    )
 
 slot_is : (format len : ℕ) (slot : Option Report) → IfSome slot (IsReport format kinds.Ack kinds.Rel len)
     → (length (slot_objects slot) ≤ 1 + MAX_MESSAGES) × All (IsGood format) (slot_objects slot)
 slot_is format len None is = (omega arith, All-nil (IsGood format))
-slot_is format len (Some r) is =
-    let ack = ack_is format len r.ack is.ack in
-    let rels = All-weaker (IsObject format kinds.Rel len) (IsGood format) (λ o h. h.fields) r.rels is.rels in (
-      omega (arith, ack.0, is.few, few_rels format, length-append (as_list r.ack) r.rels),
-      All-append (IsGood format) (as_list r.ack) r.rels ack.1 rels,
-    )
+slot_is format len (Some r) is = report_is format kinds.Ack kinds.Rel len MAX_MESSAGES r (few_rels format) is
+
+paths_is : (format len : ℕ) (slot : Option Report) → IfSome slot (Later format (IsReport format kinds.Kack kinds.Krel len))
+    → (length (slot_objects slot) ≤ 2) × All (IsGood format) (slot_objects slot)
+paths_is format len None is = (omega arith, All-nil (IsGood format))
+paths_is format len (Some r) is = report_is format kinds.Kack kinds.Krel len 1 r (omega arith) is.1
 
 epoch_is : (format len : ℕ) (o : Option Kept) → IfSome o (Later format (IsObject format kinds.Epoch len))
     → (length (as_list o) ≤ 1) × All (IsGood format) (as_list o)
@@ -121,7 +141,9 @@ contents_are format len s o is last =
     let P = IsGood format in
     let slot = slot_is format len s.slot is.slot in
     let epoch = epoch_is format len o last in
-    let ends = slot_objects s.slot ++ as_list o in
+    let paths = paths_is format len s.paths is.paths in
+    let last_ones = slot_objects s.paths ++ as_list o in
+    let ends = slot_objects s.slot ++ last_ones in
     let weights = All-weaker (IsObject format kinds.Weight len) P (λ o h. h.fields) s.weights is.weights in
     let prios = All-map P (λ m. m.1) s.prios (All-weaker (IsNumbered format len) (λ (m : ℕ × Kept). P m.1) (λ m h. h.object.fields) s.prios is.prios) in
     let rest = map (λ (m : ℕ × Kept). m.1) s.prios ++ ends in
@@ -129,17 +151,20 @@ contents_are format len s o is last =
       few = omega (
         arith,
         slot.0,
+        paths.0,
         epoch.0,
         is.few_weights,
         is.few_prios,
         length-append s.weights rest,
         length-append (map (λ (m : ℕ × Kept). m.1) s.prios) ends,
-        length-append (slot_objects s.slot) (as_list o),
+        length-append (slot_objects s.slot) last_ones,
+        length-append (slot_objects s.paths) (as_list o),
         length-map s.prios (λ (m : ℕ × Kept). m.1),
       );
       good =
           All-append P s.weights rest weights
-          (All-append P (map (λ (m : ℕ × Kept). m.1) s.prios) ends prios (All-append P (slot_objects s.slot) (as_list o) slot.1 epoch.1));
+          (All-append P (map (λ (m : ℕ × Kept). m.1) s.prios) ends prios
+          (All-append P (slot_objects s.slot) last_ones slot.1 (All-append P (slot_objects s.paths) (as_list o) paths.1 epoch.1)));
     })
 
 -- what is heeded of them

@@ -34,6 +34,7 @@ words_by_send input refusal old new (Ok step) has gave = tt
 words_by_send input refusal old new (Err sends.Memory) has gave = λ other. absurd (other refl)
 words_by_send input refusal old new (Err sends.BadEnd) has gave = λ other. has.words (replied (Refused sends.BadEnd)) new gave
 words_by_send input refusal old new (Err (sends.Full base have)) has gave = λ other. has.words (replied (Refused (sends.Full base have))) new gave
+words_by_send input refusal old new (Err (sends.Busy paths)) has gave = λ other. has.words (replied (Refused (sends.Busy paths))) new gave
 words_by_send input refusal old new (Err (sends.Expired now)) has gave = λ other. has.words (replied (Refused (sends.Expired now))) new gave
 words_by_send input refusal old new (Err (sends.NoPaths found)) has gave = λ other. has.words (replied (Refused (sends.NoPaths found))) new gave
 words_by_send input refusal old new (Err (sends.Low least)) has gave = λ other. has.words (replied (Refused (sends.Low least))) new gave
@@ -57,6 +58,7 @@ pub gave_by_send : (input : Input) (refusal : Option SendRefused) (old new : Nod
 gave_by_send input refusal old new sends.Memory entry word effects gave = absurd (cc)
 gave_by_send input refusal old new sends.BadEnd entry word effects gave = refused_gave input old new sends.BadEnd entry gave word effects
 gave_by_send input refusal old new (sends.Full base have) entry word effects gave = refused_gave input old new (sends.Full base have) entry gave word effects
+gave_by_send input refusal old new (sends.Busy paths) entry word effects gave = refused_gave input old new (sends.Busy paths) entry gave word effects
 gave_by_send input refusal old new (sends.Expired now) entry word effects gave = refused_gave input old new (sends.Expired now) entry gave word effects
 gave_by_send input refusal old new (sends.NoPaths found) entry word effects gave = refused_gave input old new (sends.NoPaths found) entry gave word effects
 gave_by_send input refusal old new (sends.Low least) entry word effects gave = refused_gave input old new (sends.Low least) entry gave word effects

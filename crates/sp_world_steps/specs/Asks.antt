@@ -2,7 +2,7 @@
 use Rattle.std.specs.Prelude.{ℕ, ◌≡◌, List, Option, None, Some}
 use Rattle.sp_journal.specs.declared.entry.Entry.{Entry}
 use Rattle.sp_rules.specs.Node.{NodeState}
-use Rattle.sp_rules.specs.Steps.{Input, Publish, SendPrio, SendRel, SetWeight, TakePrio, TakeRel, Tick}
+use Rattle.sp_rules.specs.Steps.{Input, Publish, SendKrel, SendPrio, SendRel, SetWeight, TakeKrel, TakePrio, TakeRel, Tick}
 use Rattle.sp_runs.specs.Runs.{AreFields}
 use Rattle.sp_runs.specs.Settings.{Setting}
 use Rattle.sp_schedule_events.specs.declared.event.Event.{Event}
@@ -14,7 +14,9 @@ abbrev pub asked : List ℕ → Event → Option Input
 asked document (events.Rel s d payload) = Some (SendRel d payload)
 asked document (events.Prio s d prio expiry paths payload) =
     Some (SendPrio (record { dst = d; prio = prio; expiry = expiry; paths = paths; payload = payload }))
+asked document (events.Krel s d paths payload) = Some (SendKrel (record { dst = d; paths = paths; payload = payload }))
 asked document (events.Take d s) = Some (TakeRel s)
+asked document (events.KTake d s) = Some (TakeKrel s)
 asked document (events.TakePrio d) = Some TakePrio
 asked document (events.Tick u now) = Some (Tick now)
 asked document (events.Weight u v weight) = Some (SetWeight v weight)

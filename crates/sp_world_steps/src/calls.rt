@@ -7,10 +7,10 @@ ghost use Rattle.sp_node_format.specs.Format.{format_of};
 ghost use Rattle.sp_node_format.specs.PolledFrames.{most_signature};
 ghost use Rattle.sp_node_state.specs.Sends.{Sends};
 ghost use Rattle.sp_paths.specs.declared.limits.TheConstants.{MAX_PATHS};
-ghost use Rattle.sp_rules.specs.Messages.{as_send};
+ghost use Rattle.sp_rules.specs.Messages.{as_ksend, as_send};
 ghost use Rattle.sp_rules.specs.Node.{NodeState, call_refusal};
 ghost use Rattle.sp_rules.specs.Parts.{changes};
-ghost use Rattle.sp_rules.specs.Steps.{Frame, Input, NodeStep, Poll, Publish, SendPrio, SendRel, SetWeight, TakePrio, TakeRel, Tick, replied};
+ghost use Rattle.sp_rules.specs.Steps.{Frame, Input, NodeStep, Poll, Publish, SendKrel, SendPrio, SendRel, SetWeight, TakeKrel, TakePrio, TakeRel, Tick, replied};
 ghost use Rattle.sp_node_words.specs.Words.{refused_word};
 ghost use Rattle.sp_runs.specs.Journals.{body_word, replaced_word};
 ghost use Rattle.sp_frame.specs.declared.sections.TheConstants.{MOST_OBJECTS};
@@ -21,7 +21,7 @@ use sp_journal::{Entry, Reply};
 use sp_msg::{Body, Effect, Kept, Prio, SendRefused, Why};
 use sp_node::Node;
 use sp_node_words::{quiet, refused_word, tick_word, told};
-use sp_rules::{DocumentAnswer, PrioSend, Step, Taken};
+use sp_rules::{DocumentAnswer, KSend, PrioSend, Step, Taken};
 use std::alloc::Global;
 
 /// The entry of a send.
@@ -67,6 +67,21 @@ pub fn prio(alloc: Global, node: &mut Node, message: &PrioSend<'_>) -> Result<En
     sent(alloc, done)
 }
 
+/// A client sends a reliable message on paths.
+#[tactic(auto, using(sp_node::proofs::FixedStays::fixed_by_send, crate::proofs::Stepping::memory_by_send, crate::proofs::Stepping::words_by_send))]
+pub fn krel(alloc: Global, node: &mut Node, message: &KSend<'_>) -> Result<Entry, Memory>
+    requires some { 1 ≤ message.now.paths }
+    requires few { message.now.paths ≤ MAX_PATHS }
+    requires short { length message.now.payload.now ≤ MAX_PAYLOAD_BYTES }
+    requires words { HasWords node.old.state (SendKrel (as_ksend message.now)) }
+    ensures gave { IfOk result (λ entry. Gave node.old.state (SendKrel (as_ksend message.now)) entry node.new.state) }
+    ensures as_before { OnErr result (node.new.state ≡ node.old.state) }
+    ensures fixed { node.new.state.fixed ≡ node.old.state.fixed }
+{
+    let done = node.send_krel(alloc, message);
+    sent(alloc, done)
+}
+
 /// An administrator sets the weight of a link.
 #[tactic(auto, using(sp_node::proofs::FixedStays::fixed_by_send, crate::proofs::Stepping::memory_by_send, crate::proofs::Stepping::words_by_send))]
 pub fn weight(alloc: Global, node: &mut Node, v: NodeId, weight: u32) -> Result<Entry, Memory>
@@ -88,6 +103,18 @@ pub fn take(alloc: Global, node: &mut Node, s: NodeId) -> Entry
     ensures fixed { node.new.state.fixed ≡ node.old.state.fixed }
 {
     match node.take_rel(s) {
+        Some(payload) => quiet(alloc, Reply::Payload(payload)),
+        None => quiet(alloc, Reply::Empty),
+    }
+}
+
+/// A client takes the oldest message of the flow on paths from `s`. It takes no memory.
+#[tactic(auto, using(sp_node::proofs::FixedStays::fixed_by_take_krel))]
+pub fn take_krel(alloc: Global, node: &mut Node, s: NodeId) -> Entry
+    ensures gave { Gave node.old.state (TakeKrel s) result node.new.state }
+    ensures fixed { node.new.state.fixed ≡ node.old.state.fixed }
+{
+    match node.take_krel(s) {
         Some(payload) => quiet(alloc, Reply::Payload(payload)),
         None => quiet(alloc, Reply::Empty),
     }

@@ -11,12 +11,14 @@ ghost use Rattle.sp_runs.specs.Lives.{is_short};
 ghost use Rattle.sp_world_steps.specs.Asks.{GaveAnswer, MayAsk};
 ghost use Rattle.sp_world_steps.specs.Gave.{GaveTaken};
 
-use crate::calls::{datagram, poll, prio, publish, rel, take, take_prio, tick, weight};
+use crate::calls::{
+    datagram, krel, poll, prio, publish, rel, take, take_krel, take_prio, tick, weight,
+};
 use sp_base::{Bytes, Memory, NodeId};
 use sp_journal::Entry;
 use sp_keystate::LEAST_LEFT;
 use sp_node::Node;
-use sp_rules::{PrioSend, Step, Taken};
+use sp_rules::{KSend, PrioSend, Step, Taken};
 use sp_schedule_events::Event;
 use std::alloc::Global;
 use std::marker::Model;
@@ -160,7 +162,21 @@ fn call_for(alloc: Global, node: &mut Node, event: &Event, document: &[u8]) -> R
             };
             prio(alloc, node, &message)
         }
+        Event::Krel {
+            d,
+            paths,
+            payload,
+            ..
+        } => {
+            let message = KSend {
+                dst: *d,
+                paths: *paths,
+                payload: payload.as_slice(),
+            };
+            krel(alloc, node, &message)
+        }
         Event::Take { s, .. } => Ok(take(alloc, node, *s)),
+        Event::KTake { s, .. } => Ok(take_krel(alloc, node, *s)),
         Event::TakePrio { .. } => take_prio(alloc, node),
         Event::Tick { now, .. } => tick(alloc, node, *now),
         Event::Weight {

@@ -26,7 +26,8 @@ pub fn program<S: Source + Drop, J: Source + Drop, W: Write>(
     writer: W,
 ) -> Finished<W>
     requires { IfOk said.now IsInRange }
-    ensures { Ended said.now (S.left schedule) (J.left journal) (W.contents writer) (W.contents result.writer) result.code }
+    ensures { Ended said.now (S.left schedule) (S.faults schedule) (J.left journal) (J.faults journal) (W.contents writer) (W.contents result.writer)
+        result.code }
 {
     let mut sink = StandardSink::new(writer);
     let status = run(alloc, said, &mut schedule, &mut journal, &mut sink);

@@ -4,7 +4,7 @@ ghost use Rattle.std.specs.Prelude.{⊤};
 use sp_base::{Bytes, MAX_PAYLOAD_BYTES, MAX_SEQ, NodeId};
 use sp_client::{BadEnd, Local, SendRefused};
 use sp_msg::{Body, Kept, Mask, Prio};
-use sp_rules::{Entry, PrioSend};
+use sp_rules::{Entry, KSend, PrioSend};
 use std::alloc::Global;
 
 /// A node in memory that counts the calls of its clients.
@@ -15,6 +15,8 @@ pub struct MemoryNode {
     pub now: u64,
     /// How many reliable messages went to nodes 2 and 3.
     sent: [u64; 2],
+    /// How many on paths went to them, and on how many paths the last one went.
+    on_paths: [(u64, u8); 2],
     urgent: u64,
     weights: u64,
     /// What the next take from node 3 gives.
@@ -30,6 +32,7 @@ impl MemoryNode {
             calls: 0,
             now: 0,
             sent: [0, 0],
+            on_paths: [(0, 0), (0, 0)],
             urgent: 0,
             weights: 0,
             mail: None,
@@ -87,6 +90,42 @@ impl Local for MemoryNode {
         }
         self.urgent = self.urgent.saturating_add(1);
         Ok(self.urgent)
+    }
+
+    fn send_krel(&mut self, alloc: Global, message: &KSend<'_>) -> Result<u64, SendRefused> {
+        let KSend {
+            dst,
+            paths,
+            payload,
+        } = *message;
+        if Bytes::copy(alloc, payload).is_err() {
+            return Err(SendRefused::Memory);
+        }
+        self.count();
+        if dst.0 != 2 && dst.0 != 3 {
+            return Err(SendRefused::BadEnd);
+        }
+        let place = dst.0 as usize - 2;
+        let (seq, last) = self.on_paths[place];
+        if seq >= 2 {
+            return Err(SendRefused::Full { base: 0, have: 2 });
+        }
+        if seq > 0 && last != paths {
+            return Err(SendRefused::Busy { paths: last });
+        }
+        if paths > 1 {
+            return Err(SendRefused::NoPaths { found: 1 });
+        }
+        self.on_paths[place] = (seq + 1, paths);
+        Ok(seq + 1)
+    }
+
+    fn take_krel(&mut self, src: NodeId) -> Result<Option<Bytes>, BadEnd> {
+        self.count();
+        if src.0 != 2 && src.0 != 3 {
+            return Err(BadEnd);
+        }
+        Ok(None)
     }
 
     fn take_rel(&mut self, src: NodeId) -> Result<Option<Bytes>, BadEnd> {

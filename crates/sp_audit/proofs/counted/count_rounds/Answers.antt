@@ -1,6 +1,7 @@
 use Rattle.std.proofs.Common.{◌≡◌, ◌≤◌, ◌+◌, ◌-◌, ℕ, suc, List, [], ◌++◌, arith, length, length-append, length-drop, drop, replicate, take, take-add, sym, ap}
 use Rattle.std.proofs.Common.{subst, ◌∙◌}
 use Rattle.sp_base.specs.declared.limits.TheConstants.{MAX_EVENTS}
+use Rattle.sp_rules.specs.declared.kflow.FlowKind.TheVariants.{Plain}
 use Rattle.sp_runs.specs.Rounds.{CompleteRounds, None_left}
 use Rattle.sp_schedule_events.specs.declared.event.Event.{Event}
 use Rattle.sp_audit.specs.Ends.{AreMade}
@@ -12,7 +13,7 @@ use Rattle.sp_audit.proofs.counted.count_rounds.Goals as goal
 pub returns-then-events-at-clause-counted : goal.returns-then-events-at-clause-counted
 returns-then-events-at-clause-counted c =
     let same : c.rounds.round + 0 ≡ c.rounds.round = omega arith in
-    subst (λ (n : ℕ). CompleteRounds c.args.least c.args.flow.src c.args.flow.dst c.args.path.now n (take c.args.from c.args.events.now)
+    subst (λ (n : ℕ). CompleteRounds Plain c.args.least c.args.flow.src c.args.flow.dst c.args.path.now n (take c.args.from c.args.events.now)
     (drop c.args.from c.args.events.now)) same
     (c.rounds.invariant.on 0 None_left)
 
@@ -44,7 +45,7 @@ rounds-init c =
     let none : AreMade c.none-made.result.forth c.none-made.result.back path [] =
     subst (λ (fs : List ℕ). AreMade fs c.none-made.result.back path []) (sym c.none-made.ensures.forth)
     (subst (λ (bs : List ℕ). AreMade (replicate 256 0) bs path []) (sym c.none-made.ensures.back) (none_made path)) in
-    let counted = λ (n : ℕ). CompleteRounds c.args.least c.args.flow.src c.args.flow.dst path n (take c.args.from es) (drop c.args.from es) in
+    let counted = λ (n : ℕ). CompleteRounds Plain c.args.least c.args.flow.src c.args.flow.dst path n (take c.args.from es) (drop c.args.from es) in
     record {
       there = c.requires.there;
       past = omega arith;
@@ -73,7 +74,7 @@ rounds-preserved c =
     let some = not_empty c.args.least s d c.args.path.now (take at es) (drop at es) end c.requires.some c.requires.hops c.round_end-end.ensures in
     let within : end ≤ length (drop at es) = omega (arith, long, c.if-events-at.false, c.rounds.invariant.there) in
     let next = λ (n : ℕ). step c.rounds.round n in
-    let counted = λ (n : ℕ). CompleteRounds c.args.least s d c.args.path.now n (take c.args.from es) (drop c.args.from es) in
+    let counted = λ (n : ℕ). CompleteRounds Plain c.args.least s d c.args.path.now n (take c.args.from es) (drop c.args.from es) in
     record {
       there = omega (arith, long, within, c.rounds.invariant.there);
       past = omega (arith, some, c.rounds.invariant.past);

@@ -1,18 +1,19 @@
 use Rattle.std.proofs.Common.{◌≡◌, ◌+◌, ◌-◌, ℕ, List, drop, take, sym, ap, subst, ◌∙◌}
 use Rattle.sp_base.specs.declared.id.NodeId.{NodeId}
+use Rattle.sp_rules.specs.declared.kflow.FlowKind.TheVariants.{Plain}
 use Rattle.sp_runs.specs.Rounds.{CompleteRounds}
 use Rattle.sp_schedule_events.specs.declared.event.Event.{Event}
 use Rattle.sp_audit.proofs.PathLemmas.{drop_least, first_is, last_is, take_least}
 use Rattle.sp_audit.proofs.counted.rounds.Goals as goal
 
 moved : (path : List NodeId) (n a b : ℕ) (s t d e : NodeId) (xs ys zs ws : List Event) → a ≡ b → s ≡ t → d ≡ e → xs ≡ ys → zs ≡ ws
-    → CompleteRounds a s d path n xs zs → CompleteRounds b t e path n ys ws
+    → CompleteRounds Plain a s d path n xs zs → CompleteRounds Plain b t e path n ys ws
 moved path n a b s t d e xs ys zs ws p q r u w rounds =
-    subst (λ (k : ℕ). CompleteRounds k t e path n ys ws) p
-    (subst (λ (v : NodeId). CompleteRounds a v e path n ys ws) q
-    (subst (λ (v : NodeId). CompleteRounds a s v path n ys ws) r
-    (subst (λ (vs : List Event). CompleteRounds a s d path n vs ws) u
-    (subst (CompleteRounds a s d path n xs) w rounds))))
+    subst (λ (k : ℕ). CompleteRounds Plain k t e path n ys ws) p
+    (subst (λ (v : NodeId). CompleteRounds Plain a v e path n ys ws) q
+    (subst (λ (v : NodeId). CompleteRounds Plain a s v path n ys ws) r
+    (subst (λ (vs : List Event). CompleteRounds Plain a s d path n vs ws) u
+    (subst (CompleteRounds Plain a s d path n xs) w rounds))))
 
 pub returns-clause-counted : goal.returns-clause-counted
 returns-clause-counted c =

@@ -8,7 +8,7 @@ use Rattle.sp_audit.proofs.messages.agreed.Goals as goal
 
 pub effects-preserved : goal.effects-preserved
 effects-preserved c =
-    let tells = delivered_by c.args.s in
+    let tells = delivered_by c.args.kind c.args.s in
     let effects = c.args.effects.now in
     let e = c.index-effects-place.result in
     subst (λ (xs : List Message). Agrees c.args.sent.now c.args.count xs c.in-Some.more)
@@ -18,7 +18,7 @@ effects-preserved c =
 
 pub returns-in-None-clause-differs : goal.returns-in-None-clause-differs
 returns-in-None-clause-differs c =
-    let tells = delivered_by c.args.s in
+    let tells = delivered_by c.args.kind c.args.s in
     let effects = c.args.effects.now in
     let e = c.index-effects-place.result in
     subst (Differs c.args.sent.now c.args.count) (sym (flat_parts tells effects c.effects.place e c.effects-test.true c.index-effects-place.is))

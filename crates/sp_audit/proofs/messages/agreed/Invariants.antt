@@ -5,4 +5,4 @@ use Rattle.sp_runs.specs.Told.{delivered_by}
 use Rattle.sp_audit.proofs.messages.agreed.Given as goal
 
 abbrev pub invariant-effects : goal.invariant-effects
-invariant-effects l = Agrees l.sent l.count (flat_map (delivered_by l.s) (take l.place l.effects)) l.delivered
+invariant-effects l = Agrees l.sent l.count (flat_map (delivered_by l.kind l.s) (take l.place l.effects)) l.delivered

@@ -7,7 +7,7 @@ use Rattle.sp_rules.specs.Parts.{Parts, place_of}
 use Rattle.sp_rules.specs.Polls.{as_message}
 use Rattle.sp_rules.specs.Prio.{next_prios}
 use Rattle.sp_rules.specs.Weights.{next}
-use Rattle.sp_node.proofs.Written.{writable_all, writable_later, writable_one, writable_slot}
+use Rattle.sp_node.proofs.Written.{writable_all, writable_later, writable_one, writable_paths, writable_slot}
 use Rattle.sp_node.proofs.poll.in_turn.Goals as goal
 
 pub write-requires : goal.write-requires
@@ -19,7 +19,7 @@ write-requires c =
       prio_ack = c.heard_of.result;
       prios = c.messages_for.result;
       slot = c.slot_for.result;
-      paths = None;
+      paths = c.paths_for.result;
       probe = None;
       epoch = c.next-epoch.result;
     } in
@@ -31,8 +31,8 @@ write-requires c =
           c.requires.contents.weights;
       prios = writable_all format c.messages_for.result _ len
           (c.messages_for.ensures ∙ ap (λ (p : Parts). map as_message (next_prios p.prio c.args.v.0)) c.core.view_is) c.requires.contents.prios;
-      slot = writable_slot format c.slot_for.result _ len c.slot_for.ensures c.requires.contents.slot;
-      paths = tt;
+      slot = writable_slot format kinds.Ack kinds.Rel c.slot_for.result _ len c.slot_for.ensures c.requires.contents.slot;
+      paths = writable_paths format c.paths_for.result _ len c.paths_for.ensures c.requires.contents.paths;
       epoch = writable_later format c.next-epoch.result _ kinds.Epoch len
           (c.next-epoch.ensures
           ∙ ap (λ (k : ℕ). lives.next c.core.inside.lives c.core.inside.origins k) c.place_of-at.ensures

@@ -1,13 +1,8 @@
-use Rattle.std.proofs.Common.{◌∙◌, sym, ap}
-use Rattle.sp_rules.specs.Node.{NodeState}
-use Rattle.sp_rules.specs.Ticks.{due_now}
-use Rattle.sp_node.proofs.Kept.{due_fields, due_mine}
+use Rattle.sp_rules.specs.declared.kflow.FlowKind.TheVariants as kinds
 use Rattle.sp_node.proofs.tick.owed.Goals as goal
 
-pub blank-requires-clause-mine : goal.blank-requires-clause-mine
-blank-requires-clause-mine c =
-    due_mine c.args.state.now c.in-Some.ack c.requires (ap (λ (n : NodeState). due_now n) (sym c.state.view_is) ∙ sym c.due_of.ensures ∙ c.in-Some.is)
+pub returns-in_err-plain-clause-none : goal.returns-in_err-plain-clause-none
+returns-in_err-plain-clause-none c = λ none. let no = c.in_err-plain.ensures.none (none kinds.Plain) in absurd (cc)
 
-pub blank-requires-clause-fields : goal.blank-requires-clause-fields
-blank-requires-clause-fields c =
-    due_fields c.args.state.now c.in-Some.ack c.requires (ap (λ (n : NodeState). due_now n) (sym c.state.view_is) ∙ sym c.due_of.ensures ∙ c.in-Some.is)
+pub returns-in_err-paths-clause-none : goal.returns-in_err-paths-clause-none
+returns-in_err-paths-clause-none c = λ none. let no = c.in_err-paths.ensures.none (none kinds.Paths) in absurd (cc)

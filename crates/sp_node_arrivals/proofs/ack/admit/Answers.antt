@@ -13,5 +13,6 @@ pub returns-in-Some-clause-done : goal.returns-in-Some-clause-done
 returns-in-Some-clause-done c told =
     let arts = format_of c.args.at.now.fixed.now in
     let at = as_arrival c.args.at.now in
-    subst (λ (o : Option ObjectRef). IsDone (handle_all arts at c.args.parts.now (map (AckPiece c.args.row.flow) (as_list (option_map as_object o))))
+    subst (λ (o : Option ObjectRef).
+    IsDone (handle_all arts at c.args.parts.now (map (AckPiece c.args.row.kind c.args.row.place.flow) (as_list (option_map as_object o))))
     c.admit_one.new.parts (c.admit_one.result ∷ []) told told) (sym c.in-Some.is) (c.admit_one.ensures.done told)

@@ -13,12 +13,12 @@ tell_end-requires c =
       arith,
       c.requires,
       ap (λ o. o.room) c.rows.invariant,
-      length-flat_map-take (ended_row c.args.fate.now) c.args.rows.now c.rows.row-index row (omega arith),
-      ap (λ (r : RowState). length (ended_row c.args.fate.now r)) c.row-item.is,
+      length-flat_map-take (ended_row c.args.kind c.args.fate.now) c.args.rows.now c.rows.row-index row (omega arith),
+      ap (λ (r : RowState). length (ended_row c.args.kind c.args.fate.now r)) c.row-item.is,
     )
 
 pub rows-preserved : goal.rows-preserved
 rows-preserved c =
     let row = c.row-item.result in
-    told_more (ended_row c.args.fate.now) c.args.effects.now c.rows.effects c.tell_end.new.effects c.args.rows.now c.rows.row-index row (omega arith)
-    c.rows.invariant (c.tell_end.ensures ∙ ap (λ (r : RowState). told c.rows.effects (ended_row c.args.fate.now r)) c.row-item.is)
+    told_more (ended_row c.args.kind c.args.fate.now) c.args.effects.now c.rows.effects c.tell_end.new.effects c.args.rows.now c.rows.row-index row (omega arith)
+    c.rows.invariant (c.tell_end.ensures ∙ ap (λ (r : RowState). told c.rows.effects (ended_row c.args.kind c.args.fate.now r)) c.row-item.is)

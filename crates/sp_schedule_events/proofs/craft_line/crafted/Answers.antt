@@ -25,5 +25,6 @@ returns c =
     subst (Reads c.object.result)
     (sym (crafted c.args.line.now.scenario.now c.args.line.now.before.now c.args.c.now c.args.v.now c.args.key.now c.args.name.now
     (map (λ w. w.now) c.args.fields.now) c.in-Some.form
-    (sym c.named.ensures ∙ c.if-named.false) (rw (length-map c.args.fields.now (λ w. w.now)) (sym c.object_form.ensures ∙ c.in-Some.is))))
+    (sym c.named.ensures ∙ c.if-named.false) (sym c.named-2.ensures ∙ c.if-named-2.false)
+    (rw (length-map c.args.fields.now (λ w. w.now)) (sym c.object_form.ensures ∙ c.in-Some.is))))
     c.object.ensures

@@ -3,7 +3,7 @@ use Rattle.sp_lines.specs.Answers.{Reads}
 use Rattle.sp_schedule_events.specs.EventLines.{read_event, read_for}
 use Rattle.sp_schedule_events.specs.Table.{Form}
 use Rattle.sp_schedule_events.specs.declared.line_of.LineName.TheVariants as lines
-use Rattle.sp_schedule_events.proofs.NameLemmas.{handed, is_named, read_named, started, stopped, unnamed}
+use Rattle.sp_schedule_events.proofs.NameLemmas.{is_named, read_named, unnamed}
 use Rattle.sp_schedule_events.proofs.lines.event_named.Goals as goal
 
 pub returns-in-Rel : goal.returns-in-Rel
@@ -63,22 +63,28 @@ returns-in-Craft c =
 
 pub returns-in-Start : goal.returns-in-Start
 returns-in-Start c =
-    subst (λ (x : List ℕ). Reads c.start.result (read_event c.args.line.now.scenario.now c.args.line.now.before.now (x ∷ map (λ w. w.now) c.args.words.now)))
-    (sym (is_named c.args.name.now lines.Start (sym c.line_named.ensures ∙ c.in-Some.is ∙ ap Some c.in-Start.is)))
-    (subst (Reads c.start.result) (sym (started c.args.line.now.scenario.now c.args.line.now.before.now (map (λ w. w.now) c.args.words.now))) c.start.ensures)
+    read_named c.args.line.now.scenario.now c.args.line.now.before.now lines.Start c.args.name.now (map (λ w. w.now) c.args.words.now) c.start.result refl
+    (sym c.line_named.ensures ∙ c.in-Some.is ∙ ap Some c.in-Start.is) c.start.ensures
 
 pub returns-in-Stop : goal.returns-in-Stop
 returns-in-Stop c =
-    subst (λ (x : List ℕ). Reads c.stop.result (read_event c.args.line.now.scenario.now c.args.line.now.before.now (x ∷ map (λ w. w.now) c.args.words.now)))
-    (sym (is_named c.args.name.now lines.Stop (sym c.line_named.ensures ∙ c.in-Some.is ∙ ap Some c.in-Stop.is)))
-    (subst (Reads c.stop.result) (sym (stopped c.args.line.now.scenario.now c.args.line.now.before.now (map (λ w. w.now) c.args.words.now))) c.stop.ensures)
+    read_named c.args.line.now.scenario.now c.args.line.now.before.now lines.Stop c.args.name.now (map (λ w. w.now) c.args.words.now) c.stop.result refl
+    (sym c.line_named.ensures ∙ c.in-Some.is ∙ ap Some c.in-Stop.is) c.stop.ensures
 
 pub returns-in-Publish : goal.returns-in-Publish
 returns-in-Publish c =
-    subst (λ (x : List ℕ). Reads c.publish.result (read_event c.args.line.now.scenario.now c.args.line.now.before.now (x ∷ map (λ w. w.now) c.args.words.now)))
-    (sym (is_named c.args.name.now lines.Publish (sym c.line_named.ensures ∙ c.in-Some.is ∙ ap Some c.in-Publish.is)))
-    (subst (Reads c.publish.result) (sym (handed c.args.line.now.scenario.now c.args.line.now.before.now (map (λ w. w.now) c.args.words.now)))
-    c.publish.ensures)
+    read_named c.args.line.now.scenario.now c.args.line.now.before.now lines.Publish c.args.name.now (map (λ w. w.now) c.args.words.now) c.publish.result refl
+    (sym c.line_named.ensures ∙ c.in-Some.is ∙ ap Some c.in-Publish.is) c.publish.ensures
+
+pub returns-in-Krel : goal.returns-in-Krel
+returns-in-Krel c =
+    read_named c.args.line.now.scenario.now c.args.line.now.before.now lines.Krel c.args.name.now (map (λ w. w.now) c.args.words.now) c.krel.result refl
+    (sym c.line_named.ensures ∙ c.in-Some.is ∙ ap Some c.in-Krel.is) c.krel.ensures
+
+pub returns-in-KTake : goal.returns-in-KTake
+returns-in-KTake c =
+    read_named c.args.line.now.scenario.now c.args.line.now.before.now lines.KTake c.args.name.now (map (λ w. w.now) c.args.words.now) c.ktake.result refl
+    (sym c.line_named.ensures ∙ c.in-Some.is ∙ ap Some c.in-KTake.is) c.ktake.ensures
 
 pub returns-in_default : goal.returns-in_default
 returns-in_default c =

@@ -12,8 +12,8 @@ returns-clause-done g c =
 
 pub returns-clause-held : goal.returns-clause-held
 returns-clause-held g c =
-    held_on _ _ _ _
-    (held_on _ _ _ _ (held_on _ _ _ _ (held_on _ _ _ _ c.in_ok-restock.ensures.held c.in_ok-tick.ensures.uses) c.in_ok-overlay_lost.ensures.uses)
+    held_on _ _ _ _ _
+    (held_on _ _ _ _ _ (held_on _ _ _ _ _ (held_on _ _ _ _ _ c.in_ok-restock.ensures.held c.in_ok-tick.ensures.uses) c.in_ok-overlay_lost.ensures.uses)
     c.in_ok-client_lost.ensures.uses) c.in_ok-poll_lost.ensures.uses
 
 pub returns-in_err-restock-clause-early : goal.returns-in_err-restock-clause-early

@@ -13,8 +13,8 @@ pub tell_ended-requires : goal.tell_ended-requires
 tell_ended-requires c =
     let fate = c.args.fate.now in
     subst (λ (es : List Effect). length es ≤ c.args.effects.now.room)
-    (ap (λ (t : FlowsState). flat_map (end_of fate) t.flows) (sym c.self.view_is) ∙ ended_of_rows fate c.self.inside.rows.items
-    ∙ ap (flat_map (ended_row fate)) (sym c.as_slice.ensures.value)) c.requires
+    (ap (λ (t : FlowsState). flat_map (end_of c.args.kind fate) t.flows) (sym c.self.view_is) ∙ ended_of_rows c.args.kind fate c.self.inside.rows.items
+    ∙ ap (flat_map (ended_row c.args.kind fate)) (sym c.as_slice.ensures.value)) c.requires
 
 pub invariant_of-self : goal.invariant_of-self
 invariant_of-self c = c.meet_rows.ensures.sound c.self.inside.me c.self.inside.bound c.self.invariant
@@ -30,6 +30,6 @@ returns-clause-flows c =
 pub returns-clause-told : goal.returns-clause-told
 returns-clause-told c =
     let fate = c.args.fate.now in
-    c.tell_ended.ensures ∙ ap (λ (rows : List RowState). told c.args.effects.now (flat_map (ended_row fate) rows)) c.as_slice.ensures.value
-    ∙ ap (told c.args.effects.now) (sym (ended_of_rows fate c.self.inside.rows.items))
-    ∙ ap (λ (t : FlowsState). told c.args.effects.now (flat_map (end_of fate) t.flows)) c.self.view_is
+    c.tell_ended.ensures ∙ ap (λ (rows : List RowState). told c.args.effects.now (flat_map (ended_row c.args.kind fate) rows)) c.as_slice.ensures.value
+    ∙ ap (told c.args.effects.now) (sym (ended_of_rows c.args.kind fate c.self.inside.rows.items))
+    ∙ ap (λ (t : FlowsState). told c.args.effects.now (flat_map (end_of c.args.kind fate) t.flows)) c.self.view_is

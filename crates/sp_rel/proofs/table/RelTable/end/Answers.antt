@@ -9,7 +9,7 @@ use Rattle.sp_rel.proofs.table.RelTable.end.Goals as goal
 
 pub meet-requires : goal.meet-requires
 meet-requires c =
-    let few = few_end (fates.Removed c.args.removed) c.self.inside.flows.flows in
+    let few = few_end c.args.kind (fates.Removed c.args.removed) c.self.inside.flows.flows in
     let view = ap (λ (r : RelState). count_by (λ f. f.active) r.flows) c.self.view_is in
     omega (arith, few, view, c.requires.room)
 
